@@ -1,0 +1,197 @@
+-- A pattern taken apart, and the fused multiply-add of three of them. Assumes nothing.
+use mathlib.Core.Path.{_≡_, refl, sym, ap, ap₂, _∙_, subst}
+use mathlib.Core.Logic.{_⊎_, inl, inr}
+use mathlib.Core.Bool.{Bool, true, false, not, cond}
+use Prim.Native.Nat.{ℕ, zero, suc, _+_, _-_, _*_, _/_, _%_, _^_, _≤_, _<_, zero-le}
+use native.Mathlib.Nat.{le-of-eq, le-of-lt, le-trans, lt-of-lt-of-le, lt-of-le-of-lt, lt-of-not-le, not-le-of-lt, lt-irrefl, zero-lt-suc, le-add-right, add-comm, mul-one, mul-comm, mul-assoc, mul-left-comm, mul-right-comm, mul-le-mul, mul-le-mul-left, mul-le-mul-right, mul-lt-mul-of-pos-right, lt-of-mul-lt-mul-right, le-of-mul-le-mul-right, mod-lt, mod-eq-of-lt, mul-mod-left, div-lt-iff-lt-mul, div-add-mod'}
+use native.Mathlib.Omega.{arith}
+use lib.Dec.{T, leb, eqb, eqb→eq, not-T, lit<, lit≤}
+use lib.Pow.{pow-add, pow-pos, pow-mono, mod-mod-pow}
+use lib.Count.{leadingZeros, leading-top, leading-le}
+use lib.Ieee.{Float, nan, inf, fin, binary64, low, unlike, odd, ofFields, ofBits, sum}
+use lib.Ieee.Bits.{cond-no}
+use lib.Ieee.Exact.{HasValue, odd-sign}
+use Rattle.float.specs.FusedMultiplyAdd.{times, fusedMultiplyAdd}
+use Rattle.float.specs.Split.{Plain, Split}
+use Rattle.float.specs.Wide.{Ready, summing}
+use Rattle.float.proofs.Words.{zeros-lt, zeros-top}
+use Rattle.float.proofs.Value.{value-scale, value-is, times-value, fma-value}
+
+ofBits-is : (b : ℕ) → ofBits binary64 b ≡ ofFields binary64 (leb (2 ^ 63) b) (b % 2 ^ 63 / 2 ^ 52) (b % 2 ^ 52)
+unfolding ofBits
+ofBits-is b = refl
+
+-- ---- a subnormal's digits are shifted up
+module _ (t : ℕ) (some : 0 < t) (small : t < 2 ^ 52) where
+  word : t < 2 ^ 64
+  word = lt-of-lt-of-le small (lit≤ tt)
+
+  pub zeros-ge : 11 ≤ leadingZeros 64 t
+  zeros-ge = let p = leading-top 64 t some word in go (leadingZeros 64 t) (p .0) (p .1) (lt-of-not-le (λ (g : 52 ≤ p .0). not-le-of-lt small (le-trans (pow-mono g) (p .2))))
+    where
+      go : (l j : ℕ) → l + suc j ≡ 64 → j < 52 → 11 ≤ l
+      go l j e h = omega arith
+
+  pub zeros-le : leadingZeros 64 t - 11 ≤ 52
+  zeros-le = go (leadingZeros 64 t) (zeros-lt t some word)
+    where
+      go : (l : ℕ) → l < 64 → l - 11 ≤ 52
+      go l h = omega arith
+
+  -- shifted by 11 less than its leading zeros it has 53 digits
+  eleven : t * 2 ^ (leadingZeros 64 t - 11) * 2 ^ 11 ≡ t * 2 ^ leadingZeros 64 t
+  eleven = mul-assoc t (2 ^ (leadingZeros 64 t - 11)) (2 ^ 11) ∙ ap (λ (z : ℕ). t * z) (sym (pow-add 2 (leadingZeros 64 t - 11) 11) ∙ ap (λ (z : ℕ). 2 ^ z) (go (leadingZeros 64 t) zeros-ge))
+    where
+      go : (l : ℕ) → 11 ≤ l → l - 11 + 11 ≡ l
+      go l h = omega arith
+
+  pub up-least : 2 ^ 52 ≤ t * 2 ^ (leadingZeros 64 t - 11)
+  up-least = le-of-mul-le-mul-right (le-trans (zeros-top t some word .0) (le-of-eq (sym eleven))) (pow-pos 11)
+
+  pub up-most : t * 2 ^ (leadingZeros 64 t - 11) < 2 ^ 53
+  up-most = lt-of-mul-lt-mul-right (2 ^ 11) (lt-of-le-of-lt (le-of-eq eleven) (zeros-top t some word .1))
+
+  pub up-word : (t * 2 ^ (leadingZeros 64 t - 11)) % 2 ^ 64 ≡ t * 2 ^ (leadingZeros 64 t - 11)
+  up-word = mod-eq-of-lt (lt-of-lt-of-le up-most (lit≤ tt))
+
+-- ---- the value, in units of 2 ^ -1126
+up-52 : (x : Float) (s : Bool) (a b : ℕ) → a * 2 ^ 52 ≡ b → HasValue x s a (2 ^ 1074) → HasValue x s b (2 ^ 1126)
+up-52 x s a b e h = value-is x s (a * 2 ^ 52) b (2 ^ 1074 * 2 ^ 52) (2 ^ 1126) e (sym (pow-add 2 1074 52)) (value-scale x s a (2 ^ 1074) (2 ^ 52) h)
+
+low-value : (s : Bool) (t l : ℕ) → l ≤ 52 → HasValue (ofFields binary64 s 0 t) s (t * 2 ^ l * 2 ^ (52 - l)) (2 ^ 1126)
+unfolding ofFields
+low-value s t l h =
+    up-52 (odd 53 s t 0 1074) s (t * 2 ^ 0) (t * 2 ^ l * 2 ^ (52 - l))
+    (ap (λ (z : ℕ). z * 2 ^ 52) (mul-one t) ∙ ap (λ (z : ℕ). t * z) (sym (sym (pow-add 2 l (52 - l)) ∙ ap (λ (z : ℕ). 2 ^ z) (fill l h))) ∙ sym (mul-assoc t (2 ^ l) (2 ^ (52 - l))))
+    (odd-sign 53 s t 0 1074)
+  where
+    fill : (l : ℕ) → l ≤ 52 → l + (52 - l) ≡ 52
+    fill l h = omega arith
+
+high-value : (s : Bool) (x t : ℕ) → suc x < 2047 → HasValue (ofFields binary64 s (suc x) t) s ((2 ^ 52 + t) * 2 ^ (suc x + 51)) (2 ^ 1126)
+unfolding ofFields
+high-value s x t h =
+    subst (λ (v : Float). HasValue v s ((2 ^ 52 + t) * 2 ^ (suc x + 51)) (2 ^ 1126))
+    (sym (cond-no (eqb (suc x) 2047) (cond (eqb t 0) (inf s) nan) (odd 53 s (2 ^ 52 + t) x 1074) (not-T (eqb (suc x) 2047) (λ u. no x h (eqb→eq (suc x) 2047 u)))))
+    (up-52 (odd 53 s (2 ^ 52 + t) x 1074) s ((2 ^ 52 + t) * 2 ^ x) ((2 ^ 52 + t) * 2 ^ (suc x + 51))
+    (mul-assoc (2 ^ 52 + t) (2 ^ x) (2 ^ 52) ∙ ap (λ (z : ℕ). (2 ^ 52 + t) * z) (sym (pow-add 2 x 52) ∙ ap (λ (z : ℕ). 2 ^ z) (same x)))
+    (odd-sign 53 s (2 ^ 52 + t) x 1074))
+  where
+    no : (x : ℕ) → suc x < 2047 → suc x ≡ 2047 → ⊥
+    no x h e = omega arith
+
+    same : (x : ℕ) → x + 52 ≡ suc x + 51
+    same x = omega arith
+
+-- ---- `parts`
+module _ (b : ℕ) (P : Plain b) where
+  field-lt : b % 2 ^ 63 / 2 ^ 52 < 2047
+  field-lt = div-lt-iff-lt-mul (pow-pos 52) .1 (P .finite)
+
+  pub t-pos : b % 2 ^ 63 / 2 ^ 52 ≡ 0 → 0 < b % 2 ^ 52
+  t-pos e = go (b % 2 ^ 63) (b % 2 ^ 63 / 2 ^ 52) (b % 2 ^ 63 % 2 ^ 52) (b % 2 ^ 52) (div-add-mod' (b % 2 ^ 63) (2 ^ 52)) e (mod-mod-pow b 11 52) (P .some)
+    where
+      go : (n q r t : ℕ) → q * 2 ^ 52 + r ≡ n → q ≡ 0 → r ≡ t → 0 < n → 0 < t
+      go n q r t a e c d = omega arith
+
+  pub parts-low : b % 2 ^ 63 / 2 ^ 52 ≡ 0 → Split (ofBits binary64 b) (leb (2 ^ 63) b) ((b % 2 ^ 52 * 2 ^ (leadingZeros 64 (b % 2 ^ 52) - 11)) % 2 ^ 64) (52 - (leadingZeros 64 (b % 2 ^ 52) - 11))
+  parts-low e =
+      let t = b % 2 ^ 52 in
+      let l = leadingZeros 64 t - 11 in
+      let T = mod-lt b (pow-pos 52) in
+      let p = t-pos e in
+      subst (λ (m : ℕ). Split (ofBits binary64 b) (leb (2 ^ 63) b) m (52 - l)) (sym (up-word t p T))
+      (record {
+        value = subst (λ (v : Float). HasValue v (leb (2 ^ 63) b) (t * 2 ^ l * 2 ^ (52 - l)) (2 ^ 1126)) (sym (ofBits-is b ∙ ap (λ (x : ℕ). ofFields binary64 (leb (2 ^ 63) b) x t) e)) (low-value (leb (2 ^ 63) b) t l (zeros-le t p T));
+        least = up-least t p T;
+        most = up-most t p T;
+        low = go l;
+      })
+    where
+      go : (l : ℕ) → 52 - l < 2098
+      go l = omega arith
+
+  pub parts-high : (b % 2 ^ 63 / 2 ^ 52 ≡ 0 → ⊥) → Split (ofBits binary64 b) (leb (2 ^ 63) b) (2 ^ 52 + b % 2 ^ 52) (b % 2 ^ 63 / 2 ^ 52 + 51)
+  parts-high n = record {
+    value = subst (λ (v : Float). HasValue v (leb (2 ^ 63) b) ((2 ^ 52 + b % 2 ^ 52) * 2 ^ (b % 2 ^ 63 / 2 ^ 52 + 51)) (2 ^ 1126)) (sym (ofBits-is b)) (at (b % 2 ^ 63 / 2 ^ 52) n field-lt);
+    least = le-add-right (2 ^ 52) (b % 2 ^ 52);
+    most = two (b % 2 ^ 52) (mod-lt b (pow-pos 52));
+    low = go (b % 2 ^ 63 / 2 ^ 52) field-lt;
+  }
+    where
+      two : (t : ℕ) → t < 2 ^ 52 → 2 ^ 52 + t < 2 ^ 53
+      two t h = omega arith
+
+      go : (x : ℕ) → x < 2047 → x + 51 < 2098
+      go x h = omega arith
+
+      at : (x : ℕ) → (x ≡ 0 → ⊥) → x < 2047 → HasValue (ofFields binary64 (leb (2 ^ 63) b) x (b % 2 ^ 52)) (leb (2 ^ 63) b) ((2 ^ 52 + b % 2 ^ 52) * 2 ^ (x + 51)) (2 ^ 1126)
+      at zero n h = absurd (n refl)
+      at (suc x) n h = high-value (leb (2 ^ 63) b) x (b % 2 ^ 52) h
+
+-- ---- the words
+pub ready-product : (m n : ℕ) → 2 ^ 52 ≤ m → m < 2 ^ 53 → 2 ^ 52 ≤ n → n < 2 ^ 53 → Ready (m * 1024 * (n * 1024))
+ready-product m n a b c d = record {
+  least = le-trans (lit≤ tt) (le-trans (mul-le-mul-left (2 ^ 62) (up n c)) (mul-le-mul-right (n * 1024) (up m a)));
+  most = lt-of-le-of-lt (mul-le-mul-left (m * 1024) (le-of-lt (over n d))) (mul-lt-mul-of-pos-right (over m b) (pow-pos 63));
+  zeros = ap (λ (z : ℕ). z % 2 ^ 20) (twenty m n) ∙ mul-mod-left (m * n) (2 ^ 20);
+}
+  where
+    up : (m : ℕ) → 2 ^ 52 ≤ m → 2 ^ 62 ≤ m * 1024
+    up m h = omega arith
+
+    over : (m : ℕ) → m < 2 ^ 53 → m * 1024 < 2 ^ 63
+    over m h = omega arith
+
+    twenty : (m n : ℕ) → m * 1024 * (n * 1024) ≡ m * n * 2 ^ 20
+    twenty m n = mul-assoc m 1024 (n * 1024) ∙ ap (λ (z : ℕ). m * z) (mul-left-comm 1024 n 1024) ∙ sym (mul-assoc m n (2 ^ 20))
+
+pub ready-sum : (m : ℕ) → 2 ^ 52 ≤ m → m < 2 ^ 53 → Ready (m * 512 * 2 ^ 64)
+ready-sum m a b = record {
+  least = le-trans (lit≤ tt) (mul-le-mul-right (2 ^ 64) (up m a));
+  most = mul-lt-mul-of-pos-right (over m b) (pow-pos 64);
+  zeros = ap (λ (z : ℕ). z % 2 ^ 20) (mul-assoc m 512 (2 ^ 64) ∙ sym (mul-assoc m (2 ^ 53) (2 ^ 20))) ∙ mul-mod-left (m * 2 ^ 53) (2 ^ 20);
+}
+  where
+    up : (m : ℕ) → 2 ^ 52 ≤ m → 2 ^ 61 ≤ m * 512
+    up m h = omega arith
+
+    over : (m : ℕ) → m < 2 ^ 53 → m * 512 < 2 ^ 62
+    over m h = omega arith
+
+-- ---- the whole: over 2 ^ 2272 the exact product and the third number are what `meet` adds
+product-value : (x y : Float) (s t : Bool) (m e n d : ℕ) → Split x s m e → Split y t n d → HasValue (times x y) (unlike s t) (m * 1024 * (n * 1024) * 2 ^ (e + d)) (2 ^ 2272)
+product-value x y s t m e n d X Y =
+    value-is (times x y) (unlike s t) (m * 2 ^ e * (n * 2 ^ d) * 2 ^ 20) (m * 1024 * (n * 1024) * 2 ^ (e + d)) (2 ^ 1126 * 2 ^ 1126 * 2 ^ 20) (2 ^ 2272)
+    (group m (2 ^ e) n (2 ^ d) ∙ ap (λ (z : ℕ). m * 1024 * (n * 1024) * z) (sym (pow-add 2 e d)))
+    (ap (λ (z : ℕ). z * 2 ^ 20) (sym (pow-add 2 1126 1126)) ∙ sym (pow-add 2 2252 20))
+    (value-scale (times x y) (unlike s t) (m * 2 ^ e * (n * 2 ^ d)) (2 ^ 1126 * 2 ^ 1126) (2 ^ 20) (times-value x y s t (m * 2 ^ e) (n * 2 ^ d) (2 ^ 1126) (2 ^ 1126) (X .value) (Y .value)))
+  where
+    sort : (m a n b k : ℕ) → m * a * (n * b) * (k * k) ≡ m * k * (n * k) * (a * b)
+    sort m a n b k = simp (mul-assoc, mul-comm, mul-left-comm)
+
+    group : (m a n b : ℕ) → m * a * (n * b) * 2 ^ 20 ≡ m * 1024 * (n * 1024) * (a * b)
+    group m a n b = sort m a n b 1024
+
+third-value : (z : Float) (s : Bool) (m e : ℕ) → Split z s m e → HasValue z s (m * 512 * 2 ^ 64 * 2 ^ (e + 1073)) (2 ^ 2272)
+third-value z s m e Z =
+    value-is z s (m * 2 ^ e * 2 ^ 1146) (m * 512 * 2 ^ 64 * 2 ^ (e + 1073)) (2 ^ 1126 * 2 ^ 1146) (2 ^ 2272)
+    (mul-assoc m (2 ^ e) (2 ^ 1146)
+    ∙ ap (λ (x : ℕ). m * x) (sym (pow-add 2 e 1146) ∙ ap (λ (x : ℕ). 2 ^ x) (same e) ∙ pow-add 2 73 (e + 1073))
+    ∙ sym (mul-assoc m (2 ^ 73) (2 ^ (e + 1073)))
+    ∙ ap (λ (x : ℕ). x * 2 ^ (e + 1073)) (sym (mul-assoc m 512 (2 ^ 64))))
+    (sym (pow-add 2 1126 1146))
+    (value-scale z s (m * 2 ^ e) (2 ^ 1126) (2 ^ 1146) (Z .value))
+  where
+    same : (e : ℕ) → e + 1146 ≡ 73 + (e + 1073)
+    same e = omega arith
+
+summing-is : (g : ℕ) (s : Bool) (a : ℕ) (t : Bool) (b : ℕ) → summing g s a t b ≡ sum binary64 s a t b (2 ^ (low binary64 + g))
+unfolding summing
+summing-is g s a t b = refl
+
+pub fused-law : (x y z : Float) (s t r : Bool) (m e n d o k : ℕ) → Split x s m e → Split y t n d → Split z r o k
+    → summing 1198 (unlike s t) (m * 1024 * (n * 1024) * 2 ^ (e + d)) r (o * 512 * 2 ^ 64 * 2 ^ (k + 1073)) ≡ fusedMultiplyAdd binary64 x y z
+fused-law x y z s t r m e n d o k X Y Z =
+    summing-is 1198 (unlike s t) (m * 1024 * (n * 1024) * 2 ^ (e + d)) r (o * 512 * 2 ^ 64 * 2 ^ (k + 1073))
+    ∙ sym (fma-value binary64 x y z (unlike s t) r (m * 1024 * (n * 1024) * 2 ^ (e + d)) (o * 512 * 2 ^ 64 * 2 ^ (k + 1073)) (2 ^ 2272) (pow-pos 2272) (product-value x y s t m e n d X Y) (third-value z r o k Z))

@@ -1,0 +1,140 @@
+-- The sum and the difference of two numbers, by numbers that stand for them. Assumes nothing.
+use mathlib.Core.Path.{_≡_, refl, sym, ap, ap₂, _∙_, subst}
+use mathlib.Core.Logic.{_⊎_, inl, inr}
+use mathlib.Core.Bool.{Bool, true, false, not, _&&_, Bool·beq, cond}
+use Prim.Native.Nat.{ℕ, zero, suc, _+_, _-_, _*_, _/_, _%_, _^_, _≤_, _<_, zero-le, compare, Ordering, Ordering·lt}
+use native.Mathlib.Nat.{le-of-eq, le-of-lt, le-trans, lt-irrefl, add-comm, add-mul, mul-comm, mul-sub, mul-lt-mul-of-pos-right, zero-mul, zero-div, pow-suc}
+use native.Mathlib.Omega.{arith}
+use lib.Dec.{T, ltb, lit<, lit≤}
+use lib.Pow.{pow-add, pow-pos}
+use borrow.Author.Tests.{lt-ltb, le-ltb}
+use lib.Ieee.{binary64, low, size, sum, round, units, toBits}
+use lib.Ieee.Nearest.{closest}
+use Rattle.float.specs.Jam.{Jam, rounding}
+use Rattle.float.specs.Wide.{Stands, Far, Framed, summing}
+use Rattle.float.proofs.Stand.{jam-add, jam-sub}
+use Rattle.float.proofs.Rounding.{round-cut}
+use Rattle.float.proofs.Halves.{near-lt}
+use Rattle.float.proofs.Patterns.{pattern-law}
+
+pub framed-swap : (a p b c t : ℕ) → Framed a p b c t → Framed b c a p t
+framed-swap a p b c t (inl x) = inl (x .1, x .0)
+framed-swap a p b c t (inr (inl f)) = inr (inr f)
+framed-swap a p b c t (inr (inr f)) = inr (inl f)
+
+module _ (a p b c t : ℕ) (T₀ : 0 < t) where
+  far-sum : Far a p b c t → Stands (a + b) (p + c) t
+  far-sum f =
+      inr (big p c (f .far), subst (λ (z : ℕ). Jam (z + b) (p + c) t) (sym (f .exact ∙ ap (λ (z : ℕ). z * t) (f .even))) (subst (λ (z : ℕ). Jam (2 * f .half * t + b) (z + c) t) (sym (f .even)) (jam-add b c t (f .half) T₀ (f .stands))))
+    where
+      big : (p c : ℕ) → c + 2 ^ 64 ≤ p → 2 ^ 64 ≤ p + c
+      big p c h = omega arith
+
+  pub far-under : Far a p b c t → b < a
+  far-under f = subst (λ (z : ℕ). b < z) (sym (f .exact ∙ ap (λ (z : ℕ). z * t) (f .even))) (f .stands .under (f .half) (subst (λ (z : ℕ). c < z) (f .even) (less p c (f .far))))
+    where
+      less : (p c : ℕ) → c + 2 ^ 64 ≤ p → c < p
+      less p c h = omega arith
+
+  far-diff : Far a p b c t → Stands (a - b) (p - c) t
+  far-diff f =
+      let e : a ≡ 2 * f .half * t = f .exact ∙ ap (λ (z : ℕ). z * t) (f .even) in
+      inr (big p c (f .far), subst (λ (z : ℕ). Jam (z - b) (p - c) t) (sym e) (subst (λ (z : ℕ). Jam (2 * f .half * t - b) (z - c) t) (sym (f .even)) (jam-sub b c t (f .half) T₀ (f .stands) (subst (λ (z : ℕ). b ≤ z) e (le-of-lt (far-under f))) (subst (λ (z : ℕ). c ≤ z) (f .even) (less p c (f .far))))))
+    where
+      big : (p c : ℕ) → c + 2 ^ 64 ≤ p → 2 ^ 64 ≤ p - c
+      big p c h = omega arith
+
+      less : (p c : ℕ) → c + 2 ^ 64 ≤ p → c ≤ p
+      less p c h = omega arith
+
+module _ (a p b c t : ℕ) (T₀ : 0 < t) where
+  pub sum-stands : Framed a p b c t → Stands (a + b) (p + c) t
+  sum-stands (inl x) = inl (ap₂ (λ (y z : ℕ). y + z) (x .0) (x .1) ∙ sym (add-mul p c t))
+  sum-stands (inr (inl f)) = far-sum a p b c t T₀ f
+  sum-stands (inr (inr f)) = subst (λ (z : ℕ). Stands z (p + c) t) (add-comm b a) (subst (λ (z : ℕ). Stands (b + a) z t) (add-comm c p) (far-sum b c a p t T₀ f))
+
+  no : c < p → p + 2 ^ 64 ≤ c → ⊥
+  no h k = omega arith
+
+  pub diff-stands : Framed a p b c t → c < p → Stands (a - b) (p - c) t
+  diff-stands (inl x) h = inl (ap₂ (λ (y z : ℕ). y - z) (x .0) (x .1) ∙ ap₂ (λ (y z : ℕ). y - z) (mul-comm p t) (mul-comm c t) ∙ sym (mul-sub t p c) ∙ mul-comm t (p - c))
+  diff-stands (inr (inl f)) h = far-diff a p b c t T₀ f
+  diff-stands (inr (inr f)) h = absurd (no h (f .far))
+
+  pub diff-less : Framed a p b c t → c < p → b < a
+  diff-less (inl x) h = subst (λ (z : ℕ). z < a) (sym (x .1)) (subst (λ (z : ℕ). c * t < z) (sym (x .0)) (mul-lt-mul-of-pos-right h T₀))
+  diff-less (inr (inl f)) h = far-under a p b c t T₀ f
+  diff-less (inr (inr f)) h = absurd (no h (f .far))
+
+  pub same-stands : Framed a p b c t → p ≡ c → a ≡ b
+  same-stands (inl x) e = x .0 ∙ ap (λ (z : ℕ). z * t) e ∙ sym (x .1)
+  same-stands (inr (inl f)) e = absurd (never p c e (f .far))
+    where
+      never : (p c : ℕ) → p ≡ c → c + 2 ^ 64 ≤ p → ⊥
+      never p c e h = omega arith
+  same-stands (inr (inr f)) e = absurd (never c p (sym e) (f .far))
+    where
+      never : (p c : ℕ) → p ≡ c → c + 2 ^ 64 ≤ p → ⊥
+      never p c e h = omega arith
+
+-- ---- `sum`, by cases
+module _ (g : ℕ) (s u : Bool) (a b : ℕ) where
+  at-cases : summing g s a u b ≡ cond (Bool·beq s u) (rounding g s (a + b)) (cond (ltb a b) (rounding g u (b - a)) (rounding g (s && ltb b a) (a - b)))
+  unfolding summing rounding
+  at-cases = refl
+
+  pub summing-like : Bool·beq s u ≡ true → summing g s a u b ≡ rounding g s (a + b)
+  summing-like e = at-cases ∙ ap (λ (z : Bool). cond z (rounding g s (a + b)) (cond (ltb a b) (rounding g u (b - a)) (rounding g (s && ltb b a) (a - b)))) e
+
+  other : Bool·beq s u ≡ false → summing g s a u b ≡ cond (ltb a b) (rounding g u (b - a)) (rounding g (s && ltb b a) (a - b))
+  other e = at-cases ∙ ap (λ (z : Bool). cond z (rounding g s (a + b)) (cond (ltb a b) (rounding g u (b - a)) (rounding g (s && ltb b a) (a - b)))) e
+
+  and-true : (x : Bool) → x && true ≡ x
+  and-true true = refl
+  and-true false = refl
+
+  and-false : (x : Bool) → x && false ≡ false
+  and-false true = refl
+  and-false false = refl
+
+  pub summing-over : Bool·beq s u ≡ false → b < a → summing g s a u b ≡ rounding g s (a - b)
+  summing-over e h =
+      other e
+      ∙ ap (λ (z : Bool). cond z (rounding g u (b - a)) (rounding g (s && ltb b a) (a - b))) (le-ltb a b (le-of-lt h))
+      ∙ ap (λ (z : Bool). rounding g (s && z) (a - b)) (lt-ltb b a h)
+      ∙ ap (λ (z : Bool). rounding g z (a - b)) (and-true s)
+
+  pub summing-under : Bool·beq s u ≡ false → a < b → summing g s a u b ≡ rounding g u (b - a)
+  summing-under e h = other e ∙ ap (λ (z : Bool). cond z (rounding g u (b - a)) (rounding g (s && ltb b a) (a - b))) (lt-ltb a b h)
+
+  pub summing-none : Bool·beq s u ≡ false → a ≡ b → summing g s a u b ≡ rounding g false 0
+  summing-none e h =
+      other e
+      ∙ ap (λ (z : Bool). cond z (rounding g u (b - a)) (rounding g (s && ltb b a) (a - b))) (le-ltb a b (le-of-eq (sym h)))
+      ∙ ap (λ (z : Bool). rounding g (s && z) (a - b)) (le-ltb b a (le-of-eq h))
+      ∙ ap₂ (λ (z : Bool) (y : ℕ). rounding g z y) (and-false s) (diff a b h)
+    where
+      diff : (a b : ℕ) → a ≡ b → a - b ≡ 0
+      diff a b h = omega arith
+
+-- ---- zero
+size-none : (g : ℕ) → size (0 / 2 ^ g) - 53 ≡ 0
+unfolding size
+size-none g = ap (λ (z : ℕ). size z - 53) (zero-div (2 ^ g))
+
+closest-none : (h : ℕ) → 0 < h → closest 0 (h * 2) ≡ 0
+closest-none h H = sym (near-lt 0 h H (ap (λ (z : ℕ). z % 2) (zero-div h))) ∙ ap (λ (z : ℕ). z / 2) (zero-div h)
+
+pub none-bits : (g : ℕ) → toBits binary64 (rounding (suc g) false 0) ≡ 0
+unfolding rounding
+none-bits g =
+    ap (toBits binary64)
+    (round-cut binary64 false 0 (suc g) 0 (size-none (suc g))
+    ∙ ap (λ (z : ℕ). units binary64 false z 0) (ap (closest 0) (one (2 ^ suc g) ∙ twice g) ∙ closest-none (2 ^ g) (pow-pos g)))
+    ∙ sym (pattern-law false 0 0 0 zero-le (inl refl) refl)
+  where
+    one : (z : ℕ) → z * 1 ≡ z
+    one z = omega arith
+
+    twice : (g : ℕ) → 2 ^ suc g ≡ 2 ^ g * 2
+    twice g = pow-suc 2 g

@@ -1,0 +1,17 @@
+-- Laws.
+mod Align
+mod Apart
+mod Columns
+mod Frame
+mod HalfAway
+mod Less
+mod Halves
+mod Jam
+mod Patterns
+mod Ranges
+mod Rounding
+mod Special
+mod Stand
+mod Sums
+mod Value
+mod Words

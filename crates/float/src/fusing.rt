@@ -1,0 +1,104 @@
+// The exact product and sum of three numbers, by their patterns.
+ghost use mathlib.Core.Path.{_≡_};
+ghost use Prim.Native.Nat.{ℕ, _+_, _*_, _^_, _<_};
+ghost use lib.Dec.{leb};
+ghost use lib.Ieee.{binary64, toBits, ofBits};
+ghost use Rattle.float.specs.FusedMultiplyAdd.{fusedMultiplyAdd, plainly};
+ghost use Rattle.float.specs.Split.{Plain, Split};
+ghost use Rattle.float.specs.Wide.{Framed, summing, Ready};
+use crate::packing::normalised;
+use crate::two_words::shift_right_jam;
+use crate::two_words::wide_add;
+use crate::two_words::wide_lt;
+use crate::two_words::wide_mul;
+use crate::two_words::wide_sub;
+
+// The pattern of ±a / 2^2272 + ±b / 2^2272, rounded once, where the two numbers stand for a / 2^e and b / 2^e.
+fn signed_sum(np: bool, ph: u64, pl: u64, nc: bool, ch: u64, cl: u64, e: u64) -> u64
+    requires { ⌜ (ph < 2 ^ 62) × (ch < 2 ^ 62) × (0 < ph * 2 ^ 64 + pl) × (e < 8000) ⌝ }
+    ensures { λ r. ⌜ ((a b : ℕ) → Framed a (ph * 2 ^ 64 + pl) b (ch * 2 ^ 64 + cl) (2 ^ e)
+        → r ≡ toBits binary64 (summing 1198 np a nc b)) ⌝ }
+{
+    if np == nc {
+        let s = wide_add(ph, pl, ch, cl);
+        normalised(np, s.hi, s.lo, e)
+    } else if wide_lt(ch, cl, ph, pl) {
+        let s = wide_sub(ph, pl, ch, cl);
+        normalised(np, s.hi, s.lo, e)
+    } else if wide_lt(ph, pl, ch, cl) {
+        let s = wide_sub(ch, cl, ph, pl);
+        normalised(nc, s.hi, s.lo, e)
+    } else {
+        0
+    }
+}
+
+// The pattern of ±p * 2^ep / 2^2272 + ±c * 2^ec / 2^2272, rounded once, where p is ph * 2^64 + pl and c is ch * 2^64:
+// the one with the smaller exponent is shifted down to the other's.
+fn aligned_sum(np: bool, ph: u64, pl: u64, ep: u64, nc: bool, ch: u64, ec: u64) -> u64
+    requires { ⌜ Ready (ph * 2 ^ 64 + pl) × Ready (ch * 2 ^ 64) × (ep < 8000) × (ec < 8000) ⌝ }
+    ensures { λ r. ⌜ r ≡ toBits binary64 (summing 1198 np ((ph * 2 ^ 64 + pl) * 2 ^ ep) nc (ch * 2 ^ 64 * 2 ^ ec)) ⌝ }
+{
+    if ec <= ep {
+        let w = shift_right_jam(ch, 0, ep - ec);
+        signed_sum(np, ph, pl, nc, w.hi, w.lo, ep)
+    } else {
+        let w = shift_right_jam(ph, pl, ec - ep);
+        signed_sum(np, w.hi, w.lo, nc, ch, 0, ec)
+    }
+}
+
+// The digits m of a number and their exponent e.
+struct Digits {
+    pub m: u64,
+    pub e: u64,
+}
+
+// The pattern of a number that is neither a zero nor an infinity is taken apart, its digits shifted up to the 53rd place: it is
+// m * 2^e / 2^1126.
+fn decomposed(bits: u64) -> Digits
+    requires { ⌜ Plain bits ⌝ }
+    ensures { λ r. ⌜ Split (ofBits binary64 bits) (leb (2 ^ 63) bits) (r .m) (r .e) ⌝ }
+{
+    let field = bits % 0x8000_0000_0000_0000 / 0x10_0000_0000_0000;
+    let t = bits % 0x10_0000_0000_0000;
+    if field == 0 {
+        let l = u64::leading_zeros(t) as u64 - 11;
+        Digits {
+            m: t << l,
+            e: 52 - l,
+        }
+    } else {
+        Digits {
+            m: 0x10_0000_0000_0000 + t,
+            e: field + 51,
+        }
+    }
+}
+
+// The pattern of the fused multiply-add of three numbers, by their patterns.
+pub(crate) fn fused(a: u64, b: u64, c: u64) -> u64
+    requires { ⌜ Plain a × Plain b × Plain c ⌝ }
+    ensures { λ r. ⌜ r ≡ toBits binary64 (fusedMultiplyAdd binary64 (ofBits binary64 a) (ofBits binary64 b) (ofBits binary64 c)) ⌝ }
+{
+    let x = decomposed(a);
+    let y = decomposed(b);
+    let z = decomposed(c);
+    let sa = a >= 0x8000_0000_0000_0000;
+    let sb = b >= 0x8000_0000_0000_0000;
+    let sc = c >= 0x8000_0000_0000_0000;
+    let p = wide_mul(x.m * 1024, y.m * 1024);
+    aligned_sum(sa != sb, p.hi, p.lo, x.e + y.e, sc, z.m * 512, z.e + 1073)
+}
+
+// Whether x is finite and not a zero.
+pub(crate) fn is_plain(x: f64) -> bool
+    ensures { λ r. ⌜ r ≡ plainly x ⌝ }
+{
+    let top: f64 = f64::from_bits(0x7ff0_0000_0000_0000);
+    if x < top {
+        if -top < x { x != 0.0 } else { false }
+    } else {
+        false
+    }
+}

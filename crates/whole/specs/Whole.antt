@@ -1,0 +1,17 @@
+-- Clamping, division towards zero and division rounded down, over ℤ. Definitions only.
+use mathlib.Core.Bool.{cond}
+use Prim.Native.Nat.{ℕ}
+use lib.IntN.{ℤ, pos, negsuc}
+use lib.Signed.{ltZ, quotZ, shrZ}
+
+-- z, or the nearer end of -32768..32767
+unfoldable pub clamp16 : ℤ → ℤ
+clamp16 z = cond (ltZ z (negsuc 32767)) (negsuc 32767) (cond (ltZ (pos 32767) z) (pos 32767) z)
+
+-- z / d, rounded towards zero: the quotient of the magnitudes, with the sign of z
+abbrev pub towardsZero : ℤ → ℕ → ℤ
+towardsZero z d = quotZ z (pos d)
+
+-- z / d, rounded down
+abbrev pub floored : ℤ → ℕ → ℤ
+floored z d = shrZ z d

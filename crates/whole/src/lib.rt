@@ -1,0 +1,37 @@
+// The whole-number helpers of the codec: clamping to 16 bits, division towards zero, arithmetic shift.
+ghost use mathlib.Core.Path.{_≡_};
+ghost use Rattle.whole.specs.Whole.{clamp16, towardsZero, floored};
+
+// x, or the nearer end of -32768..32767.
+pub fn clamp_i16(x: i64) -> i16
+    ensures { λ r. ⌜ r ≡ clamp16 x ⌝ }
+{
+    if x < -32768 {
+        return -32768;
+    }
+    if 32767 < x {
+        return 32767;
+    }
+    x as i16
+}
+
+// x / 2048, rounded towards zero.
+pub fn quotient_2048(x: i64) -> i64
+    ensures { λ r. ⌜ r ≡ towardsZero x 2048 ⌝ }
+{
+    x / 2048
+}
+
+// x / 2, rounded towards zero.
+pub fn half(x: i64) -> i64
+    ensures { λ r. ⌜ r ≡ towardsZero x 2 ⌝ }
+{
+    x / 2
+}
+
+// x / 2048, rounded down: an arithmetic shift by 11.
+pub fn shift_11(x: i64) -> i64
+    ensures { λ r. ⌜ r ≡ floored x 2048 ⌝ }
+{
+    x >> 11
+}
