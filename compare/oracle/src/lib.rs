@@ -1,0 +1,26 @@
+//! Plain calls of the unchanged Rust, for comparison.
+
+mod block;
+mod caught;
+mod encode;
+mod measure;
+mod pieces;
+pub mod random;
+
+#[cfg(feature = "count")]
+pub mod self_run;
+#[cfg(feature = "count")]
+pub mod text;
+
+pub use block::{address_to_sample, decode, join, sample_to_address};
+pub use caught::caught;
+pub use encode::{Block, encode_blocks, encode_frame_bytes};
+#[cfg(feature = "count")]
+pub use encode::{Encoded, encode, encode_frame};
+pub use measure::{Measured, Record, coefficients_of_records, measure, process_frame};
+pub use pieces::Pieces;
+pub use unplug::audio::Error;
+pub use unplug::audio::format::adpcm::{Coefficients, FrameContext, SAMPLES_PER_FRAME};
+
+/// The two samples before a place: the newest, then the older one.
+pub type History = [i16; 2];

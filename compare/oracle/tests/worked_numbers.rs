@@ -1,0 +1,113 @@
+//! The worked numbers of the scope paper, run against the Rust.
+//!
+//! The image sizes S and the image's head have no counterpart in the Rust (it knows no image), so
+//! they are left to the port. Of the last example the block is compared: body, length, context.
+
+use oracle::{FrameContext, address_to_sample, decode, encode, encode_frame, sample_to_address};
+
+const ZEROS: [i16; 16] = [0; 16];
+
+#[test]
+fn address_to_sample_as_listed() {
+    let pairs = [(0, 0), (1, 0), (2, 0), (15, 13), (16, 14), (17, 14), (18, 14), (19, 15)];
+    for (address, sample) in pairs {
+        assert_eq!(address_to_sample(address), sample, "address {address}");
+    }
+}
+
+#[test]
+fn sample_to_address_as_listed() {
+    for (sample, address) in [(0, 2), (13, 15), (14, 18), (28, 34)] {
+        assert_eq!(sample_to_address(sample), address, "sample {sample}");
+    }
+}
+
+#[test]
+fn header_9c_is_predictor_1_scale_4096() {
+    let context = FrameContext { predictor_and_scale: 0x9c, last_samples: [0, 0] };
+    assert_eq!((context.predictor(), context.scale()), (1, 4096));
+}
+
+#[test]
+fn header_9c_is_played_with_pair_1_and_scale_4096() {
+    let mut coefficients = [-1; 16];
+    coefficients[2..4].copy_from_slice(&[2048, 0]);
+    let context = FrameContext { predictor_and_scale: 0x9c, last_samples: [100, 0] };
+    let (samples, _) = decode(&[0x9c, 0x1f], 4, &coefficients, context);
+    assert_eq!(samples, [100 + 4096, 100]);
+}
+
+#[test]
+fn nibbles_7_8_15_are_7_minus_8_minus_1() {
+    let (samples, _) = decode(&[0x00, 0x78, 0xf0], 5, &ZEROS, FrameContext::new());
+    assert_eq!(samples, [7, -8, -1]);
+}
+
+/// The Rust's quantiser before its clamp, as vgaudio/encode.rs has it.
+fn unclamped(power: i32, distance: i32) -> i32 {
+    let scale = (1 << power) * 2048;
+    if distance > 0 {
+        ((distance as f32 / scale as f32) as f64 + 0.4999999) as i32
+    } else {
+        ((distance as f32 / scale as f32) as f64 - 0.4999999) as i32
+    }
+}
+
+#[test]
+fn quantiser_rounds_halves_towards_zero() {
+    for (distance, value) in [(1024, 0), (1025, 1), (-1024, 0), (-1025, -1)] {
+        assert_eq!(unclamped(0, distance), value, "D = {distance}");
+    }
+}
+
+#[test]
+fn quantiser_rounds_to_24_bits_first() {
+    assert_eq!(unclamped(12, 20_971_521), 2);
+}
+
+/// The same D in a real frame: 2048 × 10,240 − 1 × −1, with full-scale samples that ask for p = 12.
+#[test]
+fn encoder_rounds_to_24_bits_first() {
+    let coefficients = std::array::from_fn(|place| (place % 2 == 0) as i16);
+    let mut samples = [i16::MIN; 14];
+    samples[0] = 10_240;
+    samples[2] = i16::MAX;
+    let (bytes, ..) = encode_frame([-1, 0], &samples, &coefficients);
+    assert_eq!((bytes[0], bytes[1] >> 4), (0x0c, 2));
+}
+
+/// Encodes one sample with zeros all round and plays it.
+fn one_sample(sample: i16) -> (Vec<u8>, u32, Vec<i16>) {
+    let (bytes, passes, history) = encode_frame([0, 0], &[sample], &ZEROS);
+    let context = FrameContext { predictor_and_scale: bytes[0].into(), last_samples: [0, 0] };
+    let (played, end) = decode(&bytes, 3, &ZEROS, context);
+    assert_eq!((history, end.last_samples), ([played[0], 0], [played[0], 0]));
+    (bytes, passes, played)
+}
+
+#[test]
+fn one_sample_frames_as_listed() {
+    assert_eq!(one_sample(7), (vec![0x00, 0x70], 8, vec![7]));
+    assert_eq!(one_sample(8), (vec![0x00, 0x70], 8, vec![7]));
+    assert_eq!(one_sample(-9), (vec![0x00, 0x80], 8, vec![-8]));
+    assert_eq!(one_sample(9), (vec![0x01, 0x40], 16, vec![8]));
+}
+
+#[test]
+fn sample_9_as_a_clip() {
+    let encoded = encode(&[&[9]], 32_000, 15, &ZEROS, 0, [0, 0]).unwrap();
+    assert_eq!((encoded.blocks.len(), encoded.passes, encoded.history), (1, 16, [8, 0]));
+    let block = &encoded.blocks[0];
+    assert_eq!((block.bytes.as_slice(), block.len), ([0x01, 0x40].as_slice(), 3));
+    assert_eq!((block.predictor_and_scale, block.last_samples), (1, [0, 0]));
+    assert_eq!((block.rate, block.gain, block.coefficients), (32_000, 0, ZEROS));
+}
+
+/// Size 15 counts as 8, so that two frames make two blocks; size 16 holds both.
+#[test]
+fn block_size_is_cut_down_to_a_multiple_of_8() {
+    for (size, blocks) in [(8, 2), (15, 2), (16, 1)] {
+        let encoded = encode(&[&[9; 15]], 32_000, size, &ZEROS, 0, [0, 0]).unwrap();
+        assert_eq!(encoded.blocks.len(), blocks, "size {size}");
+    }
+}

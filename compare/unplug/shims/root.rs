@@ -1,0 +1,3 @@
+// The modules that stand at the root of unplug.
+pub mod audio;
+pub mod common;

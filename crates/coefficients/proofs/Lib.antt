@@ -1,0 +1,6 @@
+-- Laws.
+mod Samples
+mod Folds
+mod Picks
+mod Ends
+pub mod Measures

@@ -1,0 +1,60 @@
+-- The vector that is picked is one of the eight.
+use mathlib.Core.Path.{_≡_, refl}
+use mathlib.Core.Bool.{Bool, true, false, cond}
+use mathlib.Core.List.{List, [], _∷_}
+use Prim.Native.Nat.{ℕ, zero, suc, _+_, _≤_, _<_}
+use native.Mathlib.Omega.{arith}
+use native.Mathlib.Numerals.{add-one}
+use lib.Ieee.{Float, lt}
+use lib.ListN.{getD, set, replicate}
+use Rattle.coefficients.specs.declared.merging.Record.{Record}
+use Rattle.coefficients.specs.declared.merging.Vec3.{Vec3}
+use Rattle.coefficients.specs.declared.clusters.Best.{Best}
+use Rattle.coefficients.specs.declared.clusters.Tally.{Tally}
+use Rattle.coefficients.specs.Analysis.{contrast, mergeFinish}
+use Rattle.coefficients.specs.Clusters.{better, least, blank, joined, renewed, led, mean, doubled, beside}
+
+either-below : (q : Bool) (a b : Best) (m : ℕ) → a .index < m → b .index < m → cond q a b .index < m
+either-below true a b m p q = p
+either-below false a b m p q = q
+
+better-below : (b : Best) (t : Float) (i m : ℕ) → i < m → b .index < m → better b t i .index < m
+unfolding better
+better-below b t i m p q = either-below (lt t (b .value)) (record { value = t; index = i }) b m p q
+
+pub least-below : (vs : List Vec3) (r : Record) (k m : ℕ) → 0 < m → k ≤ m → least vs r k .index < m
+unfolding least
+least-below vs r zero m p h = p
+least-below vs r (suc k) m p h = better-below (least vs r k) _ k m (omega arith) (least-below vs r k m p (omega arith))
+
+pub least-more : (vs : List Vec3) (r : Record) (k : ℕ) → least vs r (k + 1) ≡ better (least vs r k) (contrast (getD vs k blank) r) k
+unfolding least
+least-more vs r k = rw add-one
+
+-- a bound on every element stays one after a store
+pub set-le : (xs : List ℕ) (j v m : ℕ) → v ≤ m → ((i : ℕ) → getD xs i 0 ≤ m) → (i : ℕ) → getD (set xs j v) i 0 ≤ m
+set-le [] j v m p h i = h i
+set-le (x ∷ xs) zero v m p h zero = p
+set-le (x ∷ xs) zero v m p h (suc i) = h (suc i)
+set-le (x ∷ xs) (suc j) v m p h zero = h zero
+set-le (x ∷ xs) (suc j) v m p h (suc i) = set-le xs j v m p (λ k. h (suc k)) i
+
+-- one record more: each count rises by at most one
+pub joined-le : (vs : List Vec3) (n : ℕ) (t : Tally) (r : Record) (k : ℕ) → ((i : ℕ) → getD (t .counts) i 0 ≤ k) → (i : ℕ) → getD (joined vs n t r .counts) i 0 ≤ k + 1
+unfolding joined
+joined-le vs n t r k h i =
+    let j = least vs r n .index in
+    set-le (t .counts) j (getD (t .counts) j 0 + 1) (k + 1) (omega (arith, h j)) (λ q. omega (arith, h q)) i
+
+pub zeros-le : (n i k : ℕ) → getD (replicate n 0) i 0 ≤ k
+zeros-le zero i k = omega arith
+zeros-le (suc n) zero k = omega arith
+zeros-le (suc n) (suc i) k = zeros-le n i k
+
+pub renewed-more : (vs : List Vec3) (t : Tally) (k : ℕ) → renewed vs t (k + 1) ≡ set (renewed vs t k) k (led (mergeFinish (mean (getD (t .sums) k blank) (getD (t .counts) k 0))))
+unfolding renewed
+renewed-more vs t k = rw add-one
+
+pub doubled-more : (vs : List Vec3) (m k : ℕ) → doubled vs m (k + 1) ≡ set (doubled vs m k) (m + k) (beside (getD (doubled vs m k) k blank))
+unfolding doubled
+doubled-more vs m k = rw add-one

@@ -1,0 +1,62 @@
+-- `gather` meets its contract. Assumes nothing.
+use mathlib.Core.Path.{_≡_, refl, sym}
+use Prim.Native.Nat.{ℕ, _≤_, _-_}
+use native.Mathlib.Omega.{arith}
+use borrow.Author.Needs.{needs}
+use lib.ListN.{getD}
+use Rattle.coefficients.specs.Store.{records}
+use Rattle.coefficients.specs.Clusters.{tally, empty, none, joined}
+use Rattle.coefficients.proofs.Folds.{foldl-none, foldl-records}
+use Rattle.coefficients.proofs.Picks.{joined-le, zeros-le}
+use Rattle.coefficients.proofs.clusters.gather.Statement.{statement}
+use Rattle.coefficients.proofs.clusters.gather.Tie as tie
+
+abbrev Inv-loop : tie.InvT-loop
+Inv-loop vs m s n t₀ k₀ t k = (k ≤ n) × (t ≡ tally vs m (records s k)) × ((i : ℕ) → getD (t .counts) i 0 ≤ k)
+
+abbrev μ-loop : tie.MeasureT-loop
+μ-loop vs m s n t₀ k₀ t k = n - k
+
+loop-holds : tie.Need-loop-holds Inv-loop μ-loop
+unfolding tally empty none
+loop-holds c = (omega arith, sym (foldl-none (joined _ _) empty _), (λ i. zeros-le 8 i 0))
+
+read-record-requires : tie.Need-read-record-requires Inv-loop μ-loop
+read-record-requires c κs = omega arith
+
+joined-requires : tie.Need-joined-requires Inv-loop μ-loop
+joined-requires c κs =
+    let l = c .before .before in
+    (search needs, (λ i. omega (arith, l .loop .inv .2 i)))
+
+add-k : tie.Need-add-k Inv-loop μ-loop
+add-k c = omega arith
+
+loop-less : tie.Need-loop-less Inv-loop μ-loop
+loop-less c = omega arith
+
+loop-again : tie.Need-loop-again Inv-loop μ-loop
+unfolding tally
+loop-again c =
+    let l = c .before .before .before in
+    (omega arith, rw (foldl-records, ← l .loop .inv .1, ← c .before .read-record .ensures) (c .joined .ensures), rw (c .joined .ensures) (joined-le _ _ _ _ _ (l .loop .inv .2)))
+
+returns : tie.Need-returns Inv-loop μ-loop
+returns c =
+    let l = c .before in
+    let e : l .loop .k ≡ l .before .before .args .n = omega arith in
+    rw (← e) (l .loop .inv .1)
+
+pub gather-spec : {M : Type 1} → statement M
+gather-spec =
+    tie.close
+    (tie.spec
+    Inv-loop
+    μ-loop
+    loop-holds
+    read-record-requires
+    joined-requires
+    add-k
+    loop-less
+    loop-again
+    returns)

@@ -1,0 +1,25 @@
+-- `finish` meets its contract. Assumes nothing.
+use borrow.Author.Tests.{eq-eqb, ne-eqb}
+use Rattle.coefficients.specs.Finish.{finish}
+use Rattle.coefficients.proofs.Folds.{records-length}
+use borrow.Author.Needs.{needs}
+use Rattle.coefficients.proofs.finishing.finish.Statement.{statement}
+use Rattle.coefficients.proofs.finishing.finish.Tie as tie
+
+returns : tie.Need-returns
+unfolding finish
+returns c = simp (records-length, eq-eqb _ _ (c .if1 .taken))
+
+vectors-requires : tie.Need-vectors-requires
+vectors-requires c κs = search needs
+
+pairs-requires : tie.Need-pairs-requires
+pairs-requires c κs = search needs
+
+returns-2 : tie.Need-returns-2
+unfolding finish
+returns-2 c =
+    simp (records-length, ne-eqb _ _ (c .before .before .if1 .left), ← c .before .vectors .ensures, ← c .pairs .ensures)
+
+pub finish-spec : {M : Type 1} → statement M
+finish-spec = tie.close (tie.spec returns vectors-requires pairs-requires returns-2)

@@ -1,0 +1,11 @@
+-- `bidirectional_filter` meets its contract. Assumes nothing.
+use Rattle.coefficients.specs.Analysis.{bidirectional}
+use Rattle.coefficients.proofs.ranges.bidirectional_filter.Statement.{statement}
+use Rattle.coefficients.proofs.ranges.bidirectional_filter.Tie as tie
+
+returns : tie.Need-returns
+unfolding bidirectional
+returns c = cc
+
+pub bidirectional-filter-spec : {M : Type 1} → statement M
+bidirectional-filter-spec = tie.close (tie.spec (λ _ _. tt) (λ _ _. tt) (λ _ _. tt) (λ _ _. tt) (λ _ _. tt) (λ _ _. tt) (λ _ _. tt) (λ _ _. tt) returns)

@@ -1,0 +1,9 @@
+-- What the contracts cite.
+pub mod Kit
+pub mod Constants
+pub mod Sums
+pub mod Analysis
+pub mod Store
+pub mod Clusters
+pub mod Finish
+pub mod Measure

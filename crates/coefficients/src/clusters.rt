@@ -1,0 +1,186 @@
+// The vectors that the records are gathered around.
+ghost use mathlib.Core.Path.{_≡_};
+ghost use Prim.Native.Nat.{ℕ, _+_, _*_, _≤_, _<_};
+ghost use lib.ListN.{length, getD};
+ghost use Rattle.coefficients.specs.Clusters as Clusters;
+ghost use Rattle.coefficients.specs.Clusters.{Nearest};
+ghost use Rattle.coefficients.specs.Store.{records};
+use crate::merging::Record;
+use crate::merging::Vec3;
+
+pub(crate) struct Best {
+    pub value: f64,
+    pub index: usize,
+}
+
+pub(crate) struct Tally {
+    pub counts: [u32; 8],
+    pub sums: [Vec3; 8],
+}
+
+fn better(b: Best, t: f64, i: usize) -> Best
+    ensures { λ r. ⌜ r ≡ Clusters.better b t i ⌝ }
+{
+    if t < b.value {
+        Best { value: t, index: i }
+    } else {
+        b
+    }
+}
+
+pub(crate) fn nearest(vs: [Vec3; 8], n: usize, r: Record) -> usize
+    requires { ⌜ n ≤ 8 ⌝ }
+    ensures { λ x. ⌜ Nearest vs n r x ⌝ }
+{
+    let mut b = Best {
+        value: 1.0e30,
+        index: 0,
+    };
+    let mut i: usize = 0;
+    while i < n {
+        b = better(b, crate::merging::contrast_vectors(vs[i], r), i);
+        i += 1;
+    }
+    b.index
+}
+
+fn plus3(a: Vec3, b: Vec3) -> Vec3
+    ensures { λ r. ⌜ r ≡ Clusters.plus3 a b ⌝ }
+{
+    Vec3 {
+        x0: a.x0 + b.x0,
+        x1: a.x1 + b.x1,
+        x2: a.x2 + b.x2,
+    }
+}
+
+pub(crate) fn joined(vs: [Vec3; 8], n: usize, t: Tally, r: Record) -> Tally
+    requires { ⌜ n ≤ 8 ⌝ }
+    requires { ⌜ ((i : ℕ) → getD (t .counts) i 0 < 4294967295) ⌝ }
+    ensures { λ x. ⌜ x ≡ Clusters.joined vs n t r ⌝ }
+{
+    let i = nearest(vs, n, r);
+    let mut u = t;
+    u.counts[i] = u.counts[i] + 1;
+    u.sums[i] = plus3(u.sums[i], crate::merging::matrix_filter(r));
+    u
+}
+
+// What each record of the store adds.
+pub(crate) fn gather(vs: [Vec3; 8], m: usize, s: &[f64], n: usize) -> Tally
+    requires { ⌜ (m ≤ 8) × (2 * n ≤ length (now s)) × (n ≤ 1048576) ⌝ }
+    ensures { λ x. ⌜ x ≡ Clusters.tally vs m (records (now (s .entry)) n) ⌝ }
+{
+    let z = Vec3 {
+        x0: 0.0,
+        x1: 0.0,
+        x2: 0.0,
+    };
+    let mut t = Tally {
+        counts: [0u32; 8],
+        sums: [z; 8],
+    };
+    let mut k: usize = 0;
+    while k < n {
+        t = joined(vs, m, t, crate::store::read_record(s, k));
+        k += 1;
+    }
+    t
+}
+
+// What a vector becomes.
+fn mean(a: Vec3, c: u32) -> Vec3
+    ensures { λ x. ⌜ x ≡ Clusters.mean a c ⌝ }
+{
+    if c == 0 {
+        return a;
+    }
+    let d = c as f64;
+    Vec3 {
+        x0: a.x0 / d,
+        x1: a.x1 / d,
+        x2: a.x2 / d,
+    }
+}
+
+fn led(r: Record) -> Vec3
+    ensures { λ x. ⌜ x ≡ Clusters.led r ⌝ }
+{
+    Vec3 {
+        x0: 1.0,
+        x1: r.v1,
+        x2: r.v2,
+    }
+}
+
+pub(crate) fn renewed(vs: [Vec3; 8], m: usize, t: Tally) -> [Vec3; 8]
+    requires { ⌜ m ≤ 8 ⌝ }
+    ensures { λ x. ⌜ x ≡ Clusters.renewed vs t m ⌝ }
+{
+    let mut ws = vs;
+    let mut i: usize = 0;
+    while i < m {
+        let a = t.sums[i];
+        let c = t.counts[i];
+        ws[i] = led(crate::merging::merge_finish_record(mean(a, c)));
+        i += 1;
+    }
+    ws
+}
+
+pub(crate) fn filter_round(vs: [Vec3; 8], m: usize, s: &[f64], n: usize) -> [Vec3; 8]
+    requires { ⌜ (m ≤ 8) × (2 * n ≤ length (now s)) × (n ≤ 1048576) ⌝ }
+    ensures { λ x. ⌜ x ≡ Clusters.round vs m (records (now (s .entry)) n) ⌝ }
+{
+    renewed(vs, m, gather(vs, m, s, n))
+}
+
+// A vector a little to the side of another.
+fn beside(v: Vec3) -> Vec3
+    ensures { λ x. ⌜ x ≡ Clusters.beside v ⌝ }
+{
+    Vec3 {
+        x0: float::mul_add(0.01, 0.0, v.x0),
+        x1: float::mul_add(0.01, -1.0, v.x1),
+        x2: float::mul_add(0.01, 0.0, v.x2),
+    }
+}
+
+// Each of the first m vectors has its neighbour m places on.
+pub(crate) fn doubled(vs: [Vec3; 8], m: usize) -> [Vec3; 8]
+    requires { ⌜ m ≤ 4 ⌝ }
+    ensures { λ x. ⌜ x ≡ Clusters.doubled vs m m ⌝ }
+{
+    let mut ws = vs;
+    let mut i: usize = 0;
+    while i < m {
+        let at = m + i;
+        ws[at] = beside(ws[i]);
+        i += 1;
+    }
+    ws
+}
+
+// From m vectors to 2 m, with two rounds.
+pub(crate) fn grown(vs: [Vec3; 8], m: usize, s: &[f64], n: usize) -> [Vec3; 8]
+    requires { ⌜ (m ≤ 4) × (2 * n ≤ length (now s)) × (n ≤ 1048576) ⌝ }
+    ensures { λ x. ⌜ x ≡ Clusters.grown vs m (records (now (s .entry)) n) ⌝ }
+{
+    let ws = doubled(vs, m);
+    let e = m + m;
+    filter_round(filter_round(ws, e, s, n), e, s, n)
+}
+
+pub(crate) fn vectors(s: &[f64], n: usize) -> [Vec3; 8]
+    requires { ⌜ (2 * n ≤ length (now s)) × (n ≤ 1048576) ⌝ }
+    ensures { λ x. ⌜ x ≡ Clusters.vectors (records (now (s .entry)) n) ⌝ }
+{
+    let z = Vec3 {
+        x0: 0.0,
+        x1: 0.0,
+        x2: 0.0,
+    };
+    let mut vs = [z; 8];
+    vs[0] = led(crate::store::first_vector(s, n));
+    grown(grown(grown(vs, 1, s, n), 2, s, n), 4, s, n)
+}

@@ -1,0 +1,83 @@
+// The steps of measuring, and the tests of its calls.
+ghost use mathlib.Core.Path.{_≡_};
+ghost use Prim.Native.Nat.{_+_, _*_, _/_, _%_, _≤_, _<_};
+ghost use lib.ListN.{length};
+ghost use Rattle.coefficients.specs.Measure as Measure;
+use crate::Answer;
+use crate::Refusal;
+use crate::framing::process_frame;
+
+// Whether the counts are those of some measured samples.
+fn valid(n: u32, r: u32) -> bool
+    ensures { λ q. ⌜ q ≡ Measure.validOf n r ⌝ }
+{
+    if n > 14_680_064 {
+        return false;
+    }
+    r <= n / 14
+}
+
+// Numbers that the store must have for n samples.
+fn needed(n: usize) -> usize
+    requires { ⌜ n ≤ 14680064 ⌝ }
+    ensures { λ q. ⌜ q ≡ Measure.neededOf n ⌝ }
+{
+    2 * ((n + 13) / 14)
+}
+
+pub(crate) fn process_answer(n: u32, r: u32, len: usize, size: usize) -> Answer
+    ensures { λ q. ⌜ q ≡ Measure.processAnswer n r len size ⌝ }
+{
+    if !valid(n, r) {
+        return Answer::Refused(Refusal::InvalidState);
+    }
+    let before = n as usize;
+    if len > 14_680_064 - before {
+        return Answer::Refused(Refusal::TooManySamples);
+    }
+    if size < needed(before + len) {
+        return Answer::Refused(Refusal::StoreTooShort);
+    }
+    Answer::Accepted
+}
+
+pub(crate) fn finish_answer(n: u32, r: u32, size: usize) -> Answer
+    ensures { λ q. ⌜ q ≡ Measure.finishAnswer n r size ⌝ }
+{
+    if !valid(n, r) {
+        return Answer::Refused(Refusal::InvalidState);
+    }
+    if size < needed(n as usize) {
+        return Answer::Refused(Refusal::StoreTooShort);
+    }
+    Answer::Accepted
+}
+
+// The last fourteen samples are copied to the front.
+fn shift(h: &mut [i16; 28])
+    ensures { λ _. ⌜ now (h .exit) ≡ Measure.shifted (now (h .entry)) ⌝ }
+{
+    let mut i: usize = 0;
+    while i < 14 {
+        let x = h[14 + i];
+        h[i] = x;
+        i += 1;
+    }
+}
+
+// One sample: the count of records after it.
+fn push(n: u32, r: usize, h: &mut [i16; 28], x: i16, s: &mut [f64]) -> usize
+    requires { ⌜ 2 * r + 1 < length (now s) ⌝ }
+    ensures { λ q. ⌜ Measure.measuring (Measure.calculator (n + 1) q (now (h .exit))) (now (s .exit))
+        ≡ Measure.pushed (Measure.measuring (Measure.calculator n r (now (h .entry))) (now (s .entry))) x ⌝ }
+{
+    let k = (n % 14) as usize;
+    let at = 14 + k;
+    h[at] = x;
+    if k == 13 {
+        let q = process_frame(h, s, r);
+        shift(h);
+        return q;
+    }
+    r
+}

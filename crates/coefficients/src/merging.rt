@@ -1,0 +1,85 @@
+// Records and vectors: what is made of each, and their contrast.
+ghost use mathlib.Core.Path.{_≡_};
+ghost use Rattle.coefficients.specs.Analysis as Analysis;
+
+// A record: the two numbers that follow the leading 1.
+pub(crate) struct Record {
+    pub v1: f64,
+    pub v2: f64,
+}
+
+// A vector of three numbers.
+pub(crate) struct Vec3 {
+    pub x0: f64,
+    pub x1: f64,
+    pub x2: f64,
+}
+
+pub(crate) fn held(x: f64) -> f64
+    ensures { λ r. ⌜ r ≡ Analysis.held x ⌝ }
+{
+    if x >= 1.0 {
+        0.9999999999
+    } else if x <= -1.0 {
+        -0.9999999999
+    } else {
+        x
+    }
+}
+
+pub(crate) fn finish_record(a: f64, b: f64) -> Record
+    ensures { λ r. ⌜ r ≡ Analysis.finishRecord a b ⌝ }
+{
+    let x1 = held(a);
+    let x2 = held(b);
+    Record {
+        v1: float::mul_add(x2, x1, x1),
+        v2: x2,
+    }
+}
+
+pub(crate) fn contrast_vectors(a: Vec3, b: Record) -> f64
+    ensures { λ r. ⌜ r ≡ Analysis.contrast a b ⌝ }
+{
+    let val = float::mul_add(b.v2, b.v1, -b.v1) / float::mul_add(b.v2, -b.v2, 1.0);
+    let val1 = float::mul_add(a.x2, a.x2, float::mul_add(a.x0, a.x0, a.x1 * a.x1));
+    let val2 = float::mul_add(a.x0, a.x1, a.x1 * a.x2);
+    let val3 = a.x0 * a.x2;
+    float::mul_add(
+        2.0 * float::mul_add(-b.v1, val, -b.v2),
+        val3,
+        float::mul_add(2.0 * val, val2, val1),
+    )
+}
+
+pub(crate) fn matrix_filter(s: Record) -> Vec3
+    ensures { λ r. ⌜ r ≡ Analysis.matrixFilter s ⌝ }
+{
+    let m21 = -s.v1;
+    let m22 = -s.v2;
+    let val = float::mul_add(m22, -m22, 1.0);
+    let m11 = float::mul_add(m22, m21, m21) / val;
+    let d1 = float::mul_add(m11, 1.0, 0.0);
+    let d2 = float::mul_add(m21, d1, 0.0);
+    Vec3 {
+        x0: 1.0,
+        x1: d1,
+        x2: float::mul_add(m22, 1.0, d2),
+    }
+}
+
+fn quotient(val: f64, x: f64) -> f64
+    ensures { λ r. ⌜ r ≡ Analysis.quotient val x ⌝ }
+{
+    if val > 0.0 { -x / val } else { 0.0 }
+}
+
+pub(crate) fn merge_finish_record(s: Vec3) -> Record
+    ensures { λ r. ⌜ r ≡ Analysis.mergeFinish s ⌝ }
+{
+    let d1 = quotient(s.x0, 0.0 + s.x1);
+    let val = s.x0 * float::mul_add(d1, -d1, 1.0);
+    let v2 = float::mul_add(d1, s.x1, 0.0);
+    let d2 = quotient(val, v2 + s.x2);
+    finish_record(d1, d2)
+}
