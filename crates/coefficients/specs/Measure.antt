@@ -1,5 +1,5 @@
 -- Measuring pieces and asking for coefficients: what each call does to its state and to the lent store.
-use Prim.Native.Nat.{ℕ, zero, suc, _+_, _-_, _*_, _/_, _%_}
+use Prim.Native.Nat.{ℕ, zero, suc, _+_, _-_, _*_, _/_, _%_, _≤_}
 use mathlib.Core.List.{List, foldl}
 use mathlib.Core.Bool.{Bool, not, cond, _&&_}
 use lib.Dec.{leb, ltb, eqb}
@@ -46,6 +46,12 @@ fresh = calculator 0 0 (replicate 28 (pos 0))
 -- code 1
 unfoldable pub validOf : ℕ → ℕ → Bool
 validOf n r = leb n most && leb r (n / 14)
+
+-- n samples with r records, len samples more and a store of some size: what the calls' tests leave
+pub record Room (n r len size : ℕ) : Type 0 where
+  pub records : r ≤ n / 14
+  pub samples : n + len ≤ most
+  pub store : neededOf (n + len) ≤ size
 
 -- ---- a piece is measured
 

@@ -1,6 +1,5 @@
 // Measuring samples and asking for coefficients.
 ghost use mathlib.Core.Path.{_≡_};
-ghost use Prim.Native.Nat.{ℕ};
 ghost use Rattle.coefficients.specs.Measure as Measure;
 
 mod clusters;
@@ -13,7 +12,9 @@ mod store;
 mod sums;
 
 use measuring::finish_answer;
+use measuring::padded_record;
 use measuring::process_answer;
+use measuring::push_all;
 
 // Why a call is refused.
 pub enum Refusal {
@@ -66,6 +67,55 @@ impl CoefficientCalculator {
             samples: 0,
             records: 0,
             history: [0i16; 28],
+        }
+    }
+
+    // Measures a piece: the record of each frame that it fills goes to the store.
+    pub fn process(self, samples: &[i16], records: &mut [f64]) -> Processed
+        ensures { λ r. ⌜ Measure.processOut (r .answer) (Measure.measuring (r .calculator) (now (records .exit)))
+            ≡ Measure.processOf self (now (samples .entry)) (now (records .entry)) ⌝ }
+    {
+        let n = self.samples;
+        let r = self.records;
+        let answer = process_answer(n, r, samples.len(), records.len());
+        match answer {
+            Answer::Accepted => {
+                let next = push_all(self, samples, records);
+                Processed {
+                    answer: Answer::Accepted,
+                    calculator: next,
+                }
+            }
+            Answer::Refused(why) => Processed {
+                answer: Answer::Refused(why),
+                calculator: self,
+            },
+        }
+    }
+
+    // Works out the coefficients of all that was measured, the frame that is not full filled with zeros.
+    pub fn finish(self, records: &mut [f64]) -> Finished
+        ensures { λ r. ⌜ Measure.finishOut (r .answer) (r .coefficients) (r .calculator) (now (records .exit))
+            ≡ Measure.finishOf self (now (records .entry)) ⌝ }
+    {
+        let n = self.samples;
+        let r = self.records;
+        let answer = finish_answer(n, r, records.len());
+        match answer {
+            Answer::Accepted => {
+                let count = padded_record(self, records);
+                let coefficients = finishing::finish(records, count);
+                Finished {
+                    answer: Answer::Accepted,
+                    coefficients,
+                    calculator: self,
+                }
+            }
+            Answer::Refused(why) => Finished {
+                answer: Answer::Refused(why),
+                coefficients: [0i16; 16],
+                calculator: self,
+            },
         }
     }
 }

@@ -1,9 +1,12 @@
 // The steps of measuring, and the tests of its calls.
 ghost use mathlib.Core.Path.{_≡_};
+ghost use mathlib.Core.List.{foldl};
 ghost use Prim.Native.Nat.{_+_, _*_, _/_, _%_, _≤_, _<_};
 ghost use lib.ListN.{length};
 ghost use Rattle.coefficients.specs.Measure as Measure;
+ghost use Rattle.coefficients.specs.Measure.{Room};
 use crate::Answer;
+use crate::CoefficientCalculator;
 use crate::Refusal;
 use crate::framing::process_frame;
 
@@ -80,4 +83,59 @@ fn push(n: u32, r: usize, h: &mut [i16; 28], x: i16, s: &mut [f64]) -> usize
         return q;
     }
     r
+}
+
+// All samples of a piece for which there is room.
+pub(crate) fn push_all(
+    c: CoefficientCalculator,
+    samples: &[i16],
+    s: &mut [f64],
+) -> CoefficientCalculator
+    requires { ⌜ Room (c .samples) (c .records) (length (now samples)) (length (now s)) ⌝ }
+    ensures { λ q. ⌜ Measure.measuring q (now (s .exit))
+        ≡ foldl Measure.pushed (Measure.measuring c (now (s .entry))) (now (samples .entry)) ⌝ }
+{
+    let mut n = c.samples;
+    let mut r = c.records as usize;
+    let mut h = c.history;
+    let mut i: usize = 0;
+    while i < samples.len() {
+        r = push(n, r, &mut h, samples[i], s);
+        n += 1;
+        i += 1;
+    }
+    CoefficientCalculator {
+        samples: n,
+        records: r as u32,
+        history: h,
+    }
+}
+
+// Zeros after the k samples of the frame that is not full.
+fn padded(h: [i16; 28], k: usize) -> [i16; 28]
+    requires { ⌜ k ≤ 14 ⌝ }
+    ensures { λ q. ⌜ q ≡ Measure.padded h k ⌝ }
+{
+    let mut g = h;
+    let mut i = 14 + k;
+    while i < 28 {
+        g[i] = 0;
+        i += 1;
+    }
+    g
+}
+
+// The padded frame's record, if there is such a frame and it has one, goes to the store: the count of records with it.
+pub(crate) fn padded_record(c: CoefficientCalculator, s: &mut [f64]) -> usize
+    requires { ⌜ Room (c .samples) (c .records) 0 (length (now s)) ⌝ }
+    ensures { λ q. ⌜ (q ≡ Measure.closedCount c) × (now (s .exit) ≡ Measure.closedStore c (now (s .entry))) ⌝ }
+{
+    let r = c.records as usize;
+    let k = (c.samples % 14) as usize;
+    if k == 0 {
+        return r;
+    }
+    let h = c.history;
+    let g = padded(h, k);
+    process_frame(&g, s, r)
 }
