@@ -51,7 +51,7 @@ put-same s k r h =
     let b = getD-set-same (set s (2 * k) (r .v1)) (2 * k + 1) (r .v2) nan (omega (arith, n)) in
     rw (a, b)
 
-records-kept : (s : List Float) (k : ℕ) (r : Record) (i : ℕ) → i ≤ k → records (putRecord s k r) i ≡ records s i
+pub records-kept : (s : List Float) (k : ℕ) (r : Record) (i : ℕ) → i ≤ k → records (putRecord s k r) i ≡ records s i
 unfolding records
 records-kept s k r zero h = refl
 records-kept s k r (suc i) h =

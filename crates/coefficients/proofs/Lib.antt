@@ -4,3 +4,5 @@ mod Folds
 mod Picks
 mod Ends
 pub mod Measures
+pub mod Frames
+pub mod WholeRuns

@@ -99,7 +99,7 @@ passed : (v : Bool) (e : Refusal) (a : Answer) → cond (not v) (Refused e) a �
 passed true e a p = (refl, p)
 passed false e a p = absurd (never p)
 
-failed : (t : Bool) (e : Refusal) (a : Answer) → cond t (Refused e) a ≡ Accepted → (t ≡ false) × (a ≡ Accepted)
+pub failed : (t : Bool) (e : Refusal) (a : Answer) → cond t (Refused e) a ≡ Accepted → (t ≡ false) × (a ≡ Accepted)
 failed true e a p = absurd (never p)
 failed false e a p = (refl, p)
 

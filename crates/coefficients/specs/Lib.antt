@@ -7,3 +7,4 @@ pub mod Store
 pub mod Clusters
 pub mod Finish
 pub mod Measure
+pub mod Runs

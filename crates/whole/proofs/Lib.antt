@@ -1,4 +1,5 @@
--- Laws that every crate's proofs cite: of signed values in locals, of differences of natural numbers, of the definitions.
+-- Laws that every crate's proofs cite: of signed values in locals, of differences of natural numbers, of the definitions, of runs of stores.
 pub mod Values
 pub mod Differences
 pub mod Laws
+pub mod Stores
