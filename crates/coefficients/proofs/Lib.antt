@@ -6,3 +6,4 @@ mod Ends
 pub mod Measures
 pub mod Frames
 pub mod WholeRuns
+pub mod Cuts
