@@ -7,3 +7,6 @@ pub mod Measures
 pub mod Frames
 pub mod WholeRuns
 pub mod Cuts
+pub mod Bounded
+pub mod Each
+pub mod AnyStore

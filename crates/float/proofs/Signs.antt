@@ -180,11 +180,22 @@ plain false true = refl
 plain false false = refl
 
 -- where x has no minus sign, `less` is `lt`
-less-plus : (x y : Float) → Plus x → less x y ≡ lt x y
+pub less-plus : (x y : Float) → Plus x → less x y ≡ lt x y
 unfolding less negative
 less-plus nan y p = absurd p
 less-plus (inf s) y p = rw p (plain (lt (inf false) y) (eq (inf false) y))
 less-plus (fin s m e) y p = rw p (plain (lt (fin false m e) y) (eq (fin false m e) y))
+
+-- where y has a minus sign too
+pub less-minus : (x y : Float) → negative y ≡ true → less x y ≡ lt x y
+unfolding less
+less-minus x y e = rw e (none (lt x y) (eq x y) (negative x))
+  where
+    none : (a b c : Bool) → (a || (b && (c && false))) ≡ a
+    none true b c = refl
+    none false true true = refl
+    none false true false = refl
+    none false false c = refl
 
 pub larger-reach : (x y : Float) (n g : ℕ) → Plus x → Plus y → Reach x n g → Reach (maximumNumber x y) n g
 unfolding maximumNumber
