@@ -95,7 +95,7 @@ process-cut c a b s e =
     let s′ = piece-store a (measuring c s) in
     let r′ = piece-records a (measuring c s) (p .records) in
     let second : Room (m .calculator .samples) (m .calculator .records) (length b) (length (m .store)) =
-        record { records = omega (arith, n′, r′); samples = omega (arith, n′, p .samples); store = omega (arith, n′, s′, p .store) } in
+    record { records = omega (arith, n′, r′); samples = omega (arith, n′, p .samples); store = omega (arith, n′, s′, p .store) } in
     accepted-by c (a ++ b) s p
     ∙ ap (processOut Accepted) (foldl-append pushed (measuring c s) a b)
     ∙ sym (ap (λ (o : ProcessOut). processOf (o .calculator) b (o .store)) (accepted-by c a s first) ∙ accepted-by (m .calculator) b (m .store) second)

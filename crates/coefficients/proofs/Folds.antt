@@ -1,5 +1,5 @@
 -- A fold over one record more.
-use mathlib.Core.Path.{_≡_, refl, _∙_}
+use mathlib.Core.Path.{_≡_, refl, ap, _∙_}
 use mathlib.Core.List.{List, [], _∷_, _++_}
 use Prim.Native.Nat.{ℕ, zero, suc, _+_, _*_, _≤_, _<_}
 use native.Mathlib.Nat.{le-refl}
@@ -24,6 +24,12 @@ foldl-records f z s k = rw add-one (foldl-more f z (records s k) (recordAt s k))
 pub foldl-none : {S : Type 0} (f : S → Record → S) (z : S) (s : List Float) → foldl f z (records s 0) ≡ z
 unfolding records foldl
 foldl-none f z s = refl
+
+-- two steps that agree fold alike
+pub foldl-same : {S : Type 0} (f g : S → Record → S) (z : S) (rs : List Record) → ((s : S) (r : Record) → f s r ≡ g s r) → foldl f z rs ≡ foldl g z rs
+unfolding foldl
+foldl-same f g z [] e = refl
+foldl-same f g z (r ∷ rs) e = ap (λ (s : _). foldl f s rs) (e z r) ∙ foldl-same f g (g z r) rs e
 
 pub records-length : (s : List Float) (n : ℕ) → length (records s n) ≡ n
 unfolding records

@@ -93,11 +93,11 @@ copied-law h (suc k) p l =
     let t : length (take k D) ≡ k = length-take-le k D (omega arith) in
     let c = drop-cons h k (pos 0) (omega arith) in
     let v : getD (take k D ++ drop k h) (14 + k) (pos 0) ≡ getD D k (pos 0) =
-        ap (λ (i : ℕ). getD (take k D ++ drop k h) i (pos 0)) (add-comm 14 k ∙ ap (λ (i : ℕ). i + 14) (sym t))
-        ∙ getD-append-add (take k D) (drop k h) 14 (pos 0)
-        ∙ getD-drop k h 14 (pos 0)
-        ∙ ap (λ (i : ℕ). getD h i (pos 0)) (add-comm k 14)
-        ∙ sym (getD-drop 14 h k (pos 0)) in
+    ap (λ (i : ℕ). getD (take k D ++ drop k h) i (pos 0)) (add-comm 14 k ∙ ap (λ (i : ℕ). i + 14) (sym t))
+    ∙ getD-append-add (take k D) (drop k h) 14 (pos 0)
+    ∙ getD-drop k h 14 (pos 0)
+    ∙ ap (λ (i : ℕ). getD h i (pos 0)) (add-comm k 14)
+    ∙ sym (getD-drop 14 h k (pos 0)) in
     ap (λ (g : List ℤ). set g k (getD g (14 + k) (pos 0))) (copied-law h k p (omega arith))
     ∙ ap (set (take k D ++ drop k h) k) v
     ∙ ap (λ (g : List ℤ). set (take k D ++ g) k (getD D k (pos 0))) c

@@ -3,6 +3,7 @@ mod Samples
 mod Folds
 mod Picks
 mod Ends
+mod Hoists
 pub mod Measures
 pub mod Frames
 pub mod WholeRuns

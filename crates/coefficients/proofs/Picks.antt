@@ -11,8 +11,11 @@ use Rattle.coefficients.specs.declared.merging.Record.{Record}
 use Rattle.coefficients.specs.declared.merging.Vec3.{Vec3}
 use Rattle.coefficients.specs.declared.clusters.Best.{Best}
 use Rattle.coefficients.specs.declared.clusters.Tally.{Tally}
-use Rattle.coefficients.specs.Analysis.{contrast, mergeFinish}
-use Rattle.coefficients.specs.Clusters.{better, least, blank, joined, renewed, led, mean, doubled, beside}
+use Rattle.coefficients.specs.Analysis.{mergeFinish}
+use Rattle.coefficients.specs.Hoisted.{leastOf, recordTerms, joinedOf}
+use Rattle.coefficients.specs.declared.merging.RecordTerms.{RecordTerms}
+use Rattle.coefficients.specs.declared.merging.VectorTerms.{VectorTerms}
+use Rattle.coefficients.specs.Clusters.{better, blank, renewed, led, mean, doubled, beside}
 
 either-below : (q : Bool) (a b : Best) (m : ℕ) → a .index < m → b .index < m → cond q a b .index < m
 either-below true a b m p q = p
@@ -22,14 +25,10 @@ better-below : (b : Best) (t : Float) (i m : ℕ) → i < m → b .index < m →
 unfolding better
 better-below b t i m p q = either-below (lt t (b .value)) (record { value = t; index = i }) b m p q
 
-pub least-below : (vs : List Vec3) (r : Record) (k m : ℕ) → 0 < m → k ≤ m → least vs r k .index < m
-unfolding least
-least-below vs r zero m p h = p
-least-below vs r (suc k) m p h = better-below (least vs r k) _ k m (omega arith) (least-below vs r k m p (omega arith))
-
-pub least-more : (vs : List Vec3) (r : Record) (k : ℕ) → least vs r (k + 1) ≡ better (least vs r k) (contrast (getD vs k blank) r) k
-unfolding least
-least-more vs r k = rw add-one
+pub least-below : (vs : List VectorTerms) (t : RecordTerms) (k m : ℕ) → 0 < m → k ≤ m → leastOf vs t k .index < m
+unfolding leastOf
+least-below vs t zero m p h = p
+least-below vs t (suc k) m p h = better-below (leastOf vs t k) _ k m (omega arith) (least-below vs t k m p (omega arith))
 
 -- a bound on every element stays one after a store
 pub set-le : (xs : List ℕ) (j v m : ℕ) → v ≤ m → ((i : ℕ) → getD xs i 0 ≤ m) → (i : ℕ) → getD (set xs j v) i 0 ≤ m
@@ -40,10 +39,10 @@ set-le (x ∷ xs) (suc j) v m p h zero = h zero
 set-le (x ∷ xs) (suc j) v m p h (suc i) = set-le xs j v m p (λ k. h (suc k)) i
 
 -- one record more: each count rises by at most one
-pub joined-le : (vs : List Vec3) (n : ℕ) (t : Tally) (r : Record) (k : ℕ) → ((i : ℕ) → getD (t .counts) i 0 ≤ k) → (i : ℕ) → getD (joined vs n t r .counts) i 0 ≤ k + 1
-unfolding joined
+pub joined-le : (vs : List VectorTerms) (n : ℕ) (t : Tally) (r : Record) (k : ℕ) → ((i : ℕ) → getD (t .counts) i 0 ≤ k) → (i : ℕ) → getD (joinedOf vs n t r .counts) i 0 ≤ k + 1
+unfolding joinedOf
 joined-le vs n t r k h i =
-    let j = least vs r n .index in
+    let j = leastOf vs (recordTerms r) n .index in
     set-le (t .counts) j (getD (t .counts) j 0 + 1) (k + 1) (omega (arith, h j)) (λ q. omega (arith, h q)) i
 
 pub zeros-le : (n i k : ℕ) → getD (replicate n 0) i 0 ≤ k

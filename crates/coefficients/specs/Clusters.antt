@@ -31,10 +31,6 @@ unfoldable pub least : List Vec3 → Record → ℕ → Best
 least vs r zero = record { value = fE30; index = 0 }
 least vs r (suc k) = better (least vs r k) (contrast (getD vs k blank) r) k
 
-pub record Nearest (vs : List Vec3) (n : ℕ) (r : Record) (x : ℕ) : Type 0 where
-  pub value : x ≡ least vs r n .index
-  pub below : x < 8
-
 unfoldable pub plus3 : Vec3 → Vec3 → Vec3
 plus3 a b = record { x0 = a .x0 +f b .x0; x1 = a .x1 +f b .x1; x2 = a .x2 +f b .x2 }
 

@@ -5,6 +5,7 @@ pub mod Sums
 pub mod Analysis
 pub mod Store
 pub mod Clusters
+pub mod Hoisted
 pub mod Finish
 pub mod Measure
 pub mod Runs

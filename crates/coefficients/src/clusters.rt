@@ -3,10 +3,16 @@ ghost use mathlib.Core.Path.{_≡_};
 ghost use Prim.Native.Nat.{ℕ, _+_, _*_, _≤_, _<_};
 ghost use lib.ListN.{length, getD};
 ghost use Rattle.coefficients.specs.Clusters as Clusters;
-ghost use Rattle.coefficients.specs.Clusters.{Nearest};
+ghost use Rattle.coefficients.specs.Hoisted as Hoisted;
+ghost use Rattle.coefficients.specs.Hoisted.{Nearest};
 ghost use Rattle.coefficients.specs.Store.{records};
 use crate::merging::Record;
+use crate::merging::RecordTerms;
 use crate::merging::Vec3;
+use crate::merging::VectorTerms;
+use crate::merging::contrast_of;
+use crate::merging::record_terms;
+use crate::merging::vector_terms;
 
 pub(crate) struct Best {
     pub value: f64,
@@ -28,9 +34,29 @@ fn better(b: Best, t: f64, i: usize) -> Best
     }
 }
 
-pub(crate) fn nearest(vs: [Vec3; 8], n: usize, r: Record) -> usize
+// The terms of the first m vectors.
+fn all_terms(vs: [Vec3; 8], m: usize) -> [VectorTerms; 8]
+    requires { ⌜ m ≤ 8 ⌝ }
+    ensures { λ x. ⌜ x ≡ Hoisted.termsOf vs m ⌝ }
+{
+    let z = VectorTerms {
+        val1: 0.0,
+        val2: 0.0,
+        val3: 0.0,
+    };
+    let mut ts = [z; 8];
+    let mut i: usize = 0;
+    while i < m {
+        ts[i] = vector_terms(vs[i]);
+        i += 1;
+    }
+    ts
+}
+
+// The first of the n vectors of strictly least contrast below 1.0e30, or vector 0.
+fn nearest(ts: [VectorTerms; 8], n: usize, q: RecordTerms) -> usize
     requires { ⌜ n ≤ 8 ⌝ }
-    ensures { λ x. ⌜ Nearest vs n r x ⌝ }
+    ensures { λ x. ⌜ Nearest ts n q x ⌝ }
 {
     let mut b = Best {
         value: 1.0e30,
@@ -38,7 +64,7 @@ pub(crate) fn nearest(vs: [Vec3; 8], n: usize, r: Record) -> usize
     };
     let mut i: usize = 0;
     while i < n {
-        b = better(b, crate::merging::contrast_vectors(vs[i], r), i);
+        b = better(b, contrast_of(ts[i], q), i);
         i += 1;
     }
     b.index
@@ -54,15 +80,22 @@ fn plus3(a: Vec3, b: Vec3) -> Vec3
     }
 }
 
-pub(crate) fn joined(vs: [Vec3; 8], n: usize, t: Tally, r: Record) -> Tally
+// A record joins its vector.
+fn joined(ts: [VectorTerms; 8], n: usize, t: Tally, r: Record) -> Tally
     requires { ⌜ n ≤ 8 ⌝ }
     requires { ⌜ ((i : ℕ) → getD (t .counts) i 0 < 4294967295) ⌝ }
-    ensures { λ x. ⌜ x ≡ Clusters.joined vs n t r ⌝ }
+    ensures { λ x. ⌜ x ≡ Hoisted.joinedOf ts n t r ⌝ }
 {
-    let i = nearest(vs, n, r);
+    let q = record_terms(r);
+    let d = Vec3 {
+        x0: 1.0,
+        x1: q.d1,
+        x2: q.d2,
+    };
+    let i = nearest(ts, n, q);
     let mut u = t;
     u.counts[i] = u.counts[i] + 1;
-    u.sums[i] = plus3(u.sums[i], crate::merging::matrix_filter(r));
+    u.sums[i] = plus3(u.sums[i], d);
     u
 }
 
@@ -80,9 +113,10 @@ pub(crate) fn gather(vs: [Vec3; 8], m: usize, s: &[f64], n: usize) -> Tally
         counts: [0u32; 8],
         sums: [z; 8],
     };
+    let ts = all_terms(vs, m);
     let mut k: usize = 0;
     while k < n {
-        t = joined(vs, m, t, crate::store::read_record(s, k));
+        t = joined(ts, m, t, crate::store::read_record(s, k));
         k += 1;
     }
     t

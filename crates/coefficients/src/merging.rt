@@ -1,6 +1,7 @@
 // Records and vectors: what is made of each, and their contrast.
 ghost use mathlib.Core.Path.{_≡_};
 ghost use Rattle.coefficients.specs.Analysis as Analysis;
+ghost use Rattle.coefficients.specs.Hoisted as Hoisted;
 
 // A record: the two numbers that follow the leading 1.
 pub(crate) struct Record {
@@ -15,6 +16,22 @@ pub(crate) struct Vec3 {
     pub x2: f64,
 }
 
+// The parts of a contrast that depend on the vector alone.
+pub(crate) struct VectorTerms {
+    pub val1: f64,
+    pub val2: f64,
+    pub val3: f64,
+}
+
+// Those that depend on the record alone, and the two numbers that the record adds to a sum.
+pub(crate) struct RecordTerms {
+    pub twice: f64,
+    pub last: f64,
+    pub d1: f64,
+    pub d2: f64,
+}
+
+// x, or what stands for it where it is not within -1 and 1.
 pub(crate) fn held(x: f64) -> f64
     ensures { λ r. ⌜ r ≡ Analysis.held x ⌝ }
 {
@@ -38,20 +55,39 @@ pub(crate) fn finish_record(a: f64, b: f64) -> Record
     }
 }
 
-pub(crate) fn contrast_vectors(a: Vec3, b: Record) -> f64
-    ensures { λ r. ⌜ r ≡ Analysis.contrast a b ⌝ }
+// A vector's part in its contrast with a record.
+pub(crate) fn vector_terms(a: Vec3) -> VectorTerms
+    ensures { λ r. ⌜ r ≡ Hoisted.vectorTerms a ⌝ }
 {
-    let val = float::mul_add(b.v2, b.v1, -b.v1) / float::mul_add(b.v2, -b.v2, 1.0);
-    let val1 = float::mul_add(a.x2, a.x2, float::mul_add(a.x0, a.x0, a.x1 * a.x1));
-    let val2 = float::mul_add(a.x0, a.x1, a.x1 * a.x2);
-    let val3 = a.x0 * a.x2;
-    float::mul_add(
-        2.0 * float::mul_add(-b.v1, val, -b.v2),
-        val3,
-        float::mul_add(2.0 * val, val2, val1),
-    )
+    VectorTerms {
+        val1: float::mul_add(a.x2, a.x2, float::mul_add(a.x0, a.x0, a.x1 * a.x1)),
+        val2: float::mul_add(a.x0, a.x1, a.x1 * a.x2),
+        val3: a.x0 * a.x2,
+    }
 }
 
+// A record's part in its contrasts, and what matrix_filter makes of it.
+pub(crate) fn record_terms(b: Record) -> RecordTerms
+    ensures { λ r. ⌜ r ≡ Hoisted.recordTerms b ⌝ }
+{
+    let val = float::mul_add(b.v2, b.v1, -b.v1) / float::mul_add(b.v2, -b.v2, 1.0);
+    let d1 = val + 0.0;
+    RecordTerms {
+        twice: 2.0 * val,
+        last: 2.0 * float::mul_add(-b.v1, val, -b.v2),
+        d1,
+        d2: -b.v2 + float::mul_add(-b.v1, d1, 0.0),
+    }
+}
+
+// contrast_vectors of the two.
+pub(crate) fn contrast_of(v: VectorTerms, t: RecordTerms) -> f64
+    ensures { λ r. ⌜ r ≡ Hoisted.contrastOf v t ⌝ }
+{
+    float::mul_add(t.last, v.val3, float::mul_add(t.twice, v.val2, v.val1))
+}
+
+// What a record adds to the sums of its vector.
 pub(crate) fn matrix_filter(s: Record) -> Vec3
     ensures { λ r. ⌜ r ≡ Analysis.matrixFilter s ⌝ }
 {
@@ -68,6 +104,7 @@ pub(crate) fn matrix_filter(s: Record) -> Vec3
     }
 }
 
+// -x / val where val is above 0, and 0 where it is not.
 fn quotient(val: f64, x: f64) -> f64
     ensures { λ r. ⌜ r ≡ Analysis.quotient val x ⌝ }
 {

@@ -1,9 +1,12 @@
 -- `joined` meets its contract. Assumes nothing.
 use native.Mathlib.Omega.{arith}
+use Rattle.coefficients.specs.Hoisted.{joinedOf}
 use borrow.Author.Needs.{needs}
-use Rattle.coefficients.specs.Clusters.{joined}
 use Rattle.coefficients.proofs.clusters.joined.Statement.{statement}
 use Rattle.coefficients.proofs.clusters.joined.Tie as tie
+
+record-terms-requires : tie.Need-record-terms-requires
+record-terms-requires c κs = search needs
 
 nearest-requires : tie.Need-nearest-requires
 nearest-requires c κs = search needs
@@ -15,7 +18,7 @@ element-copy-out-u : tie.Need-element-copy-out-u
 element-copy-out-u c = search needs
 
 add-u : tie.Need-add-u
-add-u c = omega (arith, c .before .before .pre .1 (c .before .nearest .result))
+add-u c = omega (arith, c .before .before .before .pre .1 (c .before .nearest .result))
 
 mul-u-2 : tie.Need-mul-u-2
 mul-u-2 c = search needs
@@ -29,27 +32,26 @@ mul-plus3 c = search needs
 element-copy-out-plus3 : tie.Need-element-copy-out-plus3
 element-copy-out-plus3 c = search needs
 
-matrix-filter-requires : tie.Need-matrix-filter-requires
-matrix-filter-requires c κs = search needs
-
 plus3-requires : tie.Need-plus3-requires
 plus3-requires c κs = search needs
 
-mul-t12 : tie.Need-mul-t12
-mul-t12 c = search needs
+mul-t14 : tie.Need-mul-t14
+mul-t14 c = search needs
 
 element-set-from-u : tie.Need-element-set-from-u
 element-set-from-u c = search needs
 
 returns : tie.Need-returns
-unfolding joined
+unfolding joinedOf
 returns c =
-    simp (← c .before .before .before .before .nearest .ensures .value, ← c .before .matrix-filter .ensures, ← c .plus3 .ensures)
+    let q = c .before .before .before .before .record-terms .ensures in
+    simp (← q, ← c .before .before .before .nearest .ensures .value, ← c .plus3 .ensures)
 
 pub joined-spec : {M : Type 1} → statement M
 joined-spec =
     tie.close
     (tie.spec
+    record-terms-requires
     nearest-requires
     mul-u
     element-copy-out-u
@@ -58,8 +60,7 @@ joined-spec =
     element-write-u
     mul-plus3
     element-copy-out-plus3
-    matrix-filter-requires
     plus3-requires
-    mul-t12
+    mul-t14
     element-set-from-u
     returns)
