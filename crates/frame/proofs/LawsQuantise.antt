@@ -81,7 +81,7 @@ lz-size k m h =
     omega arith
 
 -- a number of more than 24 bits
-size-above : (m j : ℕ) → 2 ^ j ≤ m → j < size m
+pub size-above : (m j : ℕ) → 2 ^ j ≤ m → j < size m
 size-above m j h = go (decLe (size m) j)
   where
     bad : size m ≤ j → j < size m

@@ -1,5 +1,5 @@
 -- Laws of the scale search.
-use mathlib.Core.Path.{_≡_, refl, sym, ap, _∙_}
+use mathlib.Core.Path.{_≡_, refl, sym, ap, _∙_, subst}
 use mathlib.Core.Bool.{Bool, true, false, cond, _||_}
 use mathlib.Core.List.{List}
 use mathlib.Core.Logic.{_⊎_, inl, inr, ⊎-elim}
@@ -165,3 +165,57 @@ module _ (c0 c1 : ℤ) (h : History) (xs : List ℤ) where
   pub try-shape : Shape c0 c1 h xs 0 13 (tryCoefficients c0 c1 h xs)
   unfolding tryCoefficients
   try-shape = search-shape 13 (firstExponent c0 c1 h xs) 0 (omega (arith, first-le c0 c1 h xs))
+
+-- ---- what ends the search, where the coefficients are bounded and the samples are of 16 bits
+
+-- a pass that meets the end test at its own exponent
+pub record Found (c0 c1 : ℤ) (h : History) (xs : List ℤ) (c : Candidate) : Type 0 where
+  pub is : c ≡ finished (passOf c0 c1 h xs (c .exponent)) (c .exponent) (c .passes)
+  pub met : ends (c .exponent) (passOf c0 c1 h xs (c .exponent) .overflow) ≡ true
+
+module _ (c0 c1 : ℤ) (h : History) (xs : List ℤ) (b : Bounded c0 c1) (f : FitHistory h) (x : Fit 14 xs) where
+  found-more : (k p n q : ℕ) (t : Bool) → p ≤ 12 → q ≡ raised (passOf c0 c1 h xs p .overflow) p → ends q (passOf c0 c1 h xs p .overflow) ≡ t → (p ≤ q → q ≤ 11 → Found c0 c1 h xs (searchWithin k c0 c1 h xs (q + 1) (n + 1)))
+      → Found c0 c1 h xs (cond t (finished (passOf c0 c1 h xs p) q (n + 1)) (searchWithin k c0 c1 h xs (q + 1) (n + 1)))
+  unfolding finished
+  found-more k p n q true l e t r =
+      let s : p ≡ q = sym (stays c0 c1 h xs b f x p q l e t) in
+      record {
+        is = ap (λ (m : ℕ). finished (passOf c0 c1 h xs m) q (n + 1)) s;
+        met = subst (λ (m : ℕ). ends q (passOf c0 c1 h xs m .overflow) ≡ true) s t;
+      }
+  found-more k p n q false l e t r = let g = goes-on c0 c1 h xs b f x p q l e (not-twelve q (passOf c0 c1 h xs p .overflow) t) in r (g .0) (g .1)
+
+  pub search-found : (k p n : ℕ) → p ≤ 12 → 12 < k + p → Found c0 c1 h xs (searchWithin k c0 c1 h xs p n)
+  unfolding searchWithin
+  search-found zero p n l m = absurd (never m)
+    where
+      never : 12 < zero + p → ⊥
+      never m = omega arith
+  search-found (suc k) p n l m =
+      let o = passOf c0 c1 h xs p .overflow in
+      found-more k p n (raised o p) (ends (raised o p) o) l refl refl (λ u v. search-found k (raised o p + 1) (n + 1) (omega arith) (omega arith))
+
+  -- a larger bound changes nothing: the bound is never what ends the search
+  same-more : (j k p n q : ℕ) (t : Bool) → p ≤ 12 → q ≡ raised (passOf c0 c1 h xs p .overflow) p → ends q (passOf c0 c1 h xs p .overflow) ≡ t → (p ≤ q → q ≤ 11 → searchWithin (k + j) c0 c1 h xs (q + 1) (n + 1) ≡ searchWithin k c0 c1 h xs (q + 1) (n + 1))
+      → cond t (finished (passOf c0 c1 h xs p) q (n + 1)) (searchWithin (k + j) c0 c1 h xs (q + 1) (n + 1)) ≡ cond t (finished (passOf c0 c1 h xs p) q (n + 1)) (searchWithin k c0 c1 h xs (q + 1) (n + 1))
+  same-more j k p n q true l e t r = refl
+  same-more j k p n q false l e t r = let g = goes-on c0 c1 h xs b f x p q l e (not-twelve q (passOf c0 c1 h xs p .overflow) t) in r (g .0) (g .1)
+
+  pub search-bound : (j k p n : ℕ) → p ≤ 12 → 12 < k + p → searchWithin (k + j) c0 c1 h xs p n ≡ searchWithin k c0 c1 h xs p n
+  unfolding searchWithin
+  search-bound j zero p n l m = absurd (never m)
+    where
+      never : 12 < zero + p → ⊥
+      never m = omega arith
+  search-bound j (suc k) p n l m =
+      let o = passOf c0 c1 h xs p .overflow in
+      ap (λ (i : ℕ). searchWithin i c0 c1 h xs p n) (suc-add k j)
+      ∙ same-more j k p n (raised o p) (ends (raised o p) o) l refl refl (λ u v. search-bound j k (raised o p + 1) (n + 1) (omega arith) (omega arith))
+
+  pub try-found : Found c0 c1 h xs (tryCoefficients c0 c1 h xs)
+  unfolding tryCoefficients
+  try-found = search-found 13 (firstExponent c0 c1 h xs) 0 (omega (arith, first-le c0 c1 h xs)) (omega arith)
+
+  pub try-bound : (j : ℕ) → searchWithin (13 + j) c0 c1 h xs (firstExponent c0 c1 h xs) 0 ≡ tryCoefficients c0 c1 h xs
+  unfolding tryCoefficients
+  try-bound j = search-bound j 13 (firstExponent c0 c1 h xs) 0 (omega (arith, first-le c0 c1 h xs)) (omega arith)

@@ -6,4 +6,6 @@ pub mod LawsNibbles
 pub mod LawsSearch
 pub mod LawsChoice
 pub mod LawsFrame
+pub mod LawsEncoded
 pub mod LawsArrays
+pub mod LawsDistance

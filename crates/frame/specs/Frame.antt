@@ -41,6 +41,10 @@ packed b ns (suc k) = packed b ns k ++ (byteOf ns k ∷ [])
 unfoldable pub nibbleAt : List ℕ → ℕ → ℕ
 nibbleAt bs i = cond (eqb (i % 2) 0) (getD bs (suc (i / 2)) 0 / 16) (getD bs (suc (i / 2)) 0 % 16)
 
+-- "a nibble of 8 or more counts as itself less 16"
+unfoldable pub signedNibble : ℕ → ℤ
+signedNibble n = cond (ltb n 8) (pos n) (pos n -ℤ pos 16)
+
 -- `encode_frame`: bytes, passes and reconstructed samples of the frame xs after the history h
 unfoldable pub encodeFrame : History → List ℤ → List ℤ → EncodedFrame
 encodeFrame h xs cs =
