@@ -15,9 +15,10 @@ use mir.Syntax.{w16}
 use mir.Val.{SFits}
 use Rattle.whole.specs.Whole.{towardsZero}
 use Rattle.whole.proofs.Values.{abs-add, abs-mul, abs-sfits}
+use Rattle.whole.proofs.Differences.{diff-pos, diff-sub, diff-eq}
 use Rattle.whole.proofs.Laws.{clamp-fits}
 use Rattle.frame.specs.declared.History.{History}
-use Rattle.frame.specs.Estimate.{weighted, difference, larger, isLowest, look, estimate, isSmall, halvingsWithin, halvings, firstExponent}
+use Rattle.frame.specs.Estimate.{weighted, difference, larger, isLowest, look, estimate, isSmall, halvingsWithin, halvings, maxZ, exponentOf, firstExponent}
 
 -- ---- sizes
 
@@ -134,7 +135,16 @@ pub halvings-end : (z : ℤ) → SFits w16 z → halvings z ≤ 12
 unfolding halvings
 halvings-end z f = halve-le 13 12 z (let h = f .sfits in omega arith)
 
+-- max(h−2, −1) + 1 is h less one, or 0
+pub exponent-is : (h : ℕ) → exponentOf h ≡ h - 1
+unfolding exponentOf maxZ
+exponent-is zero = refl
+exponent-is (suc zero) = refl
+exponent-is (suc (suc n)) =
+    let e : pos (suc (suc n)) -ℤ pos 2 ≡ pos n = diff-eq (diff-sub (diff-pos (suc (suc n))) (diff-pos 2)) (diff-pos n) (omega arith) in
+    ap (λ (z : ℤ). natAbs (cond (ltZ z (negsuc 0)) (negsuc 0) z +ℤ pos 1)) e ∙ omega arith
+
 -- the first exponent is 0 to 11
 pub first-le : (c0 c1 : ℤ) (h : History) (xs : List ℤ) → firstExponent c0 c1 h xs ≤ 11
 unfolding firstExponent
-first-le c0 c1 h xs = omega (arith, halvings-end (estimate c0 c1 h xs) (estimate-fits c0 c1 h xs))
+first-le c0 c1 h xs = omega (arith, exponent-is (halvings (estimate c0 c1 h xs)), halvings-end (estimate c0 c1 h xs) (estimate-fits c0 c1 h xs))

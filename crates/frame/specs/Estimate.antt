@@ -50,6 +50,13 @@ halvingsWithin (suc k) z = cond (isSmall z) zero (suc (halvingsWithin k (towards
 unfoldable pub halvings : ℤ → ℕ
 halvings z = halvingsWithin 13 z
 
--- "The first pass has exponent p = max(h−2, −1) + 1", which is h less 1, or 0 (`first-exponent-is`)
+-- the larger of two numbers
+unfoldable pub maxZ : ℤ → ℤ → ℤ
+maxZ a b = cond (ltZ a b) b a
+
+-- "The first pass has exponent p = max(h−2, −1) + 1"
+unfoldable pub exponentOf : ℕ → ℕ
+exponentOf h = natAbs (maxZ (pos h -ℤ pos 2) (negsuc 0) +ℤ pos 1)
+
 unfoldable pub firstExponent : ℤ → ℤ → History → List ℤ → ℕ
-firstExponent c0 c1 h xs = halvings (estimate c0 c1 h xs) - 1
+firstExponent c0 c1 h xs = exponentOf (halvings (estimate c0 c1 h xs))

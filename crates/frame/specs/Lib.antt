@@ -5,3 +5,4 @@ pub mod Pass
 pub mod Search
 pub mod Choice
 pub mod Frame
+pub mod Worked

@@ -4,7 +4,8 @@ use mathlib.Core.Path.{_≡_, ap, _∙_}
 use native.Mathlib.Omega.{arith}
 use mir.Syntax.{w16}
 use mir.Facts.{toZ-ofZ}
-use Rattle.frame.specs.Estimate.{estimate, halvings, firstExponent}
+use Rattle.frame.specs.Estimate.{estimate, halvings, exponentOf, firstExponent}
+use Rattle.frame.proofs.LawsEstimate.{exponent-is}
 use Rattle.frame.proofs.estimate.first_exponent.Statement.{statement}
 use Rattle.frame.proofs.estimate.first_exponent.Tie as tie
 
@@ -22,14 +23,14 @@ count-halvings-requires c κs = search needs
 
 returns : tie.Need-returns
 unfolding firstExponent
-returns c = omega (arith, count (c .before))
+returns c = omega (arith, count (c .before), exponent-is (c .before .count-halvings .result), ap exponentOf (count (c .before)))
 
 sub-result : tie.Need-sub-result
 sub-result c = search needs
 
 returns-2 : tie.Need-returns-2
 unfolding firstExponent
-returns-2 c = omega (arith, count (c .before))
+returns-2 c = omega (arith, exponent-is (c .before .count-halvings .result), ap exponentOf (count (c .before)))
 
 pub first-exponent-spec : {M : Type 1} → statement M
 first-exponent-spec =
