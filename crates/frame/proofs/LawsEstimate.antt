@@ -1,0 +1,150 @@
+-- Laws of the estimate: sizes, the look over the samples, the halvings and the first exponent.
+use mathlib.Core.Path.{_≡_, refl, sym, ap, _∙_, subst}
+use mathlib.Core.Bool.{Bool, true, false, cond}
+use mathlib.Core.List.{List}
+use Prim.Native.Nat.{ℕ, zero, suc, _+_, _-_, _*_, _/_, _^_, _≤_, _<_}
+use native.Mathlib.Nat.{mul-le-mul, le-trans, pow-suc}
+use native.Mathlib.Numerals.{add-one}
+use native.Mathlib.Omega.{arith}
+use lib.Dec.{T, ltb}
+use lib.IntN.{ℤ, pos, negsuc, negℤ, natAbs, subℕ, _+ℤ_, _-ℤ_, _*ℤ_}
+use lib.ListN.{getD}
+use lib.Signed.{mag, ltZ, quotZ}
+use borrow.Author.Tests.{lt-ltb, le-ltb, ltb-true, ltb-false}
+use mir.Syntax.{w16}
+use mir.Val.{SFits}
+use Rattle.whole.specs.Whole.{towardsZero}
+use Rattle.whole.proofs.Values.{abs-add, abs-mul, abs-sfits}
+use Rattle.whole.proofs.Differences.{diff-pos, diff-sub, diff-eq}
+use Rattle.whole.proofs.Laws.{clamp-fits}
+use Rattle.frame.specs.declared.History.{History}
+use Rattle.frame.specs.Estimate.{weighted, difference, larger, isLowest, look, estimate, isSmall, halvingsWithin, halvings, maxZ, exponentOf, firstExponent}
+
+-- ---- sizes
+
+pub weighted-any : (c0 c1 s0 s1 : ℤ) → SFits w16 c0 → SFits w16 c1 → SFits w16 s0 → SFits w16 s1 → natAbs (weighted c0 c1 s0 s1) ≤ 2147483648
+unfolding weighted
+weighted-any c0 c1 s0 s1 f g h k =
+    let a : natAbs c0 * natAbs s0 ≤ 32768 * 32768 = mul-le-mul (abs-sfits f) (abs-sfits h) in
+    let b : natAbs c1 * natAbs s1 ≤ 32768 * 32768 = mul-le-mul (abs-sfits g) (abs-sfits k) in
+    omega (arith, abs-add (c0 *ℤ s0) (c1 *ℤ s1), abs-mul c0 s0, abs-mul c1 s1)
+
+pub difference-fits : (c0 c1 s0 s1 x : ℤ) → SFits w16 (difference c0 c1 s0 s1 x)
+unfolding difference
+difference-fits c0 c1 s0 s1 x = clamp-fits (x -ℤ towardsZero (weighted c0 c1 s0 s1) 2048)
+
+pub larger-yes : (d e : ℤ) → natAbs d < natAbs e → e ≡ larger d e
+unfolding larger
+larger-yes d e h = rw (lt-ltb _ _ h)
+
+pub larger-no : (d e : ℤ) → natAbs e ≤ natAbs d → d ≡ larger d e
+unfolding larger
+larger-no d e h = rw (le-ltb _ _ h)
+
+fits-either : (t : Bool) {a b : ℤ} → SFits w16 a → SFits w16 b → SFits w16 (cond t a b)
+fits-either true f g = f
+fits-either false f g = g
+
+pub larger-fits : (d e : ℤ) → SFits w16 d → SFits w16 e → SFits w16 (larger d e)
+unfolding larger
+larger-fits d e f g = fits-either (ltb (natAbs d) (natAbs e)) g f
+
+-- ---- the look, from place i on
+module _ (c0 c1 d p b : ℤ) (xs : List ℤ) (i : ℕ) (E : ℤ) (h : i < 14) (inv : look c0 c1 xs (14 - i) i d p b ≡ E) where
+  one : 14 - i ≡ suc (14 - (i + 1))
+  one = omega arith
+
+  pub look-more : isLowest (difference c0 c1 p b (getD xs i (pos 0))) ≡ false → look c0 c1 xs (14 - (i + 1)) (i + 1) (larger d (difference c0 c1 p b (getD xs i (pos 0)))) (getD xs i (pos 0)) p ≡ E
+  unfolding look
+  look-more e = ap (λ (j : ℕ). look c0 c1 xs (14 - (i + 1)) j (larger d (difference c0 c1 p b (getD xs i (pos 0)))) (getD xs i (pos 0)) p) (add-one i) ∙ sym (ap (λ (k : ℕ). look c0 c1 xs k i d p b) one ∙ rw e) ∙ inv
+
+  pub look-low : isLowest (difference c0 c1 p b (getD xs i (pos 0))) ≡ true → difference c0 c1 p b (getD xs i (pos 0)) ≡ E
+  unfolding look
+  look-low e = sym (ap (λ (k : ℕ). look c0 c1 xs k i d p b) one ∙ rw e) ∙ inv
+
+pub look-end : (c0 c1 d p b : ℤ) (xs : List ℤ) (i : ℕ) (E : ℤ) → 14 ≤ i → look c0 c1 xs (14 - i) i d p b ≡ E → d ≡ E
+unfolding look
+look-end c0 c1 d p b xs i E h inv =
+    let none : 14 - i ≡ 0 = omega arith in
+    sym (ap (λ (k : ℕ). look c0 c1 xs k i d p b) none) ∙ inv
+
+pub look-fits : (c0 c1 : ℤ) (xs : List ℤ) (k i : ℕ) (d p b : ℤ) → SFits w16 d → SFits w16 (look c0 c1 xs k i d p b)
+unfolding look
+look-fits c0 c1 xs zero i d p b f = f
+look-fits c0 c1 xs (suc k) i d p b f =
+    let x = getD xs i (pos 0) in
+    let e = difference c0 c1 p b x in
+    fits-either (isLowest e) (difference-fits c0 c1 p b x) (look-fits c0 c1 xs k (suc i) (larger d e) x p (larger-fits d e f (difference-fits c0 c1 p b x)))
+
+pub estimate-fits : (c0 c1 : ℤ) (h : History) (xs : List ℤ) → SFits w16 (estimate c0 c1 h xs)
+unfolding estimate
+estimate-fits c0 c1 h xs = look-fits c0 c1 xs 14 0 (pos 0) (h .newest) (h .older) (record { sfits = omega arith })
+
+-- ---- the halvings
+pub halve-more : (k : ℕ) (z : ℤ) → isSmall z ≡ false → halvingsWithin (suc k) z ≡ suc (halvingsWithin k (quotZ z (pos 2)))
+unfolding halvingsWithin
+halve-more k z e = rw e
+
+pub halve-done : (k : ℕ) (z : ℤ) → isSmall z ≡ true → halvingsWithin k z ≡ 0
+unfolding halvingsWithin
+halve-done zero z e = refl
+halve-done (suc k) z e = rw e
+
+pub halve-step : (h : ℕ) (z : ℤ) (n : ℕ) → h < 13 → isSmall z ≡ false → h + halvingsWithin (13 - h) z ≡ n → (h + 1) + halvingsWithin (13 - (h + 1)) (quotZ z (pos 2)) ≡ n
+halve-step h z n lt e i =
+    let m : 13 - h ≡ suc (13 - (h + 1)) = omega arith in
+    let s : halvingsWithin (13 - h) z ≡ suc (halvingsWithin (13 - (h + 1)) (quotZ z (pos 2))) = ap (λ (k : ℕ). halvingsWithin k z) m ∙ halve-more (13 - (h + 1)) z e in
+    omega arith
+
+pub halve-left : (h : ℕ) (z : ℤ) (n : ℕ) → h ≤ 13 → 13 ≤ h → h + halvingsWithin (13 - h) z ≡ n → h ≡ n
+unfolding halvingsWithin
+halve-left h z n p q i =
+    let m : 13 - h ≡ 0 = omega arith in
+    let s : halvingsWithin (13 - h) z ≡ 0 = ap (λ (k : ℕ). halvingsWithin k z) m in
+    omega arith
+
+pub halve-stop : (h : ℕ) (z : ℤ) (n : ℕ) → isSmall z ≡ true → h + halvingsWithin (13 - h) z ≡ n → h ≡ n
+halve-stop h z n e i = omega (arith, halve-done (13 - h) z e)
+
+-- a number below 8 * 2^k in magnitude (−8 * 2^k too) is small after k halvings at most
+half-mag : (z : ℤ) (n : ℕ) → mag z < n * 2 → mag (quotZ z (pos 2)) < n
+half-mag (pos a) n h = omega arith
+half-mag (negsuc a) n h = go (suc a / 2) (omega arith)
+  where
+    go : (r : ℕ) → r ≤ n → mag (negℤ (pos r)) < n
+    go zero l = omega arith
+    go (suc r) l = omega arith
+
+small-mag : (z : ℤ) → mag z < 8 → isSmall z ≡ true
+unfolding isSmall
+small-mag (pos n) h = lt-ltb n 8 h
+small-mag (negsuc n) h = rw (lt-ltb n 8 h)
+
+pub halve-le : (m k : ℕ) (z : ℤ) → mag z < 8 * 2 ^ k → halvingsWithin m z ≤ k
+unfolding halvingsWithin
+halve-le zero k z h = omega arith
+halve-le (suc m) zero z h = rw (small-mag z h) (omega arith)
+halve-le (suc m) (suc k) z h = go (isSmall z) (halve-le m k (quotZ z (pos 2)) (half-mag z (8 * 2 ^ k) (omega (arith, pow-suc 2 k))))
+  where
+    go : (t : Bool) → halvingsWithin m (quotZ z (pos 2)) ≤ k → cond t zero (suc (halvingsWithin m (quotZ z (pos 2)))) ≤ suc k
+    go true l = omega arith
+    go false l = omega arith
+
+-- a number of 16 bits needs 12 halvings at most, so the bound of 13 never ends them
+pub halvings-end : (z : ℤ) → SFits w16 z → halvings z ≤ 12
+unfolding halvings
+halvings-end z f = halve-le 13 12 z (let h = f .sfits in omega arith)
+
+-- max(h−2, −1) + 1 is h less one, or 0
+pub exponent-is : (h : ℕ) → exponentOf h ≡ h - 1
+unfolding exponentOf maxZ
+exponent-is zero = refl
+exponent-is (suc zero) = refl
+exponent-is (suc (suc n)) =
+    let e : pos (suc (suc n)) -ℤ pos 2 ≡ pos n = diff-eq (diff-sub (diff-pos (suc (suc n))) (diff-pos 2)) (diff-pos n) (omega arith) in
+    ap (λ (z : ℤ). natAbs (cond (ltZ z (negsuc 0)) (negsuc 0) z +ℤ pos 1)) e ∙ omega arith
+
+-- the first exponent is 0 to 11
+pub first-le : (c0 c1 : ℤ) (h : History) (xs : List ℤ) → firstExponent c0 c1 h xs ≤ 11
+unfolding firstExponent
+first-le c0 c1 h xs = omega (arith, exponent-is (halvings (estimate c0 c1 h xs)), halvings-end (estimate c0 c1 h xs) (estimate-fits c0 c1 h xs))

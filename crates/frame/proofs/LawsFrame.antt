@@ -1,0 +1,88 @@
+-- Laws of the encoded frame.
+use mathlib.Core.Path.{_≡_, refl, sym, ap, _∙_, subst}
+use mathlib.Core.Bool.{Bool, true, false, cond, _&&_}
+use mathlib.Core.List.{List, [], _∷_}
+use Prim.Native.Nat.{ℕ, zero, suc, _+_, _-_, _*_, _≤_, _<_}
+use native.Mathlib.Numerals.{add-one}
+use native.Mathlib.Nat.{lt-of-not-le}
+use native.Mathlib.Decide.{decLe}
+use native.Mathlib.Omega.{arith}
+use lib.Dec.{leb}
+use borrow.Author.Tests.{leb-true}
+use lib.IntN.{ℤ, pos, natAbs}
+use lib.ListN.{getD}
+use Rattle.frame.specs.declared.History.{History}
+use Rattle.frame.specs.Pass.{Bounded}
+use Rattle.frame.specs.Choice.{c0At, c1At, AllBounded}
+use Rattle.frame.specs.Frame.{preceded, historyAfter, pairWithin, within, withinLimits}
+
+-- ---- the history after m samples
+pub history-none : (h : History) (xs : List ℤ) → h ≡ historyAfter h xs 0
+unfolding historyAfter preceded
+history-none h xs = refl
+
+pub history-one : (h : History) (xs : List ℤ) (m : ℕ) → m ≡ 1 → _≡_ {A = History} (record { newest = getD xs (m - 1) (pos 0); older = h .newest }) (historyAfter h xs m)
+unfolding historyAfter preceded
+history-one h xs m e = rw e
+
+pub history-more : (h : History) (xs : List ℤ) (m : ℕ) → 2 ≤ m → _≡_ {A = History} (record { newest = getD xs (m - 1) (pos 0); older = getD xs (m - 2) (pos 0) }) (historyAfter h xs m)
+unfolding historyAfter preceded
+history-more h xs zero l = absurd (no l)
+  where
+    no : 2 ≤ 0 → ⊥
+    no l = omega arith
+history-more h xs (suc zero) l = absurd (no l)
+  where
+    no : 2 ≤ 1 → ⊥
+    no l = omega arith
+history-more h xs (suc (suc k)) l =
+    let a : suc (suc k) - 1 ≡ suc k = omega arith in
+    let b : suc (suc k) - 2 ≡ k = omega arith in
+    rw (a, b)
+
+-- ---- the limits
+and-false : (a : Bool) → a && false ≡ false
+and-false true = refl
+and-false false = refl
+
+and-true : (a : Bool) → a && true ≡ a
+and-true true = refl
+and-true false = refl
+
+pub within-bad : (cs : List ℤ) (i : ℕ) → pairWithin (c0At cs i) (c1At cs i) ≡ false → false ≡ within cs (i + 1)
+unfolding within
+within-bad cs i e = rw (add-one, e) (sym (and-false (within cs i)))
+
+pub within-good : (cs : List ℤ) (i : ℕ) → pairWithin (c0At cs i) (c1At cs i) ≡ true → within cs i ≡ within cs (i + 1)
+unfolding within
+within-good cs i e = rw (add-one, e) (sym (and-true (within cs i)))
+
+both : (a b : Bool) → a && b ≡ true → (a ≡ true) × (b ≡ true)
+both true b e = (refl, e)
+both false b e = absurd (subst (λ (t : Bool). cond t ⊥ Unit) e tt)
+
+pub pair-bounded : (c0 c1 : ℤ) → pairWithin c0 c1 ≡ true → Bounded c0 c1
+unfolding pairWithin
+pair-bounded c0 c1 e =
+    let t = both (leb (natAbs c0) 4096) (leb (natAbs c1) 2048) e in
+    record { sum = omega (arith, leb-true (natAbs c0) 4096 (t .0), leb-true (natAbs c1) 2048 (t .1)) }
+
+pub within-pair : (cs : List ℤ) (k i : ℕ) → i < k → within cs k ≡ true → pairWithin (c0At cs i) (c1At cs i) ≡ true
+unfolding within
+within-pair cs zero i l e = absurd (never i l)
+  where
+    never : (i : ℕ) → i < 0 → ⊥
+    never i l = omega arith
+within-pair cs (suc k) i l e = go (decLe k i) (within-pair cs k i)
+  where
+    t : (within cs k ≡ true) × (pairWithin (c0At cs k) (c1At cs k) ≡ true)
+    t = both (within cs k) (pairWithin (c0At cs k) (c1At cs k)) e
+
+    go : Dec (k ≤ i) → (i < k → within cs k ≡ true → pairWithin (c0At cs i) (c1At cs i) ≡ true) → pairWithin (c0At cs i) (c1At cs i) ≡ true
+    go (yes m) r = let x : k ≡ i = omega arith in subst (λ (j : ℕ). pairWithin (c0At cs j) (c1At cs j) ≡ true) x (t .1)
+    go (no m) r = r (lt-of-not-le m) (t .0)
+
+-- document 01's two limits are inside the limit that the arithmetic has room for
+pub limits-bounded : (cs : List ℤ) → withinLimits cs ≡ true → AllBounded cs
+unfolding withinLimits
+limits-bounded cs e = record { pair = λ i l. pair-bounded (c0At cs i) (c1At cs i) (within-pair cs 8 i l e) }

@@ -1,0 +1,257 @@
+-- Laws of quantising: leading zeros as a number's size, the 24-bit rounding, division to the nearest, the nibble's clamp.
+use mathlib.Core.Path.{_≡_, refl, sym, ap, ap₂, _∙_, subst}
+use mathlib.Core.Bool.{Bool, true, false, not, cond}
+use Prim.Native.Nat.{ℕ, zero, suc, _+_, _-_, _*_, _/_, _%_, _^_, _≤_, _<_, compare, Ordering, Ordering·lt, Ordering·eq, Ordering·gt}
+use native.Mathlib.Nat.{le-trans, le-refl, lt-of-le-of-lt, lt-of-lt-of-le, suc-mul, mul-le-mul-right, div-mul-le-self, div-le-self, pow-suc, mul-comm, one-mul, mod-eq-of-lt, mod-lt, mod-one, div-one, mul-one, div-add-mod', div-eq-of-lt-le, mod-eq-sub-div-mul, lt-of-not-le, le-of-eq}
+use native.Mathlib.Decide.{decLe}
+use native.Mathlib.Omega.{arith}
+use lib.Dec.{T, isLe, isEq, eqb, leb→le, nleb→lt, eqb→eq, eqb-refl, ltb, lit<}
+use lib.Pow.{pow-mono, pow-pos, pow-add}
+use lib.Count.{leadingZeros, leading-unique}
+use lib.IntN.{ℤ, pos, negsuc, negℤ, natAbs, _-ℤ_, +ℤ-idl}
+use lib.Signed.{ltZ}
+use borrow.Author.Tests.{ltb-true, ltb-false, lt-ltb, le-ltb}
+use lib.Ieee.{size, nearest}
+use lib.Ieee.Fits.{nearest-le}
+use lib.Ieee.Digits.{size-lt, size-reaches, size-le}
+use lib.Ieee.Nearest.{closest}
+use Rattle.whole.proofs.Values.{abs-neg}
+use Rattle.whole.proofs.Differences.{diff-of, diff-pos, diff-neg, diff-sub, diff-lt, diff-abs, abs-diff, over, under}
+use Rattle.frame.specs.Quantise.{unit24, round24, scale, nearestDown, signed, quantised, clamp4}
+
+-- ---- `compare` from an order
+module _ (a b : ℕ) where
+  pub cmp-lt : a < b → compare a b ≡ Ordering·lt
+  cmp-lt h = go (compare a b) (nleb→lt a b) (eqb→eq a b)
+    where
+      go : (o : Ordering) → (T (not (isLe o)) → b < a) → (T (isEq o) → a ≡ b) → o ≡ Ordering·lt
+      go Ordering·lt k e = refl
+      go Ordering·eq k e = absurd (clash (e tt))
+        where
+          clash : a ≡ b → ⊥
+          clash q = omega arith
+      go Ordering·gt k e = absurd (clash (k tt))
+        where
+          clash : b < a → ⊥
+          clash q = omega arith
+
+  pub cmp-gt : b < a → compare a b ≡ Ordering·gt
+  cmp-gt h = go (compare a b) (leb→le a b)
+    where
+      clash : a ≤ b → ⊥
+      clash q = omega arith
+
+      go : (o : Ordering) → (T (isLe o) → a ≤ b) → o ≡ Ordering·gt
+      go Ordering·lt k = absurd (clash (k tt))
+      go Ordering·eq k = absurd (clash (k tt))
+      go Ordering·gt k = refl
+
+  pub cmp-eq : a ≡ b → compare a b ≡ Ordering·eq
+  cmp-eq h = go (compare a b) (subst (λ (x : ℕ). T (eqb a x)) h (eqb-refl a))
+    where
+      go : (o : Ordering) → T (isEq o) → o ≡ Ordering·eq
+      go Ordering·lt t = absurd t
+      go Ordering·eq t = refl
+      go Ordering·gt t = absurd t
+
+-- ---- shifts
+pub shl-is : (a p k : ℕ) → p ≤ k → T (ltb (a * 2 ^ k) 18446744073709551616) → (a * 2 ^ p) % 18446744073709551616 ≡ a * 2 ^ p
+shl-is a p k h t =
+    let l : 2 ^ p * a ≤ 2 ^ k * a = mul-le-mul-right a (pow-mono h) in
+    let b : a * 2 ^ k < 18446744073709551616 = lit< t in
+    mod-eq-of-lt (lt-of-le-of-lt (le-trans (le-of-eq (mul-comm a (2 ^ p))) (le-trans l (le-of-eq (mul-comm (2 ^ k) a)))) b)
+
+pub one-shl : (p k : ℕ) → p ≤ k → T (ltb (1 * 2 ^ k) 18446744073709551616) → (1 * 2 ^ p) % 18446744073709551616 ≡ 2 ^ p
+one-shl p k h t = shl-is 1 p k h t ∙ one-mul (2 ^ p)
+
+pub left-over : (m u : ℕ) → m - m / u * u ≡ m % u
+left-over m u = sym (mod-eq-sub-div-mul m u)
+
+-- ---- leading zeros: with the size they make the width
+size-twice : (m n : ℕ) → size m ≡ n → 2 ^ n ≤ 2 * m + 1
+size-twice m zero e = omega arith
+size-twice m (suc j) e =
+    let r : 2 ^ j ≤ m = size-reaches m j (omega arith) in
+    omega (arith, pow-suc 2 j)
+
+pub lz-size : (k m : ℕ) → m < 2 ^ k → leadingZeros k m + size m ≡ k
+lz-size k m h =
+    let s : size m ≤ k = size-le m k h in
+    let u : k - size m ≡ leadingZeros k m = leading-unique k m (k - size m) (size m) (omega arith) (size-lt m) (size-twice m (size m) refl) in
+    omega arith
+
+-- a number of more than 24 bits
+pub size-above : (m j : ℕ) → 2 ^ j ≤ m → j < size m
+size-above m j h = go (decLe (size m) j)
+  where
+    bad : size m ≤ j → j < size m
+    bad l =
+        let a : 2 ^ size m ≤ 2 ^ j = pow-mono l in
+        let b : m < 2 ^ size m = size-lt m in
+        omega arith
+
+    go : Dec (size m ≤ j) → j < size m
+    go (yes l) = bad l
+    go (no l) = lt-of-not-le l
+
+pub digits-dropped : (m : ℕ) → m ≤ 2147483648 → 16777216 ≤ m → (leadingZeros 64 m ≤ 40) × (40 - leadingZeros 64 m ≡ size m - 24) × (40 - leadingZeros 64 m ≤ 8)
+digits-dropped m h g =
+    let l : leadingZeros 64 m + size m ≡ 64 = lz-size 64 m (omega arith) in
+    let a : 24 < size m = size-above m 24 g in
+    let b : size m ≤ 32 = size-le m 32 (omega arith) in
+    (omega arith, omega arith, omega arith)
+
+-- ---- the 24-bit rounding
+pub unit-le : (m : ℕ) → m ≤ 2147483648 → unit24 m ≤ 256
+unfolding unit24
+unit-le m h =
+    let s : size m ≤ 32 = size-le m 32 (omega arith) in
+    let k : size m - 24 ≤ 8 = omega arith in
+    pow-mono k
+
+pub unit-pos : (m : ℕ) → 0 < unit24 m
+unfolding unit24
+unit-pos m = pow-pos (size m - 24)
+
+-- a number of at most 24 bits stays
+pub round-same : (m : ℕ) → m < 16777216 → m ≡ round24 m
+unfolding round24 unit24
+round-same m h =
+    let s : size m ≤ 24 = size-le m 24 h in
+    let e : size m - 24 ≡ 0 = omega arith in
+    rw (e, div-one, mod-one) (sym (mul-one m))
+
+pub round-is : (m k q u : ℕ) → k ≡ size m - 24 → q ≡ closest m (2 ^ k) → u ≡ 2 ^ k → q * u ≡ round24 m
+unfolding round24 unit24
+round-is m k q u e f g = rw (f, g, e)
+
+pub closest-mul : (m u : ℕ) → closest m u * u ≤ m + u
+closest-mul m u =
+    let a : closest m u * u ≤ suc (m / u) * u = mul-le-mul-right u (nearest-le (m / u) (compare (m % u * 2) u)) in
+    omega (arith, a, suc-mul (m / u) u, div-mul-le-self m u)
+
+pub round24-le : (m : ℕ) → m ≤ 2147483648 → round24 m ≤ m + 256
+unfolding round24
+round24-le m h = omega (arith, closest-mul m (unit24 m), unit-le m h)
+
+-- ---- to the nearest, halves downwards
+pub down-is : (m s h : ℕ) → 0 < h → s ≡ h + h → ((m + h) - 1) / s ≡ nearestDown m s
+unfolding nearestDown
+down-is m s h p e = go (ltb s (m % s * 2)) refl
+  where
+    m-is : m / s * s + m % s ≡ m
+    m-is = div-add-mod' m s
+
+    left : m % s < s
+    left = mod-lt m (omega arith)
+
+    more : (q : ℕ) → (q + 1) * s ≡ q * s + s
+    more q = omega arith
+
+    twice : (q : ℕ) → (q + 1 + 1) * s ≡ q * s + s + s
+    twice q = omega arith
+
+    go : (t : Bool) → ltb s (m % s * 2) ≡ t → ((m + h) - 1) / s ≡ cond t (m / s + 1) (m / s)
+    go true f =
+        let l = ltb-true s (m % s * 2) f in
+        div-eq-of-lt-le s (omega (arith, m-is, more (m / s))) (omega (arith, m-is, left, twice (m / s)))
+    go false f =
+        let l = ltb-false s (m % s * 2) f in
+        div-eq-of-lt-le s (omega (arith, m-is)) (omega (arith, m-is, left, more (m / s)))
+
+pub scale-is : (p : ℕ) → 2 ^ (p + 11) ≡ scale p
+scale-is p = pow-add 2 p 11 ∙ mul-comm (2 ^ p) 2048
+
+pub scale-le : (p : ℕ) → p ≤ 12 → scale p ≤ 8388608
+scale-le p h = let l : 2 ^ p ≤ 4096 = pow-mono h in omega arith
+
+pub scale-pos : (p : ℕ) → 0 < scale p
+scale-pos p = omega (arith, pow-pos p)
+
+pick-le : (t : Bool) (a b n : ℕ) → a ≤ n → b ≤ n → cond t a b ≤ n
+pick-le true a b n p q = p
+pick-le false a b n p q = q
+
+pub down-le : (m s : ℕ) → nearestDown m s ≤ m + 1
+unfolding nearestDown
+down-le m s = pick-le (ltb s (m % s * 2)) (m / s + 1) (m / s) (m + 1) (omega (arith, div-le-self m s)) (omega (arith, div-le-self m s))
+
+-- ---- the sign
+pub signed-neg : (z : ℤ) (n : ℕ) → ltZ z (pos 0) ≡ true → pos 0 -ℤ pos n ≡ signed z n
+signed-neg (pos k) n e = absurd (never k (ltb-true k 0 e))
+  where
+    never : (k : ℕ) → k < 0 → ⊥
+    never k h = omega arith
+signed-neg (negsuc k) n e = +ℤ-idl (negℤ (pos n))
+
+pub signed-pos : (z : ℤ) (n : ℕ) → ltZ z (pos 0) ≡ false → pos n ≡ signed z n
+signed-pos (pos k) n e = refl
+signed-pos (negsuc k) n e = absurd (subst T e tt)
+
+pub signed-size : (z : ℤ) (n : ℕ) → natAbs (signed z n) ≡ n
+signed-size (pos k) n = refl
+signed-size (negsuc k) n = abs-neg (pos n)
+
+pub quantised-size : (d : ℤ) (p : ℕ) → natAbs d ≤ 2147483648 → natAbs (quantised d p) ≤ natAbs d + 257
+unfolding quantised
+quantised-size d p h =
+    omega (arith, down-le (round24 (natAbs d)) (scale p), round24-le (natAbs d) h, signed-size d (nearestDown (round24 (natAbs d)) (scale p)))
+
+-- ---- the clamp to a nibble
+pub clamp4-low : (z : ℤ) → ltZ z (negsuc 7) ≡ true → clamp4 z ≡ negsuc 7
+unfolding clamp4
+clamp4-low z e = rw e
+
+pub clamp4-high : (z : ℤ) → ltZ z (negsuc 7) ≡ false → ltZ (pos 7) z ≡ true → clamp4 z ≡ pos 7
+unfolding clamp4
+clamp4-high z e f = rw (e, f)
+
+pub clamp4-mid : (z : ℤ) → ltZ z (negsuc 7) ≡ false → ltZ (pos 7) z ≡ false → clamp4 z ≡ z
+unfolding clamp4
+clamp4-mid z e f = rw (e, f)
+
+mid-size : (z : ℤ) → ltZ z (negsuc 7) ≡ false → ltZ (pos 7) z ≡ false → natAbs z ≤ 8
+mid-size (pos n) e f = omega (arith, ltb-false 7 n f)
+mid-size (negsuc n) e f = omega (arith, ltb-false 7 n e)
+
+pub clamp4-size : (z : ℤ) → natAbs (clamp4 z) ≤ 8
+unfolding clamp4
+clamp4-size z = go (ltZ z (negsuc 7)) (ltZ (pos 7) z) (mid-size z)
+  where
+    go : (a b : Bool) → (a ≡ false → b ≡ false → natAbs z ≤ 8) → natAbs (cond a (negsuc 7) (cond b (pos 7) z)) ≤ 8
+    go true b h = omega arith
+    go false true h = omega arith
+    go false false h = h refl refl
+
+-- the excess is no larger than what was clamped
+pub clamp4-excess : (z : ℤ) → natAbs (z -ℤ clamp4 z) ≤ natAbs z
+clamp4-excess z = go (ltZ z (negsuc 7)) refl
+  where
+    high : (t : Bool) → ltZ (pos 7) z ≡ t → ltZ z (negsuc 7) ≡ false → natAbs (z -ℤ clamp4 z) ≤ natAbs z
+    high true f e =
+        subst (λ (v : ℤ). natAbs (z -ℤ v) ≤ natAbs z) (sym (clamp4-high z e f))
+        (let l = diff-lt (diff-pos 7) (diff-of z) f in
+        let d = diff-abs (diff-of z) in
+        abs-diff (diff-sub (diff-of z) (diff-pos 7)) (natAbs z) (omega arith) (omega arith))
+    high false f e =
+        subst (λ (v : ℤ). natAbs (z -ℤ v) ≤ natAbs z) (sym (clamp4-mid z e f))
+        (abs-diff (diff-sub (diff-of z) (diff-of z)) (natAbs z) (omega arith) (omega arith))
+
+    go : (t : Bool) → ltZ z (negsuc 7) ≡ t → natAbs (z -ℤ clamp4 z) ≤ natAbs z
+    go true e =
+        subst (λ (v : ℤ). natAbs (z -ℤ v) ≤ natAbs z) (sym (clamp4-low z e))
+        (let l = diff-lt (diff-of z) (diff-neg (diff-pos 8)) e in
+        let d = diff-abs (diff-of z) in
+        abs-diff (diff-sub (diff-of z) (diff-neg (diff-pos 8))) (natAbs z) (omega arith) (omega arith))
+    go false e = high (ltZ (pos 7) z) refl e
+
+-- at the largest scale little is left over: with D at most 31 * 2^26 the quotient is at most 248
+pub quantised-12 : (d : ℤ) → natAbs d ≤ 2080374784 → natAbs (quantised d 12) ≤ 248
+unfolding quantised nearestDown
+quantised-12 d h =
+    let b : round24 (natAbs d) ≤ natAbs d + 256 = round24-le (natAbs d) (omega arith) in
+    omega (arith, signed-size d (cond (ltb 8388608 (round24 (natAbs d) % 8388608 * 2)) (round24 (natAbs d) / 8388608 + 1) (round24 (natAbs d) / 8388608)), go (ltb 8388608 (round24 (natAbs d) % 8388608 * 2)) (round24 (natAbs d)) refl (omega arith))
+  where
+    go : (t : Bool) (m : ℕ) → ltb 8388608 (m % 8388608 * 2) ≡ t → m ≤ 2080375040 → cond t (m / 8388608 + 1) (m / 8388608) ≤ 248
+    go true m e h = let l = ltb-true 8388608 (m % 8388608 * 2) e in omega arith
+    go false m e h = omega arith

@@ -1,0 +1,11 @@
+-- Laws that callers cite.
+pub mod LawsQuantise
+pub mod LawsEstimate
+pub mod LawsPass
+pub mod LawsNibbles
+pub mod LawsSearch
+pub mod LawsChoice
+pub mod LawsFrame
+pub mod LawsEncoded
+pub mod LawsArrays
+pub mod LawsDistance

@@ -1,0 +1,43 @@
+-- The choice among the eight pairs of coefficients. Definitions only.
+use mathlib.Core.Bool.{cond}
+use mathlib.Core.List.{List}
+use Prim.Native.Nat.{ℕ, zero, suc, _+_, _*_, _<_}
+use lib.Dec.{ltb}
+use lib.IntN.{ℤ, pos}
+use lib.ListN.{getD}
+use Rattle.frame.specs.declared.History.{History}
+use Rattle.frame.specs.declared.search.Candidate.{Candidate}
+use Rattle.frame.specs.declared.choice.Best.{Best}
+use Rattle.frame.specs.Pass.{Bounded}
+use Rattle.frame.specs.Search.{tryCoefficients}
+
+-- "c0 even, c1 odd in each of eight pairs"
+abbrev pub c0At : List ℤ → ℕ → ℤ
+c0At cs i = getD cs (2 * i) (pos 0)
+
+abbrev pub c1At : List ℤ → ℕ → ℤ
+c1At cs i = getD cs (2 * i + 1) (pos 0)
+
+-- every pair within the limit that the arithmetic has room for
+pub record AllBounded (cs : List ℤ) : Type 0 where
+  pub pair : (i : ℕ) → i < 8 → Bounded (c0At cs i) (c1At cs i)
+
+-- "`try_coefficients`, for each pair in turn"
+unfoldable pub candidateAt : History → List ℤ → List ℤ → ℕ → Candidate
+candidateAt h xs cs i = tryCoefficients (c0At cs i) (c1At cs i) h xs
+
+-- of the pairs 0 to k: "the least sum of squared differences .. the lowest index among equals"
+unfoldable pub winner : History → List ℤ → List ℤ → ℕ → ℕ
+winner h xs cs zero = 0
+winner h xs cs (suc k) =
+    let i = winner h xs cs k in
+    cond (ltb (candidateAt h xs cs (suc k) .distance) (candidateAt h xs cs i .distance)) (suc k) i
+
+-- "The passes made over" the first k candidates
+unfoldable pub passesOf : History → List ℤ → List ℤ → ℕ → ℕ
+passesOf h xs cs zero = 0
+passesOf h xs cs (suc k) = passesOf h xs cs k + candidateAt h xs cs k .passes
+
+-- what is known after the pairs 0 to k: the winner among these alone, and their passes
+unfoldable pub bestOf : History → List ℤ → List ℤ → ℕ → Best
+bestOf h xs cs k = let i = winner h xs cs k in record { candidate = candidateAt h xs cs i; index = i; passes = passesOf h xs cs (suc k) }

@@ -1,0 +1,85 @@
+-- The encoded frame: header, nibbles, history, and the one-frame call. Definitions only.
+use mathlib.Core.Bool.{Bool, true, cond, _&&_}
+use mathlib.Core.List.{List, [], _∷_, _++_}
+use Prim.Native.Nat.{ℕ, zero, suc, _+_, _-_, _*_, _/_, _%_, _<_}
+use lib.Dec.{eqb, leb, ltb}
+use lib.IntN.{ℤ, pos, negsuc, natAbs, _-ℤ_}
+use lib.ListN.{getD, replicate}
+use Rattle.frame.specs.declared.History.{History}
+use Rattle.frame.specs.declared.EncodedFrame.{EncodedFrame}
+use Rattle.frame.specs.declared.OneFrame.{OneFrame}
+use Rattle.frame.specs.declared.Refusal.{Refusal}
+use Rattle.frame.specs.declared.Refusal.the-variants.{CoefficientOutside}
+use Rattle.frame.specs.declared.Verdict.{Verdict}
+use Rattle.frame.specs.declared.Verdict.the-variants.{Encoded, Refused}
+use Rattle.frame.specs.Choice.{c0At, c1At, candidateAt, winner, passesOf}
+
+-- "Header = index × 16 + p"
+abbrev pub header : ℕ → ℕ → ℕ
+header i p = i * 16 + p
+
+-- −8 ≤ z ≤ 7
+pub data InNibble : ℤ → Type 0 where
+  up : {n : ℕ} → n < 8 → InNibble (pos n)
+  down : {n : ℕ} → n < 8 → InNibble (negsuc n)
+
+-- a nibble's four bits: z mod 16
+unfoldable pub low4 : ℤ → ℕ
+low4 (pos n) = n
+low4 (negsuc n) = 15 - n
+
+-- "two nibbles a byte, high nibble first"
+unfoldable pub byteOf : List ℤ → ℕ → ℕ
+byteOf ns k = low4 (getD ns (2 * k) (pos 0)) * 16 + low4 (getD ns (2 * k + 1) (pos 0))
+
+-- "a header byte, then two nibbles a byte": the header and k bytes
+unfoldable pub packed : ℕ → List ℤ → ℕ → List ℕ
+packed b ns zero = b ∷ []
+packed b ns (suc k) = packed b ns k ++ (byteOf ns k ∷ [])
+
+-- the four bits of sample i in a frame's bytes
+unfoldable pub nibbleAt : List ℕ → ℕ → ℕ
+nibbleAt bs i = cond (eqb (i % 2) 0) (getD bs (suc (i / 2)) 0 / 16) (getD bs (suc (i / 2)) 0 % 16)
+
+-- "a nibble of 8 or more counts as itself less 16"
+unfoldable pub signedNibble : ℕ → ℤ
+signedNibble n = cond (ltb n 8) (pos n) (pos n -ℤ pos 16)
+
+-- `encode_frame`: bytes, passes and reconstructed samples of the frame xs after the history h
+unfoldable pub encodeFrame : History → List ℤ → List ℤ → EncodedFrame
+encodeFrame h xs cs =
+    let i = winner h xs cs 7 in
+    let c = candidateAt h xs cs i in
+    record { bytes = packed (header i (c .exponent)) (c .nibbles) 7; passes = passesOf h xs cs 8; samples = c .samples }
+
+-- samples with the two before them, oldest first
+unfoldable pub preceded : History → List ℤ → List ℤ
+preceded h xs = h .older ∷ (h .newest ∷ xs)
+
+-- "The history after it is the last two reconstructed real samples, the older being the newest one before the frame where m = 1"
+unfoldable pub historyAfter : History → List ℤ → ℕ → History
+historyAfter h xs m = record { newest = getD (preceded h xs) (suc m) (pos 0); older = getD (preceded h xs) m (pos 0) }
+
+-- code 7: "c0 outside ±4096 or c1 outside ±2048"
+unfoldable pub pairWithin : ℤ → ℤ → Bool
+pairWithin c0 c1 = leb (natAbs c0) 4096 && leb (natAbs c1) 2048
+
+-- the first k pairs are within the limits
+unfoldable pub within : List ℤ → ℕ → Bool
+within cs zero = true
+within cs (suc k) = within cs k && pairWithin (c0At cs k) (c1At cs k)
+
+unfoldable pub withinLimits : List ℤ → Bool
+withinLimits cs = within cs 8
+
+-- document 01's number
+abbrev pub refusalNumber : Refusal → ℕ
+refusalNumber CoefficientOutside = 7
+
+-- "answers the eight bytes, the passes and the new history"; a refusal answers no bytes, no passes and the history given
+unfoldable pub encodeOneFrame : History → List ℤ → List ℤ → OneFrame
+encodeOneFrame h xs cs =
+    let e = encodeFrame h xs cs in
+    cond (withinLimits cs)
+    (record { verdict = Encoded; bytes = e .bytes; passes = e .passes; history = historyAfter h (e .samples) 14 })
+    (record { verdict = Refused CoefficientOutside; bytes = replicate 8 0; passes = 0; history = h })

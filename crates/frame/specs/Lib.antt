@@ -1,0 +1,8 @@
+-- What the contracts cite: section 3 of document 01, from the estimate to the encoded frame.
+pub mod Estimate
+pub mod Quantise
+pub mod Pass
+pub mod Search
+pub mod Choice
+pub mod Frame
+pub mod Worked

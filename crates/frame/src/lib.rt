@@ -1,0 +1,136 @@
+// The frame encoder: fourteen samples to eight bytes (section 3 of document 01).
+ghost use mathlib.Core.Path.{_≡_};
+ghost use Prim.Native.Nat.{_≤_};
+ghost use lib.IntN.{natAbs};
+ghost use Rattle.frame.specs.Choice.{AllBounded};
+ghost use Rattle.frame.specs.Frame.{encodeFrame, encodeOneFrame, historyAfter, pairWithin, withinLimits};
+
+mod choice;
+mod estimate;
+mod nibbles;
+mod pass;
+mod quantise;
+mod search;
+
+use choice::choose;
+use nibbles::pack_frame;
+use quantise::magnitude;
+
+// The two samples before a frame.
+#[repr(C)]
+pub struct History {
+    pub newest: i16,
+    pub older: i16,
+}
+
+// A frame's eight bytes, the passes over all eight candidates, and the samples that the bytes play.
+pub struct EncodedFrame {
+    pub bytes: [u8; 8],
+    pub passes: u32,
+    pub samples: [i16; 14],
+}
+
+// Why a frame is refused.
+pub enum Refusal {
+    CoefficientOutside,
+}
+
+pub enum Verdict {
+    Encoded,
+    Refused(Refusal),
+}
+
+// The one-frame call's answer.
+pub struct OneFrame {
+    pub verdict: Verdict,
+    pub bytes: [u8; 8],
+    pub passes: u32,
+    pub history: History,
+}
+
+// Whether c0 is within 4096 and c1 within 2048 of zero.
+fn pair_ok(c0: i16, c1: i16) -> bool
+    ensures { λ r. ⌜ r ≡ pairWithin c0 c1 ⌝ }
+{
+    magnitude(c0 as i64) <= 4096 && magnitude(c1 as i64) <= 2048
+}
+
+// Whether every pair is within the limits of code 7.
+pub fn coefficients_ok(coefs: [i16; 16]) -> bool
+    ensures { λ r. ⌜ r ≡ withinLimits coefs ⌝ }
+{
+    let mut ok = true;
+    let mut i: usize = 0;
+    while i < 8 {
+        let c0 = coefs[2 * i];
+        let c1 = coefs[2 * i + 1];
+        let good = pair_ok(c0, c1);
+        if !good {
+            ok = false;
+        }
+        i = i + 1;
+    }
+    ok
+}
+
+// The frame of fourteen samples after `history`, padding zeros among them. It is internal: crate clip calls it.
+pub fn encode_frame(history: History, samples: [i16; 14], coefs: [i16; 16]) -> EncodedFrame
+    requires { ⌜ AllBounded coefs ⌝ }
+    ensures { λ r. ⌜ r ≡ encodeFrame history samples coefs ⌝ }
+{
+    let best = choose(history, samples, coefs);
+    let candidate = best.candidate;
+    let nibbles = candidate.nibbles;
+    let kept = candidate.samples;
+    let bytes = pack_frame(best.index * 16 + candidate.exponent, nibbles);
+    EncodedFrame {
+        bytes: bytes,
+        passes: best.passes,
+        samples: kept,
+    }
+}
+
+// The history after the first m reconstructed samples of a frame. It is internal: crate clip calls it.
+pub fn history_after(history: History, samples: [i16; 14], m: usize) -> History
+    requires { ⌜ m ≤ 14 ⌝ }
+    ensures { λ r. ⌜ r ≡ historyAfter history samples m ⌝ }
+{
+    if m == 0 {
+        return history;
+    }
+    let newest = samples[m - 1];
+    if m == 1 {
+        return History {
+            newest: newest,
+            older: history.newest,
+        };
+    }
+    let older = samples[m - 2];
+    History {
+        newest: newest,
+        older: older,
+    }
+}
+
+// Encodes one frame, or refuses its coefficients.
+pub fn encode_one_frame(history: History, samples: [i16; 14], coefs: [i16; 16]) -> OneFrame
+    ensures { λ r. ⌜ r ≡ encodeOneFrame history samples coefs ⌝ }
+{
+    if !coefficients_ok(coefs) {
+        return OneFrame {
+            verdict: Verdict::Refused(Refusal::CoefficientOutside),
+            bytes: [0u8; 8],
+            passes: 0,
+            history: history,
+        };
+    }
+    let frame = encode_frame(history, samples, coefs);
+    let bytes = frame.bytes;
+    let kept = frame.samples;
+    OneFrame {
+        verdict: Verdict::Encoded,
+        bytes: bytes,
+        passes: frame.passes,
+        history: history_after(history, kept, 14),
+    }
+}

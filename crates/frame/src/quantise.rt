@@ -1,0 +1,91 @@
+// From D to the number that is clamped to a nibble, in whole numbers.
+ghost use mathlib.Core.Path.{_≡_};
+ghost use Prim.Native.Nat.{_<_, _≤_, _*_, _^_};
+ghost use lib.Ieee.Nearest.{closest};
+ghost use lib.IntN.{natAbs};
+ghost use Rattle.frame.specs.Quantise.{round24, scale, nearestDown, signed, quantised, clamp4};
+
+// |z|.
+pub(crate) fn magnitude(z: i64) -> u64
+    requires { ⌜ natAbs z ≤ 2147483648 ⌝ }
+    ensures { λ r. ⌜ r ≡ natAbs z ⌝ }
+{
+    if z < 0 {
+        return (0 - z) as u64;
+    }
+    z as u64
+}
+
+// n with the sign of z.
+fn with_sign(z: i64, n: u64) -> i64
+    requires { ⌜ n ≤ 4294967296 ⌝ }
+    ensures { λ r. ⌜ r ≡ signed z n ⌝ }
+{
+    if z < 0 {
+        return 0 - (n as i64);
+    }
+    n as i64
+}
+
+// m / 2^k to the nearest whole number, a tie to the even one.
+fn nearest_even(m: u64, k: u32) -> u64
+    requires { ⌜ m ≤ 2147483648 ⌝ }
+    requires { ⌜ k ≤ 8 ⌝ }
+    ensures { λ r. ⌜ r ≡ closest m (2 ^ k) ⌝ }
+{
+    let u = 1u64 << k;
+    let q = m >> k;
+    let r = (m - q * u) * 2;
+    if r < u {
+        return q;
+    }
+    if u < r {
+        return q + 1;
+    }
+    q + q % 2
+}
+
+// m to 24 significant bits, a tie to the even one.
+fn round_24(m: u64) -> u64
+    requires { ⌜ m ≤ 2147483648 ⌝ }
+    ensures { λ r. ⌜ r ≡ round24 m ⌝ }
+{
+    if m < 16777216 {
+        return m;
+    }
+    let k = 40 - u64::leading_zeros(m);
+    nearest_even(m, k) * (1u64 << k)
+}
+
+// m / (2048 * 2^p) to the nearest whole number, a half downwards.
+fn nearest_down(m: u64, p: u8) -> u64
+    requires { ⌜ m ≤ 4294967296 ⌝ }
+    requires { ⌜ p ≤ 12 ⌝ }
+    ensures { λ r. ⌜ r ≡ nearestDown m (scale p) ⌝ }
+{
+    let half = 1024u64 << p;
+    (m + half - 1) >> (p + 11)
+}
+
+// D to 24 significant bits, over 2048 * 2^p, to the nearest, halves towards zero.
+pub(crate) fn quantise(d: i64, p: u8) -> i64
+    requires { ⌜ natAbs d ≤ 2147483648 ⌝ }
+    requires { ⌜ p ≤ 12 ⌝ }
+    ensures { λ r. ⌜ r ≡ quantised d p ⌝ }
+{
+    let m = round_24(magnitude(d));
+    with_sign(d, nearest_down(m, p))
+}
+
+// x, or the nearer end of -8..7.
+pub(crate) fn clamp_4(x: i64) -> i64
+    ensures { λ r. ⌜ r ≡ clamp4 x ⌝ }
+{
+    if x < -8 {
+        return -8;
+    }
+    if 7 < x {
+        return 7;
+    }
+    x
+}

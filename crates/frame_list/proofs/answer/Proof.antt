@@ -1,0 +1,79 @@
+use borrow.Author.Needs.{needs}
+use borrow.Author.Tests.{not-false}
+use mathlib.Core.Path.{_≡_, sym, _∙_}
+use Rattle.frame.specs.Frame.{withinLimits}
+use Rattle.frame.proofs.LawsFrame.{limits-bounded}
+use Rattle.frame_list.proofs.answer.Statement.{statement}
+use Rattle.frame_list.proofs.answer.Tie as tie
+
+coefficients-ok-requires : tie.Need-coefficients-ok-requires
+coefficients-ok-requires c κs = search needs
+
+slice-aggregate-write-all : tie.Need-slice-aggregate-write-all
+slice-aggregate-write-all c = search needs
+
+write-all-requires : tie.Need-write-all-requires
+write-all-requires c κs = search needs
+
+returns : tie.Need-returns
+returns c = search needs
+
+encode-one-frame-requires : tie.Need-encode-one-frame-requires
+encode-one-frame-requires c κs = search needs
+
+print-bytes-requires : tie.Need-print-bytes-requires
+print-bytes-requires c κs = search needs
+
+slice-aggregate-write-all-2 : tie.Need-slice-aggregate-write-all-2
+slice-aggregate-write-all-2 c = search needs
+
+write-all-requires-2 : tie.Need-write-all-requires-2
+write-all-requires-2 c κs = search needs
+
+cast-print-hex : tie.Need-cast-print-hex
+cast-print-hex c = search needs
+
+print-hex-requires : tie.Need-print-hex-requires
+print-hex-requires c κs = search needs
+
+history-after-requires : tie.Need-history-after-requires
+history-after-requires c κs =
+    let e = c .before .before .before .before .before .before .before .before .before in
+    let s = e .before .before in
+    (limits-bounded (s .args .coefs) (sym (e .before .coefficients-ok .ensures) ∙ not-false _ (e .if1 .left)), s .pre)
+
+print-sample-requires : tie.Need-print-sample-requires
+print-sample-requires c κs = search needs
+
+print-sample-requires-2 : tie.Need-print-sample-requires-2
+print-sample-requires-2 c κs = search needs
+
+slice-aggregate-write-all-3 : tie.Need-slice-aggregate-write-all-3
+slice-aggregate-write-all-3 c = search needs
+
+write-all-requires-3 : tie.Need-write-all-requires-3
+write-all-requires-3 c κs = search needs
+
+returns-2 : tie.Need-returns-2
+returns-2 c = search needs
+
+pub answer-spec : {M : Type 1} → statement M
+answer-spec =
+    tie.close
+    (tie.spec
+    coefficients-ok-requires
+    slice-aggregate-write-all
+    write-all-requires
+    returns
+    encode-one-frame-requires
+    print-bytes-requires
+    slice-aggregate-write-all-2
+    write-all-requires-2
+    cast-print-hex
+    print-hex-requires
+    history-after-requires
+    print-sample-requires
+    print-sample-requires-2
+    slice-aggregate-write-all-3
+    write-all-requires-3
+    returns-2)
