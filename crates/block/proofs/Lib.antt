@@ -1,0 +1,5 @@
+-- Laws that callers' proofs cite.
+pub mod Stores
+pub mod LawsContext
+pub mod LawsSample
+pub mod LawsFrame

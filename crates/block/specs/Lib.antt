@@ -1,0 +1,6 @@
+-- What the contracts cite.
+pub mod Address
+pub mod Context
+pub mod Sample
+pub mod Frame
+pub mod Play
