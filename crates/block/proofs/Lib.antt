@@ -3,3 +3,7 @@ pub mod Stores
 pub mod LawsContext
 pub mod LawsSample
 pub mod LawsFrame
+pub mod LawsRefusals
+pub mod LawsAddress
+pub mod LawsPlay
+pub mod LawsCalls

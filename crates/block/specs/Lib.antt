@@ -3,4 +3,6 @@ pub mod Address
 pub mod Context
 pub mod Sample
 pub mod Frame
+pub mod Refusals
 pub mod Play
+pub mod Join
