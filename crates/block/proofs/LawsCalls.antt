@@ -6,14 +6,16 @@ use Prim.Native.Nat.{ℕ, _+_, _*_, _≤_, _<_}
 use borrow.Author.Tests.{lt-ltb, le-ltb}
 use lib.Dec.{ltb}
 use lib.IntN.{ℤ}
-use lib.ListN.{length}
-use lib.Seq.{sets}
+use lib.ListN.{length, drop, length-append}
+use lib.Seq.{sets, sets-eq}
+use native.Mathlib.Omega.{arith}
 use Rattle.block.specs.declared.FrameContext.{FrameContext}
 use Rattle.block.specs.Address.{addressToSample}
 use Rattle.block.specs.Frame.{Lent, lent}
 use Rattle.block.specs.Refusals.{accepted, refused, badLength, lowestPair, equalCoefficients}
-use Rattle.block.specs.Play.{playBytes, playEffect, playInto}
+use Rattle.block.specs.Play.{play, playBytes, playEffect, playInto}
 use Rattle.block.specs.Join.{joinBlocks, joinEffect}
+use Rattle.block.proofs.LawsPlay.{play-count}
 
 module _ (bytes : List ℕ) (len : ℕ) (cs : List ℤ) (c : FrameContext) (out : List ℤ) where
   pub play-12 : badLength len (length bytes) ≡ true → playEffect (refused 12) (lent c out) ≡ playBytes bytes len cs c out
@@ -44,3 +46,20 @@ module _ (first : List ℕ) (m : ℕ) (cs : List ℤ) (second : List ℕ) (n : �
   pub join-done : ltb (length out) (length first + length second) ≡ false → equalCoefficients cs ds ≡ true → joinEffect (accepted (m + n)) (sets out 0 (first ++ second)) ≡ joinBlocks first m cs second n ds out
   unfolding joinBlocks
   join-done e f = rw (e, f)
+
+-- ---- what lies beyond is untouched
+
+splice : {A : Type 0} (vs out : List A) (n : ℕ) → length vs ≡ n → n ≤ length out → sets out 0 vs ≡ vs ++ drop n out
+splice vs out n e h =
+    let f : 0 + length vs ≡ n = omega arith in
+    sets-eq vs out 0 (omega arith) ∙ rw f
+
+-- the output after playing: the samples, and what stood beyond their count
+pub play-out : (bytes : List ℕ) (cs : List ℤ) (len : ℕ) (c : FrameContext) (out : List ℤ) → 0 < len → addressToSample len ≤ length out
+    → playInto bytes cs len c out .out ≡ play bytes cs len c .samples ++ drop (addressToSample len) out
+unfolding playInto
+play-out bytes cs len c out l h = splice (play bytes cs len c .samples) out (addressToSample len) (play-count bytes cs len c l) h
+
+-- the output after joining: the two blocks' bytes, and what stood beyond them
+pub join-out : (first second out : List ℕ) → length first + length second ≤ length out → sets out 0 (first ++ second) ≡ (first ++ second) ++ drop (length first + length second) out
+join-out first second out h = splice (first ++ second) out (length first + length second) (length-append first second) h

@@ -6,4 +6,8 @@ pub mod LawsFrame
 pub mod LawsRefusals
 pub mod LawsAddress
 pub mod LawsPlay
+pub mod LawsParts
+pub mod LawsFloor
+pub mod LawsNibbles
 pub mod LawsCalls
+pub mod Worked
