@@ -1,0 +1,23 @@
+-- Laws of a header's predictor and scale.
+use mathlib.Core.Path.{_≡_, refl, sym, ap, _∙_}
+use Prim.Native.Nat.{ℕ, _*_, _/_, _%_, _^_, _≤_, _<_}
+use native.Mathlib.Nat.{one-mul, mod-eq-of-lt, mod-lt, lt-of-le-of-lt}
+use native.Mathlib.Omega.{arith}
+use lib.Dec.{lit<}
+use lib.Pow.{pow-mono}
+use Rattle.block.specs.Context.{predictorOf, scaleOf}
+
+pub predictor-lt : (h : ℕ) → predictorOf h < 8
+unfolding predictorOf
+predictor-lt h = omega arith
+
+pub scale-le : (h : ℕ) → scaleOf h ≤ 32768
+unfolding scaleOf
+scale-le h = pow-mono {i = h % 16} {j = 15} (omega arith)
+
+-- the scale as a shift of 32 bits makes it
+pub scale-word : (h : ℕ) → (1 * 2 ^ (h % 16)) % 2 ^ 32 ≡ scaleOf h
+unfolding scaleOf
+scale-word h =
+    ap (λ (v : ℕ). v % 2 ^ 32) (one-mul (2 ^ (h % 16)))
+    ∙ mod-eq-of-lt (lt-of-le-of-lt (scale-le h) (lit< tt))

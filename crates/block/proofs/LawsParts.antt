@@ -1,0 +1,183 @@
+-- Laws of playing a part: what is read, bytes before and after, a block cut at a frame's start.
+use mathlib.Core.Path.{_≡_, refl, sym, ap, _∙_, subst}
+use mathlib.Core.Bool.{Bool, true, false, cond}
+use mathlib.Core.List.{List, [], _∷_, _++_, append-assoc, append-nil}
+use Prim.Native.Nat.{ℕ, zero, suc, _+_, _-_, _*_, _/_, _%_, _≤_, _<_}
+use native.Mathlib.Nat.{add-zero, zero-add, add-suc, suc-add}
+use native.Mathlib.Omega.{arith}
+use lib.Dec.{eqb}
+use lib.IntN.{ℤ, pos}
+use lib.ListN.{length, getD, take, drop, List·getD-append}
+use lib.Seq.{getD-drop, drop-append-seam, getD-append-add}
+use mir.Syntax.{w16}
+use mir.Val.{SFits}
+use Rattle.block.specs.declared.FrameContext.{FrameContext}
+use Rattle.block.specs.Context.{withHeader}
+use Rattle.block.specs.Frame.{nibbleAt, nibblesFrom, Playing, playing, nextSample, takeNibble, playFrame}
+use Rattle.block.specs.Play.{takeHeader, playFrom, play, playFrames}
+use Rattle.block.proofs.LawsSample.{sample-fits}
+use Rattle.block.proofs.LawsPlay.{onto, frames, repeats}
+
+cond-both : {A : Type 0} (t : Bool) {x y u v : A} → x ≡ u → y ≡ v → cond t x y ≡ cond t u v
+cond-both true p q = p
+cond-both false p q = q
+
+cond-out : {A : Type 0} (P : A → Type 0) (t : Bool) {x y : A} → P x → P y → P (cond t x y)
+cond-out P true p q = p
+cond-out P false p q = q
+
+cond-ap : {A B : Type 0} (f : A → B) (t : Bool) (x y : A) → f (cond t x y) ≡ cond t (f x) (f y)
+cond-ap f true x y = refl
+cond-ap f false x y = refl
+
+-- ---- what each header and each sample keeps, playing keeps
+
+pub keeps : (P : Playing → Type 0) (bytes : List ℕ) (cs : List ℤ) → ((a : ℕ) (p : Playing) → P p → P (takeHeader bytes a p)) → ((n : ℕ) (p : Playing) → P p → P (takeNibble cs p n))
+    → (a n : ℕ) (p : Playing) → P p → P (playFrom bytes cs a n p)
+unfolding playFrom
+keeps P bytes cs h s a zero p k = k
+keeps P bytes cs h s a (suc zero) p k = cond-out P (eqb (a % 16) 0) (h a p k) (s (nibbleAt bytes a) p k)
+keeps P bytes cs h s a (suc (suc n)) p k =
+    cond-out P (eqb (a % 16) 0)
+    (keeps P bytes cs h s (2 + a) n (takeHeader bytes a p) (h a p k))
+    (keeps P bytes cs h s (suc a) (suc n) (takeNibble cs p (nibbleAt bytes a)) (s (nibbleAt bytes a) p k))
+
+-- each sample fits 16 bits
+abbrev pub Fitting : List ℤ → Type 0
+Fitting xs = (i : ℕ) → SFits w16 (getD xs i (pos 0))
+
+fitting-more : (xs : List ℤ) (x : ℤ) → Fitting xs → SFits w16 x → Fitting (xs ++ (x ∷ []))
+fitting-more [] x f g zero = g
+fitting-more [] x f g (suc i) = f (suc i)
+fitting-more (y ∷ xs) x f g zero = f zero
+fitting-more (y ∷ xs) x f g (suc i) = fitting-more xs x (λ j. f (suc j)) g i
+
+none-fit : Fitting []
+none-fit i = record { sfits = omega arith }
+
+nibble-fits : (cs : List ℤ) (n : ℕ) (p : Playing) → Fitting (p .samples) → Fitting (takeNibble cs p n .samples)
+unfolding takeNibble nextSample
+nibble-fits cs n p f = fitting-more (p .samples) (nextSample cs (p .context) n) f (sample-fits _ _ _ _ n _)
+
+pub play-fits : (bytes : List ℕ) (cs : List ℤ) (len : ℕ) (c : FrameContext) → Fitting (play bytes cs len c .samples)
+unfolding play takeHeader
+play-fits bytes cs len c = keeps (λ p. Fitting (p .samples)) bytes cs (λ a p f. f) (nibble-fits cs) 2 (len - 2) (playing c []) none-fit
+
+-- ---- samples before
+
+pub from-onto : (bytes : List ℕ) (cs : List ℤ) (xs : List ℤ) (a n : ℕ) (p : Playing) → playFrom bytes cs a n (onto xs p) ≡ onto xs (playFrom bytes cs a n p)
+unfolding playFrom takeHeader takeNibble
+from-onto bytes cs xs a zero p = refl
+from-onto bytes cs xs a (suc zero) p =
+    cond-both (eqb (a % 16) 0) refl (rw append-assoc)
+    ∙ sym (cond-ap (onto xs) (eqb (a % 16) 0) (takeHeader bytes a p) (takeNibble cs p (nibbleAt bytes a)))
+from-onto bytes cs xs a (suc (suc n)) p =
+    cond-both (eqb (a % 16) 0)
+    (from-onto bytes cs xs (2 + a) n (takeHeader bytes a p))
+    (rw append-assoc (from-onto bytes cs xs (suc a) (suc n) (takeNibble cs p (nibbleAt bytes a))))
+    ∙ sym (cond-ap (onto xs) (eqb (a % 16) 0) (playFrom bytes cs (2 + a) n (takeHeader bytes a p)) (playFrom bytes cs (suc a) (suc n) (takeNibble cs p (nibbleAt bytes a))))
+
+-- ---- bytes after are not read
+
+module _ (xs ys : List ℕ) where
+  at-before : (a : ℕ) → suc a ≤ 2 * length xs → getD (xs ++ ys) (a / 2) 0 ≡ getD xs (a / 2) 0
+  at-before a h = List·getD-append xs ys 0 (a / 2) (omega arith)
+
+  nibble-before : (a : ℕ) → suc a ≤ 2 * length xs → nibbleAt (xs ++ ys) a ≡ nibbleAt xs a
+  unfolding nibbleAt
+  nibble-before a h = rw (at-before a h)
+
+  header-before : (a : ℕ) (p : Playing) → suc a ≤ 2 * length xs → takeHeader (xs ++ ys) a p ≡ takeHeader xs a p
+  unfolding takeHeader
+  header-before a p h = rw (at-before a h)
+
+  pub from-before : (cs : List ℤ) (a n : ℕ) (p : Playing) → a + n ≤ 2 * length xs → playFrom (xs ++ ys) cs a n p ≡ playFrom xs cs a n p
+  unfolding playFrom
+  from-before cs a zero p h = refl
+  from-before cs a (suc zero) p h =
+      let l : suc a ≤ 2 * length xs = omega arith in
+      cond-both (eqb (a % 16) 0) (header-before a p l) (ap (takeNibble cs p) (nibble-before a l))
+  from-before cs a (suc (suc n)) p h =
+      let l : suc a ≤ 2 * length xs = omega arith in
+      cond-both (eqb (a % 16) 0)
+      (from-before cs (2 + a) n (takeHeader (xs ++ ys) a p) (omega arith) ∙ ap (playFrom xs cs (2 + a) n) (header-before a p l))
+      (from-before cs (suc a) (suc n) (takeNibble cs p (nibbleAt (xs ++ ys) a)) (omega arith) ∙ ap (λ (b : ℕ). playFrom xs cs (suc a) (suc n) (takeNibble cs p b)) (nibble-before a l))
+
+  pub play-before : (cs : List ℤ) (len : ℕ) (c : FrameContext) → len ≤ 2 * length xs → play (xs ++ ys) cs len c ≡ play xs cs len c
+  unfolding play playFrom
+  play-before cs len c h = go len h
+    where
+      go : (len : ℕ) → len ≤ 2 * length xs → playFrom (xs ++ ys) cs 2 (len - 2) (playing c []) ≡ playFrom xs cs 2 (len - 2) (playing c [])
+      go zero h = refl
+      go (suc zero) h = refl
+      go (suc (suc n)) h = from-before cs 2 (suc (suc n) - 2) (playing c []) (omega arith)
+
+-- ---- bytes before are not read
+
+module _ (bytes : List ℕ) (j : ℕ) where
+  at-after : (a : ℕ) → getD (drop (8 * j) bytes) (a / 2) 0 ≡ getD bytes ((16 * j + a) / 2) 0
+  at-after a =
+      let e : 8 * j + a / 2 ≡ (16 * j + a) / 2 = omega arith in
+      getD-drop (8 * j) bytes (a / 2) 0 ∙ ap (λ (i : ℕ). getD bytes i 0) e
+
+  nibble-after : (a : ℕ) → nibbleAt (drop (8 * j) bytes) a ≡ nibbleAt bytes (16 * j + a)
+  unfolding nibbleAt
+  nibble-after a =
+      let e : (16 * j + a) % 2 ≡ a % 2 = omega arith in
+      rw (at-after a, e)
+
+  header-after : (a : ℕ) (p : Playing) → takeHeader (drop (8 * j) bytes) a p ≡ takeHeader bytes (16 * j + a) p
+  unfolding takeHeader
+  header-after a p = rw (at-after a)
+
+  pub from-after : (cs : List ℤ) (a n : ℕ) (p : Playing) → playFrom (drop (8 * j) bytes) cs a n p ≡ playFrom bytes cs (16 * j + a) n p
+  unfolding playFrom
+  from-after cs a zero p = refl
+  from-after cs a (suc zero) p =
+      let e : (16 * j + a) % 16 ≡ a % 16 = omega arith in
+      rw e (cond-both (eqb (a % 16) 0) (header-after a p) (ap (takeNibble cs p) (nibble-after a)))
+  from-after cs a (suc (suc n)) p =
+      let e : (16 * j + a) % 16 ≡ a % 16 = omega arith in
+      let f : 16 * j + (2 + a) ≡ 2 + (16 * j + a) = omega arith in
+      rw e (cond-both (eqb (a % 16) 0)
+      (from-after cs (2 + a) n (takeHeader (drop (8 * j) bytes) a p) ∙ ap (playFrom bytes cs (16 * j + (2 + a)) n) (header-after a p) ∙ ap (λ (b : ℕ). playFrom bytes cs b n (takeHeader bytes (16 * j + a) p)) f)
+      (from-after cs (suc a) (suc n) (takeNibble cs p (nibbleAt (drop (8 * j) bytes) a)) ∙ ap (λ (b : ℕ). playFrom bytes cs (16 * j + suc a) (suc n) (takeNibble cs p b)) (nibble-after a) ∙ ap (λ (b : ℕ). playFrom bytes cs b (suc n) (takeNibble cs p (nibbleAt bytes (16 * j + a)))) (add-suc (16 * j) a)))
+
+-- ---- a block cut at a frame's start
+
+-- one part played, then another
+abbrev pub followed : Playing → Playing → Playing
+followed p q = playing (q .context) (p .samples ++ q .samples)
+
+-- k whole frames and the next one's header are the block of k frames, and that header
+pub frames-play : (bytes : List ℕ) (cs : List ℤ) (k : ℕ) (c : FrameContext) → 0 < k → playFrames bytes cs k (playing c []) ≡ takeHeader bytes (16 * k) (play bytes cs (16 * k) c)
+unfolding playFrames
+frames-play bytes cs zero c h = absurd (omega arith)
+frames-play bytes cs (suc k) c h =
+    let e : 16 * suc k ≡ 16 * k + 16 = omega arith in
+    let f : play bytes cs (16 * suc k) c ≡ playFrame bytes (8 * k) 14 cs (playFrames bytes cs k (playing c [])) = ap (λ (n : ℕ). play bytes cs n c) e ∙ repeats bytes cs k 16 c (omega arith) (omega arith) in
+    ap (takeHeader bytes (16 * suc k)) (sym f)
+
+-- the second part starts from the first one's final context, with its own first header
+pub cut : (bytes : List ℕ) (cs : List ℤ) (k n : ℕ) (c : FrameContext) → 0 < k → 0 < n
+    → play bytes cs (16 * k + n) c ≡ (let p = play bytes cs (16 * k) c in followed p (play (drop (8 * k) bytes) cs n (withHeader (p .context) (getD bytes (8 * k) 0))))
+unfolding play takeHeader
+cut bytes cs k n c h l =
+    let p = play bytes cs (16 * k) c in
+    let d = withHeader (p .context) (getD bytes (8 * k) 0) in
+    let e : 16 * k / 2 ≡ 8 * k = omega arith in
+    let f : 2 * (8 * k) + 2 ≡ 16 * k + 2 = omega arith in
+    let g : playFrames bytes cs k (playing c []) ≡ onto (p .samples) (playing d []) = frames-play bytes cs k c h ∙ rw (e, append-nil) in
+    frames bytes cs k n (playing c []) l
+    ∙ ap (λ (a : ℕ). playFrom bytes cs a (n - 2) (playFrames bytes cs k (playing c []))) f
+    ∙ sym (from-after bytes k cs 2 (n - 2) (playFrames bytes cs k (playing c [])))
+    ∙ ap (playFrom (drop (8 * k) bytes) cs 2 (n - 2)) g
+    ∙ from-onto (drop (8 * k) bytes) cs (p .samples) 2 (n - 2) (playing d [])
+
+-- two blocks' bytes joined, the first of whole frames, play as the first and then the second from where the first ends
+pub join-plays : (first second : List ℕ) (cs : List ℤ) (k n : ℕ) (c : FrameContext) → length first ≡ 8 * k → 0 < k → 0 < n
+    → play (first ++ second) cs (16 * k + n) c ≡ (let p = play first cs (16 * k) c in followed p (play second cs n (withHeader (p .context) (getD second 0 0))))
+join-plays first second cs k n c e h l =
+    let d : drop (8 * k) (first ++ second) ≡ second = rw (← e) (drop-append-seam first second) in
+    let g : getD (first ++ second) (8 * k) 0 ≡ getD second 0 0 = rw (← e) (ap (λ (i : ℕ). getD (first ++ second) i 0) (sym (add-zero (length first))) ∙ getD-append-add first second 0 0) in
+    cut (first ++ second) cs k n c h l ∙ rw (d, g, play-before first second cs (16 * k) c (omega arith))

@@ -1,0 +1,107 @@
+-- `play_frame` meets its contract: the pair and the scale that the header names, then the nibbles. Assumes nothing.
+use borrow.Author.Needs.{needs}
+use denote.Ref.{now}
+use mathlib.Core.Path.{_≡_, refl, sym, ap, _∙_}
+use mathlib.Core.List.{List, [], _∷_}
+use Prim.Native.Nat.{ℕ, _+_, _*_, _≤_, _<_}
+use native.Mathlib.Omega.{arith}
+use lib.IntN.{ℤ, pos}
+use lib.ListN.{length, getD}
+use lib.Seq.{sets}
+use mir.Facts.{toZ-ofZ}
+use mir.Syntax.{w16}
+use mir.Val.{SFits, toZ, ofZ}
+use Rattle.block.specs.Context.{newest, older, scaleOf, predictorOf, contextOf}
+use Rattle.block.specs.Frame.{runFrom, Run, lent}
+use Rattle.block.proofs.LawsContext.{predictor-lt, scale-le}
+use Rattle.block.proofs.LawsFrame.{frame-into, firstOf, secondOf}
+use Rattle.block.proofs.play_frame.Statement.{statement}
+use Rattle.block.proofs.play_frame.Tie as tie
+use Rattle.block.proofs.play_frame.Reads as reads
+use Rattle.block.proofs.play_frame.Lts as lts
+use Rattle.block.proofs.FrameContext.predictor.Reads as predictor-reads
+use Rattle.block.proofs.FrameContext.scale.Reads as scale-reads
+use Rattle.block.proofs.frame.play_nibbles.Reads as play-nibbles-reads
+
+predictor-requires : tie.Need-predictor-requires
+predictor-requires c κs = search needs
+
+predictor-small : (c : tie.After-predictor) → c .predictor .result < 8
+predictor-small c = rw (c .predictor .ensures) (predictor-lt _)
+
+mul-index : tie.Need-mul-index
+mul-index c = omega (arith, predictor-small c)
+
+mul-c0 : tie.Need-mul-c0
+mul-c0 c = omega (arith, predictor-small c)
+
+array-copy-out-c0 : tie.Need-array-copy-out-c0
+array-copy-out-c0 c = omega (arith, predictor-small c)
+
+add-c1 : tie.Need-add-c1
+add-c1 c = omega (arith, predictor-small (c .before))
+
+mul-c1 : tie.Need-mul-c1
+mul-c1 c = omega (arith, predictor-small (c .before))
+
+array-copy-out-c1 : tie.Need-array-copy-out-c1
+array-copy-out-c1 c = omega (arith, predictor-small (c .before))
+
+scale-requires : tie.Need-scale-requires
+scale-requires c κs = search needs
+
+array-copy-out-s0 : tie.Need-array-copy-out-s0
+array-copy-out-s0 c = search needs
+
+array-copy-out-s1 : tie.Need-array-copy-out-s1
+array-copy-out-s1 c = search needs
+
+add-play-nibbles : tie.Need-add-play-nibbles
+add-play-nibbles c = search needs
+
+play-nibbles-requires : tie.Need-play-nibbles-requires
+play-nibbles-requires c κs =
+    let a = c .before .before .before .before .before .before .before .before .before in
+    (omega arith, a .pre .1, rw (c .before .before .before .before .scale .ensures) (scale-le _))
+
+same-length : tie.Need-same-length
+same-length c = search needs
+
+-- a history has two samples
+two : (c : tie.Start) → length (c .args .context .«last_samples») ≡ 2
+two c = search needs
+
+returns : tie.Need-returns
+returns c =
+    let n = c .before .before in
+    let m = n .before .before in
+    let s = m .before .before .before .before .before .before .before .before in
+    let a = s .args in
+    let h = two s in
+    let f1 : SFits w16 (older (a .context)) = record { sfits = m .s1 .given } in
+    let f0 : SFits w16 (newest (a .context)) = record { sfits = m .before .s0 .given } in
+    let g1 : SFits w16 (getD (a .t4) (2 * m .before .before .before .before .before .before .predictor .result + 1) (pos 0)) = record { sfits = m .before .before .before .before .c1 .given } in
+    let g0 : SFits w16 (getD (a .t4) (2 * m .before .before .before .before .before .before .predictor .result) (pos 0)) = record { sfits = m .before .before .before .before .before .c0 .given } in
+    let r0 : SFits w16 (n .play-nibbles .result .s0) = record { sfits = c .struct-told .given .0 .1 } in
+    let r1 : SFits w16 (n .play-nibbles .result .s1) = record { sfits = c .struct-told .given .1 .0 .1 } in
+    let e = rw (toZ-ofZ g0, toZ-ofZ g1, toZ-ofZ f0, toZ-ofZ f1, m .before .before .before .before .before .before .predictor .ensures, m .before .before .before .scale .ensures) at (n .play-nibbles .ensures) in
+    rw (toZ-ofZ r0, toZ-ofZ r1) (frame-into (now (a .bytes)) (a .at) (a .count) (a .t4) (a .context) (now (a .out)) (a .to) (n .play-nibbles .result) _ h e)
+
+pub play-frame-spec : {M : Type 1} → statement M
+play-frame-spec =
+    tie.close
+    (tie.spec
+    predictor-requires
+    mul-index
+    mul-c0
+    array-copy-out-c0
+    add-c1
+    mul-c1
+    array-copy-out-c1
+    scale-requires
+    array-copy-out-s0
+    array-copy-out-s1
+    add-play-nibbles
+    play-nibbles-requires
+    same-length
+    returns)

@@ -1,0 +1,63 @@
+-- Playing a block. Definitions only.
+use mathlib.Core.Bool.{cond}
+use mathlib.Core.List.{List, [], _∷_, _++_}
+use Prim.Native.Nat.{ℕ, zero, suc, _+_, _-_, _*_, _/_, _%_}
+use lib.Dec.{eqb, ltb}
+use lib.IntN.{ℤ}
+use lib.ListN.{length, getD}
+use lib.Seq.{sets}
+use Rattle.block.specs.declared.FrameContext.{FrameContext}
+use Rattle.block.specs.declared.PlayAnswer.{PlayAnswer}
+use Rattle.block.specs.declared.PlayAnswer.the-variants as Answers
+use Rattle.block.specs.Address.{addressToSample}
+use Rattle.block.specs.Context.{withHeader}
+use Rattle.block.specs.Frame.{Playing, playing, nibbleAt, takeNibble, playFrame, Lent, lent}
+use Rattle.block.specs.Refusals.{Outcome, accepted, refused, numberOf, badLength, lowestPair}
+
+-- take a new header
+unfoldable pub takeHeader : List ℕ → ℕ → Playing → Playing
+takeHeader bytes a p = playing (withHeader (p .context) (getD bytes (a / 2) 0)) (p .samples)
+
+-- from address a on, n addresses before the end: at a multiple of 16 take a new header and go on by 2, else one sample
+unfoldable pub playFrom : List ℕ → List ℤ → ℕ → ℕ → Playing → Playing
+playFrom bytes cs a zero p = p
+playFrom bytes cs a (suc zero) p =
+    cond (eqb (a % 16) 0) (takeHeader bytes a p) (takeNibble cs p (nibbleAt bytes a))
+playFrom bytes cs a (suc (suc n)) p =
+    cond (eqb (a % 16) 0) (playFrom bytes cs (2 + a) n (takeHeader bytes a p)) (playFrom bytes cs (suc a) (suc n) (takeNibble cs p (nibbleAt bytes a)))
+
+-- start at address 2, end before the length; the first header is the context's
+unfoldable pub play : List ℕ → List ℤ → ℕ → FrameContext → Playing
+play bytes cs len c = playFrom bytes cs 2 (len - 2) (playing c [])
+
+-- the samples in the output from its start on, and the final context
+unfoldable pub playInto : List ℕ → List ℤ → ℕ → FrameContext → List ℤ → Lent
+playInto bytes cs len c out =
+    let p = play bytes cs len c in
+    lent (p .context) (sets out 0 (p .samples))
+
+-- the first k frames, all whole, each followed by the next one's header
+unfoldable pub playFrames : List ℕ → List ℤ → ℕ → Playing → Playing
+playFrames bytes cs zero p = p
+playFrames bytes cs (suc k) p = takeHeader bytes (16 * suc k) (playFrame bytes (8 * k) 14 cs (playFrames bytes cs k p))
+
+-- what a call of playing leaves: its answer, the context and the output
+pub record PlayEffect : Type 0 where
+  pub outcome : Outcome
+  pub context : FrameContext
+  pub out : List ℤ
+
+abbrev pub playEffect : Outcome → Lent → PlayEffect
+playEffect o l = record { outcome = o; context = l .context; out = l .out }
+
+abbrev pub playOutcome : PlayAnswer → Outcome
+playOutcome (Answers.Played n) = accepted n
+playOutcome (Answers.Refused r) = refused (numberOf r)
+
+-- playing bytes: refusals 12, 13, 14 in that sequence, with the context given and the output unaltered; else the sample count
+unfoldable pub playBytes : List ℕ → ℕ → List ℤ → FrameContext → List ℤ → PlayEffect
+playBytes bytes len cs c out =
+    cond (badLength len (length bytes)) (playEffect (refused 12) (lent c out))
+    (cond (lowestPair cs) (playEffect (refused 13) (lent c out))
+    (cond (ltb (length out) (addressToSample len)) (playEffect (refused 14) (lent c out))
+    (playEffect (accepted (addressToSample len)) (playInto bytes cs len c out))))

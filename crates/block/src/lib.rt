@@ -1,0 +1,222 @@
+// Blocks of DSP ADPCM: addresses, contexts, playing bytes, joining.
+mod coefficients;
+mod frame;
+mod join;
+mod play;
+mod sample;
+
+ghost use mathlib.Core.Path.{_≡_};
+ghost use Rattle.block.specs.Address.{addressToSample, sampleToAddress};
+ghost use Rattle.block.specs.Context.{predictorOf, scaleOf, pushSample, withHeader, contextOf};
+ghost use Prim.Native.Nat.{_+_, _*_, _≤_};
+ghost use lib.IntN.{pos};
+ghost use lib.ListN.{length};
+ghost use Rattle.block.specs.Frame.{frameInto, lent};
+ghost use Rattle.block.specs.Refusals.{numberOf};
+ghost use Rattle.block.specs.Play.{playBytes, playEffect, playOutcome};
+ghost use Rattle.block.specs.Join.{joinBlocks, joinEffect, joinOutcome};
+
+// What playing carries from frame to frame: the header, and the newest sample and the one before it.
+#[repr(C)]
+pub struct FrameContext {
+    pub predictor_and_scale: u16,
+    pub last_samples: [i16; 2],
+}
+
+// Why a call is refused.
+pub enum Refusal {
+    LengthOutOfRange,
+    LowestPair,
+    OutputTooShort,
+    CoefficientsDiffer,
+}
+
+// Playing's answer: the sample count, or the refusal.
+pub enum PlayAnswer {
+    Played(u64),
+    Refused(Refusal),
+}
+
+// Joining's answer: the sum of the lengths in nibbles, or the refusal.
+pub enum JoinAnswer {
+    Joined(u64),
+    Refused(Refusal),
+}
+
+// What playing gives: its answer, and the final context or, where it is refused, the one given.
+pub struct Playback {
+    pub answer: PlayAnswer,
+    pub context: FrameContext,
+}
+
+impl FrameContext {
+    // All zeros.
+    pub fn new() -> FrameContext
+        ensures { λ r. ⌜ r ≡ contextOf 0 (pos 0) (pos 0) ⌝ }
+    {
+        let last_samples = [0i16; 2];
+        FrameContext {
+            predictor_and_scale: 0,
+            last_samples: last_samples,
+        }
+    }
+
+    // The index of the coefficients' pair.
+    pub fn predictor(self) -> usize
+        ensures { λ r. ⌜ r ≡ predictorOf (self .«predictor_and_scale») ⌝ }
+    {
+        (self.predictor_and_scale / 16 % 8) as usize
+    }
+
+    // What a nibble is multiplied by.
+    pub fn scale(self) -> u32
+        ensures { λ r. ⌜ r ≡ scaleOf (self .«predictor_and_scale») ⌝ }
+    {
+        1u32 << (self.predictor_and_scale % 16)
+    }
+
+    // The context under another header.
+    pub(crate) fn with_header(self, header: u8) -> FrameContext
+        ensures { λ r. ⌜ r ≡ withHeader self header ⌝ }
+    {
+        let last_samples = self.last_samples;
+        FrameContext {
+            predictor_and_scale: header as u16,
+            last_samples: last_samples,
+        }
+    }
+
+    // The context with one sample more in its history.
+    pub fn push_sample(self, sample: i16) -> FrameContext
+        ensures { λ r. ⌜ r ≡ pushSample self sample ⌝ }
+    {
+        let before = self.last_samples;
+        let last_samples = [sample, before[0]];
+        FrameContext {
+            predictor_and_scale: self.predictor_and_scale,
+            last_samples: last_samples,
+        }
+    }
+}
+
+// The samples before an address.
+pub fn address_to_sample(address: u32) -> u64
+    ensures { λ r. ⌜ r ≡ addressToSample address ⌝ }
+{
+    let frame = (address / 16) as u64;
+    let place = (address % 16) as u64;
+    if place < 2 {
+        14 * frame
+    } else {
+        14 * frame + (place - 2)
+    }
+}
+
+// The address of a sample.
+pub fn sample_to_address(sample: u32) -> u64
+    ensures { λ r. ⌜ r ≡ sampleToAddress sample ⌝ }
+{
+    let s = sample as u64;
+    let frames = s / 14 + 1;
+    s + frames * 2
+}
+
+// The step: `count` samples of the frame at byte `at`, under the context's header, written to the output from `to` on.
+// internal: what playing a block, playing from its middle, comparing and voices are made of.
+pub fn play_frame(
+    bytes: &[u8],
+    at: usize,
+    count: usize,
+    coefficients: [i16; 16],
+    context: FrameContext,
+    out: &mut [i16],
+    to: usize,
+) -> FrameContext
+    requires { ⌜ (2 * at + 2 + count ≤ 2 * length (now bytes)) × (to + count ≤ length (now out)) ⌝ }
+    ensures { λ r. ⌜ lent r (now (out .exit)) ≡ frameInto (now (bytes .entry)) at count coefficients context (now (out .entry)) to ⌝ }
+{
+    let index = 2 * context.predictor();
+    let c0 = coefficients[index];
+    let c1 = coefficients[index + 1];
+    let scale = context.scale();
+    let history = context.last_samples;
+    let s0 = history[0];
+    let s1 = history[1];
+    let h = frame::play_nibbles(bytes, at + 1, count, c0, c1, scale, s0, s1, out, to);
+    let last_samples = [h.s0, h.s1];
+    FrameContext {
+        predictor_and_scale: context.predictor_and_scale,
+        last_samples: last_samples,
+    }
+}
+
+// Plays the first `len` nibbles of a block's bytes to the output.
+pub fn play_bytes(
+    bytes: &[u8],
+    len: u32,
+    coefficients: [i16; 16],
+    context: FrameContext,
+    out: &mut [i16],
+) -> Playback
+    ensures { λ r. ⌜ playEffect (playOutcome (r .answer)) (lent (r .context) (now (out .exit))) ≡ playBytes (now (bytes .entry)) len coefficients context (now (out .entry)) ⌝ }
+{
+    if play::bad_length(len, bytes.len()) {
+        return Playback {
+            answer: PlayAnswer::Refused(Refusal::LengthOutOfRange),
+            context: context,
+        };
+    }
+    if coefficients::lowest_pair(coefficients) {
+        return Playback {
+            answer: PlayAnswer::Refused(Refusal::LowestPair),
+            context: context,
+        };
+    }
+    let count = address_to_sample(len);
+    if (out.len() as u64) < count {
+        return Playback {
+            answer: PlayAnswer::Refused(Refusal::OutputTooShort),
+            context: context,
+        };
+    }
+    let after = play::play_frames(bytes, len as usize, coefficients, context, out);
+    Playback {
+        answer: PlayAnswer::Played(count),
+        context: after,
+    }
+}
+
+// Joins two blocks: the first one's bytes and then the second's to the output.
+pub fn extend_samples(
+    first: &[u8],
+    first_len: u32,
+    first_coefficients: [i16; 16],
+    second: &[u8],
+    second_len: u32,
+    second_coefficients: [i16; 16],
+    out: &mut [u8],
+) -> JoinAnswer
+    ensures { λ r. ⌜ joinEffect (joinOutcome r) (now (out .exit)) ≡ joinBlocks (now (first .entry)) «first_len» «first_coefficients» (now (second .entry)) «second_len» «second_coefficients» (now (out .entry)) ⌝ }
+{
+    if join::shorter(out.len(), first.len(), second.len()) {
+        return JoinAnswer::Refused(Refusal::OutputTooShort);
+    }
+    if !coefficients::equal_coefficients(first_coefficients, second_coefficients) {
+        return JoinAnswer::Refused(Refusal::CoefficientsDiffer);
+    }
+    join::copy(first, out, 0);
+    join::copy(second, out, first.len());
+    JoinAnswer::Joined(first_len as u64 + second_len as u64)
+}
+
+// Document 01's number of a refusal.
+pub fn code(refusal: Refusal) -> u32
+    ensures { λ r. ⌜ r ≡ numberOf refusal ⌝ }
+{
+    match refusal {
+        Refusal::LengthOutOfRange => 12,
+        Refusal::LowestPair => 13,
+        Refusal::OutputTooShort => 14,
+        Refusal::CoefficientsDiffer => 18,
+    }
+}

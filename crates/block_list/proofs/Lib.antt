@@ -1,0 +1,2 @@
+-- Laws of this program's proofs.
+mod Sixteen
