@@ -2,7 +2,7 @@
 use mathlib.Core.List.{List, [], _∷_, _++_}
 use Prim.Native.Nat.{ℕ, zero, suc, _+_, _*_, _/_, _%_}
 use lib.IntN.{ℤ}
-use lib.ListN.{replicate}
+use lib.ListN.{getD, replicate}
 use mir.Syntax.{w16}
 use mir.Val.{ofZ}
 use Rattle.frame.specs.declared.History.{History}
@@ -10,10 +10,17 @@ use Rattle.clip.specs.Sizes.{blocksOf, bodyOf, offsetOf, lengthOf}
 
 -- "stored fields are big-endian"
 abbrev pub be16 : ℕ → List ℕ
-be16 v = v / 256 % 256 ∷ v % 256 ∷ []
+be16 v = v / 256 ∷ v % 256 ∷ []
 
 abbrev pub be32 : ℕ → List ℕ
-be32 v = v / 16777216 % 256 ∷ v / 65536 % 256 ∷ v / 256 % 256 ∷ v % 256 ∷ []
+be32 v = v / 16777216 ∷ v / 65536 % 256 ∷ v / 256 % 256 ∷ v % 256 ∷ []
+
+-- the number that two and four bytes are
+abbrev pub at16 : List ℕ → ℕ → ℕ
+at16 l i = getD l i 0 * 256 + getD l (i + 1) 0
+
+abbrev pub at32 : List ℕ → ℕ → ℕ
+at32 l i = getD l i 0 * 16777216 + getD l (i + 1) 0 * 65536 + getD l (i + 2) 0 * 256 + getD l (i + 3) 0
 
 -- a sample's two bytes
 abbrev pub sample16 : ℤ → List ℕ

@@ -1,6 +1,8 @@
 // The clip image: starting, feeding, closing.
 ghost use mathlib.Core.Path.{_≡_};
 ghost use Rattle.clip.specs.Encoding.{numberOf};
+mod fields;
+
 use frame::History;
 
 // Why a call is refused.
