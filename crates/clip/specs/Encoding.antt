@@ -60,16 +60,18 @@ totalOk n = leb 1 n && leb n most
 abbrev pub blockOk : ℕ → Bool
 blockOk b = leb 8 b && leb b 65536
 
+-- "n > N, N or B outside limits or B not a multiple of 8, rate 0"
+unfoldable pub numbersOk : ℕ → ℕ → ℕ → ℕ → Bool
+numbersOk n total b rate = leb n total && (totalOk total && (blockOk b && (eqb (b % 8) 0 && not (eqb rate 0))))
+
+-- "closed with n < N", "passes above 104 × the frames encoded"
+unfoldable pub countsOk : ℕ → ℕ → Bool → ℕ → Bool
+countsOk n total closed passes = not (closed && ltb n total) && leb passes (104 * encodedOf n total closed)
+
+-- a state with none of these, nor "a coefficient outside 7"
 unfoldable pub validOf : Encoder → Bool
 validOf e =
-    leb (e .fed) (e .total)
-    && (totalOk (e .total)
-    && (blockOk (e .block)
-    && (eqb (e .block % 8) 0
-    && (not (eqb (e .rate) 0)
-    && (withinLimits (e .coefficients)
-    && (not (e .closed && ltb (e .fed) (e .total))
-    && leb (e .passes) (104 * encodedOf (e .fed) (e .total) (e .closed))))))))
+    numbersOk (e .fed) (e .total) (e .block) (e .rate) && (withinLimits (e .coefficients) && countsOk (e .fed) (e .total) (e .closed) (e .passes))
 
 -- ---- a frame is stored
 

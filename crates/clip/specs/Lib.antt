@@ -2,3 +2,4 @@
 pub mod Sizes
 pub mod Image
 pub mod Encoding
+pub mod Facts

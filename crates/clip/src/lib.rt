@@ -1,7 +1,10 @@
 // The clip image: starting, feeding, closing.
 ghost use mathlib.Core.Path.{_≡_};
 ghost use Rattle.clip.specs.Encoding.{numberOf};
+
+mod checks;
 mod fields;
+mod sizes;
 
 use frame::History;
 
