@@ -2,3 +2,4 @@
 mod Bits
 pub mod Sizing
 pub mod Sound
+mod FieldRuns

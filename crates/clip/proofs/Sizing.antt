@@ -1,7 +1,7 @@
 -- Laws of the sizes.
 use mathlib.Core.Path.{_≡_, refl, sym, ap, _∙_}
 use Prim.Native.Nat.{ℕ, suc, _+_, _-_, _*_, _/_, _≤_, _<_}
-use native.Mathlib.Nat.{mul-le-mul, le-refl, div-lt-iff-lt-mul, suc-mul}
+use native.Mathlib.Nat.{mul-le-mul, le-refl, div-lt-iff-lt-mul, le-div-iff-mul-le, suc-mul, mul-assoc}
 use native.Mathlib.Omega.{arith}
 use Rattle.clip.specs.Sizes.{most, framesOf, lastOf, blocksOf, bodyOf, sizeOf}
 use Rattle.clip.specs.Facts.{Limits}
@@ -18,3 +18,22 @@ blocks-le f b w =
 pub frames-le : (n : ℕ) → n ≤ most → framesOf n ≤ 1048576
 unfolding framesOf
 frames-le n h = omega arith
+
+-- a block starts within the bodies
+pub start-within : (n b k : ℕ) → Limits n b → k < blocksOf n b → k * b < 8 * framesOf n
+unfolding blocksOf
+start-within n b k L h =
+    let z : 0 < b = omega (arith, L .wide) in
+    omega (arith, le-div-iff-mul-le {x = suc k} {y = 8 * framesOf n + b - 1} z .0 h, suc-mul k b)
+
+-- its first frame is one of the clip's
+pub block-first : (n b k : ℕ) → Limits n b → k < blocksOf n b → k * (b / 8) < framesOf n
+block-first n b k L h =
+    let w : b ≡ b / 8 * 8 = omega (arith, L .eights) in
+    let p : k * b ≡ k * (b / 8) * 8 = ap (λ (x : ℕ). k * x) w ∙ sym (mul-assoc k (b / 8) 8) in
+    omega (arith, p, start-within n b k L h)
+
+-- the last frame, and what is in it
+pub frames-some : (n : ℕ) → 1 ≤ n → (1 ≤ framesOf n) × (14 * (framesOf n - 1) ≤ n) × (n - 14 * (framesOf n - 1) ≤ 14)
+unfolding framesOf
+frames-some n h = (omega arith, omega arith, omega arith)

@@ -3,6 +3,7 @@ ghost use mathlib.Core.Path.{_≡_};
 ghost use Rattle.clip.specs.Encoding.{numberOf};
 
 mod checks;
+mod contents;
 mod fields;
 mod sizes;
 

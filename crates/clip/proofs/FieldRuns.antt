@@ -1,0 +1,52 @@
+-- Runs of fields, one after the other.
+use mathlib.Core.Path.{_≡_, refl, sym, ap, ap₂, _∙_}
+use mathlib.Core.List.{List, [], _∷_, _++_, append-assoc}
+use Prim.Native.Nat.{ℕ, zero, suc, _+_, _*_, _≤_, _<_, _^_}
+use native.Mathlib.Omega.{arith}
+use native.Mathlib.Numerals.{add-one}
+use lib.IntN.{ℤ, pos}
+use lib.ListN.{length, take, getD, replicate, length-append}
+use lib.Seq.{sets, take-suc, length-take-le}
+use lib.Signed.{mag}
+use mir.Facts.{toZ-ofZ}
+use mir.Syntax.{w16}
+use mir.Val.{ofZ, toZ, SFits}
+use Rattle.whole.proofs.Stores.{sets-append, sets-then}
+use Rattle.clip.specs.Image.{be16, be32, sample16, coefficientBytes}
+
+-- three runs one after the other
+pub runs3 : (l l₁ l₂ l₃ a b c : List ℕ) (at p q : ℕ) → l₁ ≡ sets l at a → l₂ ≡ sets l₁ p b → l₃ ≡ sets l₂ q c → p ≡ at + length a → q ≡ p + length b → l₃ ≡ sets l at (a ++ (b ++ c))
+runs3 l l₁ l₂ l₃ a b c at p q e₁ e₂ e₃ hp hq =
+    e₃
+    ∙ ap (λ (m : List ℕ). sets m q c) (e₂ ∙ ap (λ (m : List ℕ). sets m p b) e₁)
+    ∙ sets-then (sets l at a) p q b c hq
+    ∙ sets-then l at p a (b ++ c) hp
+
+-- ---- coefficients
+
+coefficient-snoc : (xs : List ℤ) (x : ℤ) → coefficientBytes (xs ++ (x ∷ [])) ≡ coefficientBytes xs ++ sample16 x
+unfolding coefficientBytes
+coefficient-snoc [] x = refl
+coefficient-snoc (y ∷ xs) x = ap (λ (l : List ℕ). sample16 y ++ l) (coefficient-snoc xs x)
+
+pub coefficient-length : (cs : List ℤ) → length (coefficientBytes cs) ≡ 2 * length cs
+unfolding coefficientBytes
+coefficient-length [] = refl
+coefficient-length (x ∷ cs) = omega (arith, coefficient-length cs)
+
+pub coefficient-none : (l : List ℕ) (cs : List ℤ) → l ≡ sets l 16 (coefficientBytes (take 0 cs))
+unfolding coefficientBytes
+coefficient-none l cs = refl
+
+-- a coefficient more
+pub coefficient-turn : (l₀ l out : List ℕ) (cs : List ℤ) (i r : ℕ) → i < length cs → mag (getD cs i (pos 0)) < 2 ^ 15
+    → l ≡ sets l₀ 16 (coefficientBytes (take i cs)) → r ≡ ofZ w16 (toZ w16 (ofZ w16 (getD cs i (pos 0)))) → out ≡ sets l (16 + 2 * i) (be16 r)
+    → out ≡ sets l₀ 16 (coefficientBytes (take (i + 1) cs))
+coefficient-turn l₀ l out cs i r lt hm e q eo =
+    let k : 16 + 2 * i ≡ 16 + length (coefficientBytes (take i cs)) = omega (arith, coefficient-length (take i cs), length-take-le i cs (omega arith)) in
+    let f : SFits w16 (getD cs i (pos 0)) = record { sfits = hm } in
+    eo
+    ∙ ap₂ (λ (m : List ℕ) (z : ℕ). sets m (16 + 2 * i) (be16 z)) e (q ∙ ap (ofZ w16) (toZ-ofZ f))
+    ∙ sets-then l₀ 16 (16 + 2 * i) (coefficientBytes (take i cs)) (sample16 (getD cs i (pos 0))) k
+    ∙ ap (λ (v : List ℕ). sets l₀ 16 v)
+    (sym (coefficient-snoc (take i cs) (getD cs i (pos 0))) ∙ ap coefficientBytes (sym (take-suc cs i (pos 0) lt) ∙ ap (λ (a : ℕ). take a cs) (sym (add-one i))))

@@ -1,0 +1,74 @@
+// The head and the contents of an image.
+ghost use mathlib.Core.Path.{_≡_};
+ghost use mathlib.Core.List.{_++_};
+ghost use Prim.Native.Nat.{_+_, _*_, _≤_, _<_};
+ghost use lib.ListN.{length, replicate};
+ghost use lib.Seq.{sets};
+ghost use Rattle.clip.specs.Facts.{Limits};
+ghost use Rattle.clip.specs.Image.{be32, mark, contextBytes, coefficientBytes};
+ghost use Rattle.clip.specs.Sizes.{blocksOf, lengthOf};
+use crate::fields::bits16;
+use crate::fields::put16;
+use crate::fields::put32;
+use crate::fields::zeros;
+use crate::sizes::frames;
+use frame::History;
+
+// The mark, at the image's start.
+pub(crate) fn put_mark(image: &mut [u8])
+    requires { ⌜ 4 ≤ length (now image) ⌝ }
+    ensures { λ _. ⌜ now (image .exit) ≡ sets (now (image .entry)) 0 mark ⌝ }
+{
+    let m = b"DSPC";
+    image[0] = m[0];
+    image[1] = m[1];
+    image[2] = m[2];
+    image[3] = m[3];
+}
+
+// A block's context: its first header byte, and the history before it.
+pub(crate) fn put_context(image: &mut [u8], at: usize, header: u8, history: History)
+    requires { ⌜ at + 6 ≤ length (now image) ⌝ }
+    ensures { λ _. ⌜ now (image .exit) ≡ sets (now (image .entry)) at (contextBytes header history) ⌝ }
+{
+    put16(image, at, header as u16);
+    put16(image, at + 2, bits16(history.newest));
+    put16(image, at + 4, bits16(history.older));
+}
+
+// The coefficients, two bytes each.
+pub(crate) fn put_coefficients(image: &mut [u8], cs: [i16; 16])
+    requires { ⌜ 48 ≤ length (now image) ⌝ }
+    ensures { λ _. ⌜ now (image .exit) ≡ sets (now (image .entry)) 16 (coefficientBytes cs) ⌝ }
+{
+    let mut i: usize = 0;
+    while i < 16 {
+        put16(image, 16 + 2 * i, bits16(cs[i]));
+        i += 1;
+    }
+}
+
+// The nibbles of block j.
+pub(crate) fn block_length(total: usize, block: usize, j: usize) -> usize
+    requires { ⌜ Limits total block × (j < blocksOf total block) ⌝ }
+    ensures { λ r. ⌜ (r ≡ lengthOf total block j) × (r < 4294967296) ⌝ }
+{
+    let per = block / 8;
+    let f = frames(total);
+    let first = j * per;
+    if first + per < f {
+        return 16 * per;
+    }
+    let last = total - 14 * (f - 1);
+    16 * (f - 1 - first) + (last + 2)
+}
+
+// An entry with no context.
+pub(crate) fn put_entry(image: &mut [u8], at: usize, offset: u32, nibbles: u32)
+    requires { ⌜ at + 16 ≤ length (now image) ⌝ }
+    ensures { λ _. ⌜ now (image .exit) ≡ sets (now (image .entry)) at (be32 offset ++ (be32 nibbles ++ replicate 8 0)) ⌝ }
+{
+    put32(image, at, offset);
+    put32(image, at + 4, nibbles);
+    zeros(image, at + 8, 8);
+}
