@@ -3,3 +3,4 @@ mod Bits
 pub mod Sizing
 pub mod Sound
 mod FieldRuns
+pub mod Tables

@@ -37,3 +37,11 @@ block-first n b k L h =
 pub frames-some : (n : ℕ) → 1 ≤ n → (1 ≤ framesOf n) × (14 * (framesOf n - 1) ≤ n) × (n - 14 * (framesOf n - 1) ≤ 14)
 unfolding framesOf
 frames-some n h = (omega arith, omega arith, omega arith)
+
+-- sizes that fit
+pub blocks-most : (n b : ℕ) → Limits n b → blocksOf n b ≤ 1048576
+unfolding blocksOf
+blocks-most n b L = omega (arith, blocks-le (framesOf n) b (L .wide), frames-le n (L .few))
+
+pub start-most : (n b k : ℕ) → Limits n b → k < blocksOf n b → k * b < 8388608
+start-most n b k L h = omega (arith, start-within n b k L h, frames-le n (L .few))

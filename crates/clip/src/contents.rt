@@ -5,7 +5,7 @@ ghost use Prim.Native.Nat.{_+_, _*_, _≤_, _<_};
 ghost use lib.ListN.{length, replicate};
 ghost use lib.Seq.{sets};
 ghost use Rattle.clip.specs.Facts.{Limits};
-ghost use Rattle.clip.specs.Image.{be32, mark, contextBytes, coefficientBytes};
+ghost use Rattle.clip.specs.Image.{be32, mark, noContext, contextBytes, coefficientBytes, tableOf};
 ghost use Rattle.clip.specs.Sizes.{blocksOf, lengthOf};
 use crate::fields::bits16;
 use crate::fields::put16;
@@ -71,4 +71,18 @@ pub(crate) fn put_entry(image: &mut [u8], at: usize, offset: u32, nibbles: u32)
     put32(image, at, offset);
     put32(image, at + 4, nibbles);
     zeros(image, at + 8, 8);
+}
+
+// The contents: kk entries with no contexts.
+pub(crate) fn put_table(image: &mut [u8], total: usize, block: usize, kk: usize)
+    requires { ⌜ Limits total block × (kk ≡ blocksOf total block) × (56 + 16 * kk ≤ length (now image)) ⌝ }
+    ensures { λ _. ⌜ now (image .exit) ≡ sets (now (image .entry)) 56 (tableOf (λ j. noContext) total block 0 kk) ⌝ }
+{
+    let mut k: usize = 0;
+    while k < kk {
+        let offset = 56 + 16 * kk + k * block;
+        let nibbles = block_length(total, block, k);
+        put_entry(image, 56 + 16 * k, offset as u32, nibbles as u32);
+        k += 1;
+    }
 }
