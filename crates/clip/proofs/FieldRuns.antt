@@ -12,7 +12,8 @@ use mir.Facts.{toZ-ofZ}
 use mir.Syntax.{w16}
 use mir.Val.{ofZ, toZ, SFits}
 use Rattle.whole.proofs.Stores.{sets-append, sets-then}
-use Rattle.clip.specs.Image.{be16, be32, sample16, coefficientBytes}
+use Rattle.clip.specs.Image.{be16, be32, sample16, coefficientBytes, headOf}
+use Rattle.clip.specs.Sizes.{blocksOf}
 
 -- three runs one after the other
 pub runs3 : (l l₁ l₂ l₃ a b c : List ℕ) (at p q : ℕ) → l₁ ≡ sets l at a → l₂ ≡ sets l₁ p b → l₃ ≡ sets l₂ q c → p ≡ at + length a → q ≡ p + length b → l₃ ≡ sets l at (a ++ (b ++ c))
@@ -50,3 +51,16 @@ coefficient-turn l₀ l out cs i r lt hm e q eo =
     ∙ sets-then l₀ 16 (16 + 2 * i) (coefficientBytes (take i cs)) (sample16 (getD cs i (pos 0))) k
     ∙ ap (λ (v : List ℕ). sets l₀ 16 v)
     (sym (coefficient-snoc (take i cs) (getD cs i (pos 0))) ∙ ap coefficientBytes (sym (take-suc cs i (pos 0) lt) ∙ ap (λ (a : ℕ). take a cs) (sym (add-one i))))
+
+-- four runs one after the other
+pub runs4 : (l l₁ l₂ l₃ l₄ a b c d : List ℕ) (at p q r : ℕ) → l₁ ≡ sets l at a → l₂ ≡ sets l₁ p b → l₃ ≡ sets l₂ q c → l₄ ≡ sets l₃ r d
+    → p ≡ at + length a → q ≡ p + length b → r ≡ q + length c → l₄ ≡ sets l at (a ++ (b ++ (c ++ d)))
+runs4 l l₁ l₂ l₃ l₄ a b c d at p q r e₁ e₂ e₃ e₄ hp hq hr =
+    runs3 l₁ l₂ l₃ l₄ b c d p q r e₂ e₃ e₄ hq hr ∙ ap (λ (m : List ℕ). sets m p (b ++ (c ++ d))) e₁ ∙ sets-then l at p a (b ++ (c ++ d)) hp
+
+pub head-length : (first : List ℕ) (n rate b : ℕ) (cs : List ℤ) (gain : ℕ) → length first ≡ 4 → length cs ≡ 16 → length (headOf first n rate b cs gain) ≡ 56
+unfolding headOf
+head-length first n rate b cs gain p q =
+    let t : List ℕ = be16 gain ++ (0 ∷ 0 ∷ be32 (blocksOf n b)) in
+    let r : List ℕ = be32 n ++ (be32 rate ++ (be32 b ++ (coefficientBytes cs ++ t))) in
+    omega (arith, length-append first r, length-append (coefficientBytes cs) t, coefficient-length cs)

@@ -5,12 +5,14 @@ ghost use Prim.Native.Nat.{_+_, _*_, _≤_, _<_};
 ghost use lib.ListN.{length, replicate};
 ghost use lib.Seq.{sets};
 ghost use Rattle.clip.specs.Facts.{Limits};
-ghost use Rattle.clip.specs.Image.{be32, mark, noContext, contextBytes, coefficientBytes, tableOf};
-ghost use Rattle.clip.specs.Sizes.{blocksOf, lengthOf};
+ghost use Rattle.clip.specs.Image.{be16, be32, mark, noMark, noContext, contextBytes, coefficientBytes, headOf, tableOf, freshOf};
+ghost use Rattle.clip.specs.Sizes.{blocksOf, lengthOf, sizeOf};
 use crate::fields::bits16;
 use crate::fields::put16;
 use crate::fields::put32;
 use crate::fields::zeros;
+use crate::sizes::blocks;
+use crate::sizes::body;
 use crate::sizes::frames;
 use frame::History;
 
@@ -85,4 +87,54 @@ pub(crate) fn put_table(image: &mut [u8], total: usize, block: usize, kk: usize)
         put_entry(image, 56 + 16 * k, offset as u32, nibbles as u32);
         k += 1;
     }
+}
+
+// N, rate and B.
+fn put_numbers(image: &mut [u8], total: u32, rate: u32, block: u32)
+    requires { ⌜ 16 ≤ length (now image) ⌝ }
+    ensures { λ _. ⌜ now (image .exit) ≡ sets (now (image .entry)) 4 (be32 total ++ (be32 rate ++ be32 block)) ⌝ }
+{
+    put32(image, 4, total);
+    put32(image, 8, rate);
+    put32(image, 12, block);
+}
+
+// Gain, two zero bytes and K.
+fn put_rest(image: &mut [u8], gain: u16, kk: u32)
+    requires { ⌜ 56 ≤ length (now image) ⌝ }
+    ensures { λ _. ⌜ now (image .exit) ≡ sets (now (image .entry)) 48 (be16 gain ++ (replicate 2 0 ++ be32 kk)) ⌝ }
+{
+    put16(image, 48, gain);
+    zeros(image, 50, 2);
+    put32(image, 52, kk);
+}
+
+// The head with no mark.
+fn put_head(image: &mut [u8], total: u32, rate: u32, block: u32, gain: u16, cs: [i16; 16], kk: u32)
+    requires { ⌜ (56 ≤ length (now image)) × (kk ≡ blocksOf total block) ⌝ }
+    ensures { λ _. ⌜ now (image .exit) ≡ sets (now (image .entry)) 0 (headOf noMark total rate block cs gain) ⌝ }
+{
+    zeros(image, 0, 4);
+    put_numbers(image, total, rate, block);
+    put_coefficients(image, cs);
+    put_rest(image, gain, kk);
+}
+
+// All the bytes of a clip's start.
+pub(crate) fn put_fresh(
+    image: &mut [u8],
+    total: u32,
+    rate: u32,
+    block: u32,
+    gain: u16,
+    cs: [i16; 16],
+)
+    requires { ⌜ Limits total block × (sizeOf total block ≤ length (now image)) ⌝ }
+    ensures { λ _. ⌜ now (image .exit) ≡ sets (now (image .entry)) 0 (freshOf total rate block cs gain) ⌝ }
+{
+    let kk = blocks(total as usize, block as usize);
+    let bodies = body(total as usize);
+    put_head(image, total, rate, block, gain, cs, kk as u32);
+    put_table(image, total as usize, block as usize, kk);
+    zeros(image, 56 + 16 * kk, bodies);
 }
