@@ -4,3 +4,4 @@ pub mod Sizing
 pub mod Sound
 mod FieldRuns
 pub mod Tables
+pub mod Accepting

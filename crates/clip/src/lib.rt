@@ -1,12 +1,14 @@
 // The clip image: starting, feeding, closing.
 ghost use mathlib.Core.Path.{_≡_};
-ghost use Rattle.clip.specs.Encoding.{numberOf};
+ghost use Rattle.clip.specs.Encoding.{both, outOf, numberOf, noEncoder, startOf};
 
 mod checks;
 mod contents;
 mod fields;
 mod sizes;
 
+use checks::start_answer;
+use contents::put_fresh;
 use frame::History;
 
 // Why a call is refused.
@@ -62,5 +64,71 @@ pub fn code(refusal: Refusal) -> u32
         Refusal::AlreadyClosed => 9,
         Refusal::PieceTooLong => 10,
         Refusal::Unfinished => 11,
+    }
+}
+
+// The state of no clip: all zeros, which every call refuses.
+fn no_encoder() -> Encoder
+    ensures { λ r. ⌜ r ≡ noEncoder ⌝ }
+{
+    let history = History {
+        newest: 0,
+        older: 0,
+    };
+    Encoder {
+        total: 0,
+        rate: 0,
+        block: 0,
+        gain: 0,
+        coefficients: [0i16; 16],
+        fed: 0,
+        history: history,
+        frame: [0i16; 14],
+        passes: 0,
+        closed: false,
+    }
+}
+
+// Starts a clip: its state, and all the bytes of its image.
+pub fn start(
+    total: u32,
+    rate: u32,
+    wanted: u32,
+    gain: u16,
+    coefficients: [i16; 16],
+    history: History,
+    image: &mut [u8],
+) -> Encoding
+    ensures { λ r. ⌜ outOf (r .answer) (both (r .encoder) (now (image .exit))) ≡ startOf total rate wanted gain coefficients history (now (image .entry)) ⌝ }
+{
+    let answer = start_answer(total, rate, wanted, coefficients, image.len());
+    match answer {
+        Answer::Accepted => {
+            let block = wanted / 8 * 8;
+            put_fresh(image, total, rate, block, gain, coefficients);
+            let encoder = Encoder {
+                total: total,
+                rate: rate,
+                block: block,
+                gain: gain,
+                coefficients: coefficients,
+                fed: 0,
+                history: history,
+                frame: [0i16; 14],
+                passes: 0,
+                closed: false,
+            };
+            Encoding {
+                answer: Answer::Accepted,
+                encoder: encoder,
+            }
+        }
+        Answer::Refused(why) => {
+            let encoder = no_encoder();
+            Encoding {
+                answer: Answer::Refused(why),
+                encoder: encoder,
+            }
+        }
     }
 }
