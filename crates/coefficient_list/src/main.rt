@@ -1,8 +1,8 @@
 // Replays a list of clips of which the Rust's records and coefficients are known. A line of the input is a letter, a count of 0 to 14
 // in two decimal digits, and fourteen samples, each four hexadecimal digits of its pattern, those above the count zero.
-// n starts a new clip; b adds the samples to the piece that is to come; m does the same and measures that piece;
-// a asks for the coefficients. A line of the output is what an asking gives: the number of records, each record's two patterns,
-// one and the same for every NaN, and the sixteen coefficients' patterns. A call that is refused writes its number.
+// n starts a new clip, b adds the samples to the piece that is to come, m does the same and measures that piece, a asks for the
+// coefficients. A line of the output is what an asking gives: the number of records, with the one of the frame that is filled up;
+// each record's two patterns, one and the same for every NaN; the sixteen coefficients' patterns. A refusal writes its number.
 ghost use Prim.Native.Nat.{_≤_, _<_};
 use coefficients::Answer;
 use coefficients::CoefficientCalculator;
@@ -118,6 +118,14 @@ fn write_coefficients(coefficients: &[i16; 16]) {
     }
 }
 
+// Writes the line of an answer.
+fn write_answer(store: &[f64; 128], n: usize, coefficients: &[i16; 16]) -> bool {
+    io::print_decimal(1, n as u64);
+    write_records(store, n);
+    write_coefficients(coefficients);
+    io::write_all(1, b"\n")
+}
+
 // A number that no record has goes to record r's place.
 fn mark(store: &mut [f64; 128], r: usize) {
     if r < 64 {
@@ -183,14 +191,6 @@ fn ask(calculator: CoefficientCalculator, pending: usize, store: &mut [f64; 128]
         pending,
         more,
     }
-}
-
-// Writes the line of an answer.
-fn write_answer(store: &[f64; 128], n: usize, coefficients: &[i16; 16]) -> bool {
-    io::print_decimal(1, n as u64);
-    write_records(store, n);
-    write_coefficients(coefficients);
-    io::write_all(1, b"\n")
 }
 
 // Replays one line.
