@@ -16,6 +16,7 @@ const EXTREMES: [i16; 2] = [i16::MIN, i16::MAX];
 pub fn cases() -> Vec<Clip> {
     let mut cases = of_all_lengths();
     cases.extend(thresholds());
+    cases.extend(nearly_constant());
     cases.extend(changes());
     cases.extend(long());
     cases.extend(cut_in_every_way());
@@ -93,6 +94,21 @@ fn thresholds() -> Vec<Clip> {
         cases.extend([frame.to_vec(), full, loud].map(|samples| Cut::Whole.apply(&samples)));
     }
     cases
+}
+
+/// One level, but for one or two samples: frames that are nearly not told apart from their shifted selves.
+fn nearly_constant() -> Vec<Clip> {
+    let mut clips = vec![];
+    for level in [i16::MAX, i16::MIN, 30_000, -26_000, 20_000] {
+        for (places, change) in [(1, 1), (1, 2), (1, 3), (2, 1), (3, 1)] {
+            let mut samples = constant(level, 43);
+            for place in samples[17..].iter_mut().step_by(4).take(places) {
+                *place -= change * level.signum();
+            }
+            clips.push(Cut::Whole.apply(&samples));
+        }
+    }
+    clips
 }
 
 /// Sounds one after the other, so that some frames have records and some have none.
