@@ -96,13 +96,14 @@ fn thresholds() -> Vec<Clip> {
     cases
 }
 
-/// One level, but for one or two samples: frames that are nearly not told apart from their shifted selves.
+/// One level, but for one to three samples: ratios just above and just below the least that is analysed.
 fn nearly_constant() -> Vec<Clip> {
     let mut clips = vec![];
     for level in [i16::MAX, i16::MIN, 30_000, -26_000, 20_000] {
-        for (places, change) in [(1, 1), (1, 2), (1, 3), (2, 1), (3, 1)] {
+        for (first, places, change) in [(26, 1, 1), (26, 1, 2), (26, 2, 1), (17, 1, 1), (17, 3, 1)]
+        {
             let mut samples = constant(level, 43);
-            for place in samples[17..].iter_mut().step_by(4).take(places) {
+            for place in samples[first..].iter_mut().step_by(4).take(places) {
                 *place -= change * level.signum();
             }
             clips.push(Cut::Whole.apply(&samples));
