@@ -1,13 +1,12 @@
 -- Laws of a nibble's number and of one sample.
-use mathlib.Core.Path.{_≡_, refl, sym, ap, _∙_, subst}
+use mathlib.Core.Path.{_≡_}
 use mathlib.Core.Bool.{Bool, true, false, cond}
-use Prim.Native.Nat.{ℕ, suc, _+_, _-_, _*_, _≤_, _<_}
+use Prim.Native.Nat.{ℕ, _-_, _≤_, _<_}
 use native.Mathlib.Omega.{arith}
 use lib.Dec.{ltb}
-use lib.IntN.{ℤ, pos, negsuc, natAbs, _+ℤ_, _-ℤ_, _*ℤ_}
+use lib.IntN.{ℤ, pos, negsuc, natAbs, _-ℤ_}
 use mir.Syntax.{w16}
 use mir.Val.{SFits}
-use Rattle.whole.specs.Whole.{clamp16, floored}
 use Rattle.whole.proofs.Values.{abs-sub}
 use Rattle.whole.proofs.Laws.{clamp-fits}
 use Rattle.whole.proofs.Differences.{diff-of, diff-pos, diff-sub, diff-eq}
