@@ -48,7 +48,11 @@ impl Case {
                 (2, Part { len: *value, ..empty.clone() }, empty, FrameContext::default(), 0)
             }
         };
-        assert!(first.bytes.len() <= MOST_BYTES && second.bytes.len() <= MOST_BYTES && room <= MOST_ROOM);
+        assert!(
+            first.bytes.len() <= MOST_BYTES
+                && second.bytes.len() <= MOST_BYTES
+                && room <= MOST_ROOM
+        );
         let mut record = vec![kind, first.bytes.len() as u8, second.bytes.len() as u8, room as u8];
         record.extend(first.len.to_be_bytes());
         record.extend(second.len.to_be_bytes());

@@ -58,7 +58,8 @@ fn accepted(random: &mut Random, residue: usize, turn: usize) -> Case {
     let room = address_to_sample(len);
     let least = len.div_ceil(2);
     let count = least + random.below(MOST_BYTES - least + 1).min(random.below(4));
-    let mut part = Part { bytes: bytes(random, count), len: len as u32, coefficients: wild(random) };
+    let mut part =
+        Part { bytes: bytes(random, count), len: len as u32, coefficients: wild(random) };
     let mut start = context(random);
     if turn % 2 == 0 {
         for header in part.bytes.iter_mut().step_by(8) {

@@ -10,7 +10,9 @@ use std::io::{self, BufWriter, Write};
 fn main() -> io::Result<()> {
     let mut output = BufWriter::new(io::stdout().lock());
     match env::args().nth(1).as_deref() {
-        Some("inputs") => cases::cases().iter().try_for_each(|case| writeln!(output, "{}", case.line())),
+        Some("inputs") => {
+            cases::cases().iter().try_for_each(|case| writeln!(output, "{}", case.line()))
+        }
         Some("answers") => {
             cases::cases().iter().try_for_each(|case| writeln!(output, "{}", case.answer_line()))
         }
