@@ -1,12 +1,12 @@
 -- Division rounded down, and a sample as the encoder reconstructs it.
-use mathlib.Core.Path.{_≡_, refl, sym, ap, _∙_, subst}
-use Prim.Native.Nat.{ℕ, suc, _+_, _-_, _*_, _/_, _%_, _^_, _≤_, _<_}
-use native.Mathlib.Nat.{mul-comm, mul-assoc, add-mul}
+use mathlib.Core.Path.{_≡_, sym, ap, _∙_, subst}
+use Prim.Native.Nat.{ℕ, _+_, _-_, _*_}
+use native.Mathlib.Nat.{mul-comm, mul-assoc}
 use native.Mathlib.Omega.{arith}
-use lib.IntN.{ℤ, pos, negsuc, _+ℤ_, _*ℤ_}
+use lib.IntN.{ℤ, pos, _+ℤ_, _*ℤ_}
 use lib.Signed.{shrZ}
 use Rattle.whole.specs.Whole.{clamp16, floored}
-use Rattle.whole.proofs.Differences.{Diff, diff-of, diff-add, diff-times, diff-pos, diff-eq, diff-same, diff-move, over, under, left, floor-law}
+use Rattle.whole.proofs.Differences.{Diff, diff-of, diff-add, diff-times, diff-pos, diff-eq, diff-same, over, under, left, floor-law}
 use Rattle.block.specs.Sample.{signedNibble, sampleOf}
 
 -- a multiple of the divisor comes out of the division

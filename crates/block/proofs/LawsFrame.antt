@@ -1,13 +1,11 @@
 -- Laws of the samples of one frame.
-use mathlib.Core.Path.{_≡_, refl, sym, ap, _∙_, subst}
-use mathlib.Core.Bool.{Bool, true, false, cond}
+use mathlib.Core.Path.{_≡_, refl, sym, ap, _∙_}
 use mathlib.Core.List.{List, [], _∷_, _++_, foldl, foldl-append, append-assoc}
-use Prim.Native.Nat.{ℕ, zero, suc, _+_, _*_, _/_, _%_, _≤_, _<_}
+use Prim.Native.Nat.{ℕ, zero, suc, _+_, _*_, _/_, _%_}
 use native.Mathlib.Nat.{add-zero, zero-add, add-suc, suc-add}
 use native.Mathlib.Numerals.{add-one}
 use native.Mathlib.Omega.{arith}
 use borrow.Author.Tests.{eq-eqb, ne-eqb}
-use lib.Dec.{eqb}
 use lib.IntN.{ℤ, pos}
 use lib.ListN.{length, getD, set, length-append}
 use lib.Seq.{sets}
@@ -16,7 +14,7 @@ use Rattle.block.proofs.Stores.{sets-then}
 use Rattle.block.specs.declared.FrameContext.{FrameContext}
 use Rattle.block.specs.declared.frame.History.{History}
 use Rattle.block.specs.Context.{predictorOf, scaleOf, contextOf, newest, older, pushSample}
-use Rattle.block.specs.Frame.{nibbleAt, nibblesFrom, Run, run, runNibble, runNibbles, runFrom, Playing, playing, nextSample, takeNibble, playFrame, Lent, lent, frameInto, historyOf}
+use Rattle.block.specs.Frame.{nibbleAt, nibblesFrom, Run, run, runNibble, runNibbles, runFrom, Playing, playing, nextSample, takeNibble, playFrame, lent, frameInto, historyOf}
 
 -- ---- nibbles
 

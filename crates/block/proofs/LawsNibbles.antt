@@ -1,12 +1,13 @@
 -- The nibbles of bytes, as a list.
 use mathlib.Core.Path.{_≡_, refl, sym, ap, _∙_}
-use mathlib.Core.List.{List, [], _∷_, _++_}
+use mathlib.Core.List.{List, [], _∷_, _++_, foldl}
 use Prim.Native.Nat.{ℕ, zero, suc, _+_, _*_, _/_, _%_, _≤_}
 use native.Mathlib.Nat.{add-zero}
 use native.Mathlib.Omega.{arith}
-use lib.ListN.{length, getD, take, drop, length-drop}
+use lib.ListN.{length, take, drop, length-drop}
 use lib.Seq.{getD-drop}
-use Rattle.block.specs.Frame.{nibbleAt, nibblesFrom}
+use lib.IntN.{ℤ}
+use Rattle.block.specs.Frame.{nibbleAt, nibblesFrom, Playing, takeNibble, playFrame}
 use Rattle.block.proofs.LawsFrame.{nibble-high, nibble-low}
 
 -- two nibbles a byte, high nibble first
@@ -43,3 +44,26 @@ nibbles-spread bytes k n h =
     ap (λ (a : ℕ). nibblesFrom bytes a n) (sym (add-zero (2 * k)))
     ∙ sym (nibbles-drop bytes k 0 n)
     ∙ nibbles-first (drop k bytes) n (simp length-drop (omega arith))
+
+-- ---- a frame by its own bytes
+
+-- the frame at a byte is the first frame of the bytes from there on
+pub frame-drop : (bytes : List ℕ) (at n : ℕ) (cs : List ℤ) (p : Playing) → playFrame bytes at n cs p ≡ playFrame (drop at bytes) 0 n cs p
+unfolding playFrame
+frame-drop bytes at n cs p = ap (foldl (takeNibble cs) p) (sym (nibbles-drop bytes at 2 n))
+
+-- its samples are those of the nibbles after the header byte
+pub frame-spread : (header : ℕ) (bytes : List ℕ) (n : ℕ) (cs : List ℤ) (p : Playing) → n ≤ 2 * length bytes → playFrame (header ∷ bytes) 0 n cs p ≡ foldl (takeNibble cs) p (take n (spread bytes))
+unfolding playFrame
+frame-spread header bytes n cs p h = ap (foldl (takeNibble cs) p) (nibbles-spread (header ∷ bytes) 1 n (omega arith))
+
+-- bytes after those of the nibbles are not read
+pub spread-append : (xs ys : List ℕ) → spread (xs ++ ys) ≡ spread xs ++ spread ys
+unfolding spread
+spread-append [] ys = refl
+spread-append (x ∷ xs) ys = ap (λ (l : List ℕ). x / 16 ∷ x % 16 ∷ l) (spread-append xs ys)
+
+pub spread-length : (xs : List ℕ) → length (spread xs) ≡ 2 * length xs
+unfolding spread
+spread-length [] = refl
+spread-length (x ∷ xs) = let e = spread-length xs in omega arith

@@ -1,20 +1,18 @@
 -- Laws of playing: by frames, by parts, lengths and ranges.
-use mathlib.Core.Path.{_≡_, refl, sym, ap, _∙_, subst}
-use mathlib.Core.Bool.{Bool, true, false, cond}
-use mathlib.Core.List.{List, [], _∷_, _++_, foldl, foldl-append, append-assoc, append-nil}
+use mathlib.Core.Path.{_≡_, refl, sym, ap, _∙_}
+use mathlib.Core.List.{List, [], _∷_, _++_, foldl, append-assoc, append-nil}
 use Prim.Native.Nat.{ℕ, zero, suc, _+_, _-_, _*_, _/_, _%_, _≤_, _<_}
 use native.Mathlib.Nat.{add-zero, zero-add, add-suc, suc-add}
 use native.Mathlib.Omega.{arith}
 use borrow.Author.Tests.{eq-eqb, ne-eqb}
-use lib.Dec.{eqb}
-use lib.IntN.{ℤ, pos}
-use lib.ListN.{length, getD, drop, length-append}
+use lib.IntN.{ℤ}
+use lib.ListN.{length, getD, length-append}
 use lib.Seq.{sets}
 use native.Mathlib.Numerals.{add-one}
 use Rattle.block.specs.declared.FrameContext.{FrameContext}
 use Rattle.block.specs.Address.{addressToSample}
 use Rattle.block.specs.Context.{withHeader}
-use Rattle.block.specs.Frame.{nibbleAt, nibblesFrom, Playing, playing, nextSample, takeNibble, playFrame, Lent, lent, frameInto}
+use Rattle.block.specs.Frame.{nibbleAt, nibblesFrom, Playing, playing, takeNibble, playFrame, Lent, lent, frameInto}
 use Rattle.block.specs.Play.{takeHeader, playFrom, play, playFrames, playInto}
 use Rattle.block.proofs.Stores.{sets-then}
 use Rattle.block.proofs.LawsFrame.{nibbles-length}
@@ -140,6 +138,13 @@ module _ (len : ℕ) (h : 0 < len) where
 
   pub split : len ≡ 16 * wholes + rest
   split = omega arith
+
+-- a length of 1 or 2 plays nothing
+pub play-nothing : (bytes : List ℕ) (cs : List ℤ) (len : ℕ) (c : FrameContext) → len ≤ 2 → play bytes cs len c ≡ playing c []
+unfolding play playFrom
+play-nothing bytes cs len c h =
+    let e : len - 2 ≡ 0 = omega arith in
+    ap (λ (n : ℕ). playFrom bytes cs 2 n (playing c [])) e
 
 -- samples out = address_to_sample(length)
 pub play-count : (bytes : List ℕ) (cs : List ℤ) (len : ℕ) (c : FrameContext) → 0 < len → length (play bytes cs len c .samples) ≡ addressToSample len

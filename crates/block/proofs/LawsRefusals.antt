@@ -2,7 +2,7 @@
 use mathlib.Core.Path.{_≡_, refl, sym, ap, _∙_}
 use mathlib.Core.Bool.{Bool, true, false, _&&_, _||_}
 use mathlib.Core.List.{List}
-use Prim.Native.Nat.{ℕ, suc, _+_, _*_, _/_, _≤_, _<_}
+use Prim.Native.Nat.{ℕ, _+_, _*_, _/_, _≤_, _<_}
 use native.Mathlib.Numerals.{add-one}
 use native.Mathlib.Omega.{arith}
 use borrow.Author.Tests.{eqb-true, eqb-false, eq-eqb, ltb-true, ltb-false, lt-ltb, le-ltb}
@@ -40,7 +40,7 @@ same-bits x y f g = go (eqb (ofZ w16 x) (ofZ w16 y)) refl
 
 pub lowest-more : (cs : List ℤ) (k : ℕ) → lowestAmong cs (k + 1) ≡ (lowestAmong cs k || (same (getD cs (2 * k) (pos 0)) (negsuc 32767) && same (getD cs (2 * k + 1) (pos 0)) (negsuc 32767)))
 unfolding lowestAmong
-lowest-more cs k = rw add-one
+lowest-more cs k = rw (add-one k)
 
 pub equal-more : (cs ds : List ℤ) (k : ℕ) → equalUpTo cs ds (k + 1) ≡ (equalUpTo cs ds k && same (getD cs k (pos 0)) (getD ds k (pos 0)))
 unfolding equalUpTo

@@ -1,7 +1,6 @@
 -- Document 01's worked numbers of addresses, headers and nibbles, by computation.
 use mathlib.Core.Path.{_≡_, refl}
-use Prim.Native.Nat.{ℕ}
-use lib.IntN.{ℤ, pos, negsuc}
+use lib.IntN.{pos, negsuc}
 use Rattle.block.specs.Address.{addressToSample, sampleToAddress}
 use Rattle.block.specs.Context.{predictorOf, scaleOf}
 use Rattle.block.specs.Sample.{signedNibble}

@@ -1,6 +1,6 @@
 -- What a header says, and the history. Definitions only.
 use Prim.Native.Nat.{ℕ, _/_, _%_, _^_}
-use mathlib.Core.List.{List, [], _∷_}
+use mathlib.Core.List.{[], _∷_}
 use lib.IntN.{ℤ, pos}
 use lib.ListN.{getD}
 use Rattle.block.specs.declared.FrameContext.{FrameContext}

@@ -76,7 +76,7 @@ impl FrameContext {
     }
 
     // The context under another header.
-    pub(crate) fn with_header(self, header: u8) -> FrameContext
+    pub fn with_header(self, header: u8) -> FrameContext
         ensures { λ r. ⌜ r ≡ withHeader self header ⌝ }
     {
         let last_samples = self.last_samples;

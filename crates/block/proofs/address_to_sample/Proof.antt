@@ -4,8 +4,6 @@ use Rattle.block.specs.Address.{addressToSample}
 use borrow.Author.Needs.{needs}
 use Rattle.block.proofs.address_to_sample.Statement.{statement}
 use Rattle.block.proofs.address_to_sample.Tie as tie
-use Rattle.block.proofs.address_to_sample.Reads as reads
-use Rattle.block.proofs.address_to_sample.Lts as lts
 
 -- src/lib.rt:58:17
 cast-frame : tie.Need-cast-frame

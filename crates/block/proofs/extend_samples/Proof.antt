@@ -1,8 +1,8 @@
 -- `extend_samples` meets its contract, test by test. Assumes nothing.
 use denote.Ref.{now}
-use mathlib.Core.Path.{_≡_, sym, ap, _∙_}
+use mathlib.Core.Path.{sym, ap, _∙_}
 use mathlib.Core.List.{List}
-use Prim.Native.Nat.{ℕ, _+_, _≤_, _<_}
+use Prim.Native.Nat.{ℕ, _+_}
 use native.Mathlib.Nat.{zero-add}
 use native.Mathlib.Omega.{arith}
 use borrow.Author.Tests.{not-true, not-false, ltb-false}
@@ -15,11 +15,6 @@ use Rattle.block.proofs.LawsCalls.{join-14, join-18, join-done}
 use borrow.Author.Needs.{needs}
 use Rattle.block.proofs.extend_samples.Statement.{statement}
 use Rattle.block.proofs.extend_samples.Tie as tie
-use Rattle.block.proofs.extend_samples.Reads as reads
-use Rattle.block.proofs.extend_samples.Lts as lts
-use Rattle.block.proofs.coefficients.equal_coefficients.Reads as equal-coefficients-reads
-use Rattle.block.proofs.join.copy.Reads as copy-reads
-use Rattle.block.proofs.join.shorter.Reads as shorter-reads
 
 shorter-requires : tie.Need-shorter-requires
 shorter-requires c κs = search needs

@@ -1,25 +1,13 @@
 -- `play_bytes` meets its contract, test by test. Assumes nothing.
 use denote.Ref.{now}
-use mathlib.Core.Path.{_≡_, sym, ap, _∙_, subst}
-use Prim.Native.Nat.{ℕ, _≤_, _<_}
+use mathlib.Core.Path.{sym, _∙_}
 use native.Mathlib.Omega.{arith}
 use lib.ListN.{length}
-use lib.IntN.{ℤ}
-use Rattle.block.specs.Address.{addressToSample}
-use Rattle.block.specs.Frame.{Lent}
-use Rattle.block.specs.Refusals.{accepted}
-use Rattle.block.specs.Play.{playEffect, PlayEffect}
 use Rattle.block.proofs.LawsRefusals.{good-length}
 use Rattle.block.proofs.LawsCalls.{play-12, play-13, play-14, play-done}
 use borrow.Author.Needs.{needs}
 use Rattle.block.proofs.play_bytes.Statement.{statement}
 use Rattle.block.proofs.play_bytes.Tie as tie
-use Rattle.block.proofs.play_bytes.Reads as reads
-use Rattle.block.proofs.play_bytes.Lts as lts
-use Rattle.block.proofs.address_to_sample.Reads as address-to-sample-reads
-use Rattle.block.proofs.coefficients.lowest_pair.Reads as lowest-pair-reads
-use Rattle.block.proofs.play.bad_length.Reads as bad-length-reads
-use Rattle.block.proofs.play.play_frames.Reads as play-frames-reads
 
 bad-length-requires : tie.Need-bad-length-requires
 bad-length-requires c κs = search needs

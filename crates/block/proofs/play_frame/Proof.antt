@@ -1,27 +1,19 @@
 -- `play_frame` meets its contract: the pair and the scale that the header names, then the nibbles. Assumes nothing.
 use borrow.Author.Needs.{needs}
 use denote.Ref.{now}
-use mathlib.Core.Path.{_≡_, refl, sym, ap, _∙_}
-use mathlib.Core.List.{List, [], _∷_}
-use Prim.Native.Nat.{ℕ, _+_, _*_, _≤_, _<_}
+use mathlib.Core.Path.{_≡_}
+use Prim.Native.Nat.{_+_, _*_, _<_}
 use native.Mathlib.Omega.{arith}
-use lib.IntN.{ℤ, pos}
+use lib.IntN.{pos}
 use lib.ListN.{length, getD}
-use lib.Seq.{sets}
 use mir.Facts.{toZ-ofZ}
 use mir.Syntax.{w16}
-use mir.Val.{SFits, toZ, ofZ}
-use Rattle.block.specs.Context.{newest, older, scaleOf, predictorOf, contextOf}
-use Rattle.block.specs.Frame.{runFrom, Run, lent}
+use mir.Val.{SFits}
+use Rattle.block.specs.Context.{newest, older}
 use Rattle.block.proofs.LawsContext.{predictor-lt, scale-le}
-use Rattle.block.proofs.LawsFrame.{frame-into, firstOf, secondOf}
+use Rattle.block.proofs.LawsFrame.{frame-into}
 use Rattle.block.proofs.play_frame.Statement.{statement}
 use Rattle.block.proofs.play_frame.Tie as tie
-use Rattle.block.proofs.play_frame.Reads as reads
-use Rattle.block.proofs.play_frame.Lts as lts
-use Rattle.block.proofs.FrameContext.predictor.Reads as predictor-reads
-use Rattle.block.proofs.FrameContext.scale.Reads as scale-reads
-use Rattle.block.proofs.frame.play_nibbles.Reads as play-nibbles-reads
 
 predictor-requires : tie.Need-predictor-requires
 predictor-requires c κs = search needs

@@ -10,8 +10,6 @@ use Rattle.block_list.proofs.Sixteen.{sum, up, inner, nonneg, fits32}
 use borrow.Author.Needs.{needs}
 use Rattle.block_list.proofs.bits.Statement.{statement}
 use Rattle.block_list.proofs.bits.Tie as tie
-use Rattle.block_list.proofs.bits.Reads as reads
-use Rattle.block_list.proofs.bits.Lts as lts
 
 cast-result : tie.Need-cast-result
 cast-result c = subst (λ (y : ℤ). SFits w32 y) (sym (toZ-ofZ w16 _ (c .before .fits .x))) (up _ (c .before .fits .x))

@@ -1,12 +1,8 @@
 -- `coefficients` is safe. Assumes nothing.
-use Prim.Native.Nat.{ℕ, _+_, _-_, _*_, _≤_}
+use Prim.Native.Nat.{_-_, _≤_}
 use native.Mathlib.Omega.{arith}
 use Rattle.block_list.proofs.coefficients.Statement.{statement}
 use Rattle.block_list.proofs.coefficients.Tie as tie
-use Rattle.block_list.proofs.coefficients.Reads as reads
-use Rattle.block_list.proofs.coefficients.Lts as lts
-use Rattle.block_list.proofs.signed.Reads as signed-reads
-use Rattle.block_list.proofs.word.Reads as word-reads
 
 abbrev Inv-loop : tie.InvT-loop
 Inv-loop «record» at cs₀ i₀ cs i = i ≤ 16

@@ -5,12 +5,6 @@ use lib.Seq.{length-take-le}
 use borrow.Author.Needs.{needs}
 use Rattle.block_list.proofs.join.Statement.{statement}
 use Rattle.block_list.proofs.join.Tie as tie
-use Rattle.block_list.proofs.join.Reads as reads
-use Rattle.block_list.proofs.join.Lts as lts
-use Rattle.block_list.proofs.fresh_bytes.Reads as fresh-bytes-reads
-use Rattle.block_list.proofs.join_to.Reads as join-to-reads
-use Rattle.block_list.proofs.part.Reads as part-reads
-use Rattle.block_list.proofs.size.Reads as size-reads
 
 size-requires : tie.Need-size-requires
 size-requires c κs = search needs

@@ -2,9 +2,6 @@
 use native.Mathlib.Omega.{arith}
 use Rattle.block_list.proofs.main.Statement.{statement}
 use Rattle.block_list.proofs.main.Tie as tie
-use Rattle.block_list.proofs.main.Reads as reads
-use Rattle.block_list.proofs.main.Lts as lts
-use Rattle.block_list.proofs.replay.Reads as replay-reads
 
 abbrev Inv-loop : tie.InvT-loop
 Inv-loop turns₀ turns = Unit {0}

@@ -1,12 +1,10 @@
 -- `part` is safe. Assumes nothing.
-use Prim.Native.Nat.{ℕ, _+_, _-_, _*_, _≤_}
+use Prim.Native.Nat.{_-_, _≤_}
 use native.Mathlib.Omega.{arith}
 use mathlib.Core.Path.{_≡_, refl}
 use lib.ListN.{length, length-set}
 use Rattle.block_list.proofs.part.Statement.{statement}
 use Rattle.block_list.proofs.part.Tie as tie
-use Rattle.block_list.proofs.part.Reads as reads
-use Rattle.block_list.proofs.part.Lts as lts
 
 abbrev Inv-loop : tie.InvT-loop
 Inv-loop «record» at bytes₀ i₀ bytes i = (i ≤ 48) × (48 ≡ length bytes)

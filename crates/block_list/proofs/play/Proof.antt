@@ -5,12 +5,6 @@ use lib.Seq.{length-take-le}
 use borrow.Author.Needs.{needs}
 use Rattle.block_list.proofs.play.Statement.{statement}
 use Rattle.block_list.proofs.play.Tie as tie
-use Rattle.block_list.proofs.play.Reads as reads
-use Rattle.block_list.proofs.play.Lts as lts
-use Rattle.block_list.proofs.fresh_samples.Reads as fresh-samples-reads
-use Rattle.block_list.proofs.part.Reads as part-reads
-use Rattle.block_list.proofs.play_to.Reads as play-to-reads
-use Rattle.block_list.proofs.size.Reads as size-reads
 
 size-requires : tie.Need-size-requires
 size-requires c κs = search needs

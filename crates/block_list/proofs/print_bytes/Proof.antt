@@ -1,13 +1,9 @@
 -- `print_bytes` is safe. Assumes nothing.
-use Prim.Native.Nat.{ℕ, _+_, _-_, _*_, _≤_}
+use Prim.Native.Nat.{_-_, _≤_}
 use native.Mathlib.Omega.{arith}
 use lib.ListN.{length}
 use Rattle.block_list.proofs.print_bytes.Statement.{statement}
 use Rattle.block_list.proofs.print_bytes.Tie as tie
-use Rattle.block_list.proofs.print_bytes.Reads as reads
-use Rattle.block_list.proofs.print_bytes.Lts as lts
-use Rattle.block_list.proofs.wide.Reads as wide-reads
-use Rattle.io.proofs.print_hex.Reads as print-hex-reads
 
 abbrev Inv-loop : tie.InvT-loop
 Inv-loop bytes i₀ i = i ≤ length bytes

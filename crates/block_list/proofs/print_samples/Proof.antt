@@ -1,13 +1,9 @@
 -- `print_samples` is safe. Assumes nothing.
-use Prim.Native.Nat.{ℕ, _+_, _-_, _*_, _≤_}
+use Prim.Native.Nat.{_-_, _≤_}
 use native.Mathlib.Omega.{arith}
 use lib.ListN.{length}
 use Rattle.block_list.proofs.print_samples.Statement.{statement}
 use Rattle.block_list.proofs.print_samples.Tie as tie
-use Rattle.block_list.proofs.print_samples.Reads as reads
-use Rattle.block_list.proofs.print_samples.Lts as lts
-use Rattle.block_list.proofs.bits.Reads as bits-reads
-use Rattle.io.proofs.print_hex.Reads as print-hex-reads
 
 abbrev Inv-loop : tie.InvT-loop
 Inv-loop samples i₀ i = i ≤ length samples

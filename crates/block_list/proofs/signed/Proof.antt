@@ -5,9 +5,6 @@ use Rattle.whole.proofs.Values.{is-nat, is-lit, chk-sub}
 use borrow.Author.Needs.{needs}
 use Rattle.block_list.proofs.signed.Statement.{statement}
 use Rattle.block_list.proofs.signed.Tie as tie
-use Rattle.block_list.proofs.signed.Reads as reads
-use Rattle.block_list.proofs.signed.Lts as lts
-use Rattle.whole.proofs.clamp_i16.Reads as clamp-i16-reads
 
 cast-clamp-i16 : tie.Need-cast-clamp-i16
 cast-clamp-i16 c = search needs

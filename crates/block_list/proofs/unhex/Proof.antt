@@ -1,11 +1,8 @@
 -- `unhex` is safe. Assumes nothing.
-use Prim.Native.Nat.{ℕ, _+_, _-_, _*_, _≤_}
+use Prim.Native.Nat.{_-_, _≤_}
 use native.Mathlib.Omega.{arith}
 use Rattle.block_list.proofs.unhex.Statement.{statement}
 use Rattle.block_list.proofs.unhex.Tie as tie
-use Rattle.block_list.proofs.unhex.Reads as reads
-use Rattle.block_list.proofs.unhex.Lts as lts
-use Rattle.block_list.proofs.digit.Reads as digit-reads
 
 abbrev Inv-loop : tie.InvT-loop
 Inv-loop line record₀ i₀ «record» i = i ≤ 178

@@ -3,8 +3,6 @@ use mathlib.Core.Path.{refl}
 use Rattle.block.specs.Context.{withHeader}
 use Rattle.block.proofs.FrameContext.with_header.Statement.{statement}
 use Rattle.block.proofs.FrameContext.with_header.Tie as tie
-use Rattle.block.proofs.FrameContext.with_header.Reads as reads
-use Rattle.block.proofs.FrameContext.with_header.Lts as lts
 
 returns : tie.Need-returns
 unfolding withHeader

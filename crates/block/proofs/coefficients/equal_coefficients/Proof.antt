@@ -1,9 +1,8 @@
 -- `equal_coefficients` meets its contract. Assumes nothing.
-use mathlib.Core.Path.{_≡_, refl, sym, ap, _∙_}
-use mathlib.Core.Bool.{Bool, true, false, _&&_, _||_}
-use Prim.Native.Nat.{ℕ, _+_, _-_, _*_, _≤_}
+use mathlib.Core.Path.{_≡_, refl}
+use Prim.Native.Nat.{_-_, _≤_}
 use native.Mathlib.Omega.{arith}
-use lib.IntN.{ℤ, pos, negsuc}
+use lib.IntN.{pos}
 use lib.ListN.{getD}
 use mir.Facts.{toZ-ofZ}
 use mir.Syntax.{w16}
@@ -12,10 +11,6 @@ use Rattle.block.specs.Refusals.{equalUpTo, equalCoefficients}
 use Rattle.block.proofs.LawsRefusals.{equal-more}
 use Rattle.block.proofs.coefficients.equal_coefficients.Statement.{statement}
 use Rattle.block.proofs.coefficients.equal_coefficients.Tie as tie
-use Rattle.block.proofs.coefficients.equal_coefficients.Reads as reads
-use Rattle.block.proofs.coefficients.equal_coefficients.Lts as lts
-use Rattle.block.proofs.coefficients.both.Reads as both-reads
-use Rattle.block.proofs.coefficients.equal.Reads as equal-reads
 
 abbrev Inv-loop : tie.InvT-loop
 Inv-loop first second all₀ k₀ all k = (k ≤ 16) × (all ≡ equalUpTo first second k)

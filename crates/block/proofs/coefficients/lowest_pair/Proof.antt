@@ -1,9 +1,8 @@
 -- `lowest_pair` meets its contract. Assumes nothing.
-use mathlib.Core.Path.{_≡_, refl, sym, ap, _∙_}
-use mathlib.Core.Bool.{Bool, true, false, _&&_, _||_}
-use Prim.Native.Nat.{ℕ, _+_, _-_, _*_, _≤_}
+use mathlib.Core.Path.{_≡_, refl}
+use Prim.Native.Nat.{_+_, _-_, _*_, _≤_}
 use native.Mathlib.Omega.{arith}
-use lib.IntN.{ℤ, pos, negsuc}
+use lib.IntN.{pos}
 use lib.ListN.{getD}
 use mir.Facts.{toZ-ofZ}
 use mir.Syntax.{w16}
@@ -12,11 +11,6 @@ use Rattle.block.specs.Refusals.{lowestAmong, lowestPair}
 use Rattle.block.proofs.LawsRefusals.{lowest-more}
 use Rattle.block.proofs.coefficients.lowest_pair.Statement.{statement}
 use Rattle.block.proofs.coefficients.lowest_pair.Tie as tie
-use Rattle.block.proofs.coefficients.lowest_pair.Reads as reads
-use Rattle.block.proofs.coefficients.lowest_pair.Lts as lts
-use Rattle.block.proofs.coefficients.both.Reads as both-reads
-use Rattle.block.proofs.coefficients.either.Reads as either-reads
-use Rattle.block.proofs.coefficients.equal.Reads as equal-reads
 
 abbrev Inv-loop : tie.InvT-loop
 Inv-loop coefficients found₀ k₀ found k = (k ≤ 8) × (found ≡ lowestAmong coefficients k)

@@ -1,25 +1,20 @@
 -- `play_nibbles` meets its contract: the whole bytes by `play_pairs`, and the high nibble of one byte more. Assumes nothing.
 use borrow.Author.Needs.{needs}
 use denote.Ref.{now}
-use mathlib.Core.Path.{_≡_, refl, sym, ap, _∙_}
+use mathlib.Core.Path.{_≡_, refl, ap, _∙_}
 use mathlib.Core.List.{List, [], _∷_, _++_}
-use Prim.Native.Nat.{ℕ, _+_, _*_, _/_, _%_, _≤_, _<_}
+use Prim.Native.Nat.{ℕ, _+_, _*_, _/_}
 use native.Mathlib.Omega.{arith}
-use lib.IntN.{ℤ, pos}
-use lib.ListN.{length, getD, set, length-set}
+use lib.IntN.{ℤ}
+use lib.ListN.{set}
 use lib.Seq.{sets}
 use mir.Facts.{toZ-ofZ}
 use mir.Syntax.{w16}
-use mir.Val.{SFits, toZ, ofZ}
-use Rattle.block.specs.declared.frame.History.{History}
+use mir.Val.{SFits}
 use Rattle.block.specs.Frame.{runFrom, Run, run, historyOf}
 use Rattle.block.proofs.LawsFrame.{high-more, high-store, from-length}
 use Rattle.block.proofs.frame.play_nibbles.Statement.{statement}
 use Rattle.block.proofs.frame.play_nibbles.Tie as tie
-use Rattle.block.proofs.frame.play_nibbles.Reads as reads
-use Rattle.block.proofs.frame.play_nibbles.Lts as lts
-use Rattle.block.proofs.frame.play_pairs.Reads as play-pairs-reads
-use Rattle.block.proofs.sample.decode_sample.Reads as decode-sample-reads
 
 abbrev runOf : (c : tie.Start) → ℕ → Run
 runOf c n = let a = c .args in runFrom (now (a .bytes)) (2 * a .from) n (a .c0) (a .c1) (a .scale) (a .s0) (a .s1)
@@ -99,7 +94,7 @@ returns-2 c =
     let hf : SFits w16 (p .play-pairs .result .s0) = record { sfits = c .before .before .before .struct-told .given .0 .1 } in
     let o = rw (toZ-ofZ (f .c0), toZ-ofZ (f .c1), toZ-ofZ (f .s0), toZ-ofZ (f .s1)) at (p .play-pairs .ensures .1) in (
       rw (toZ-ofZ xf, toZ-ofZ hf, l, pairs-told p),
-      rw (toZ-ofZ xf, l) (ap (λ (out : List ℤ). set out (a .to + 2 * (a .count / 2)) x) o ∙ high-store (now (a .out)) (a .to) (a .count / 2) (r .samples) x (from-length (now (a .bytes)) (2 * a .from) (a .c0) (a .c1) (a .scale) (a .s0) (a .s1) (2 * (a .count / 2)))),
+      rw (toZ-ofZ xf, l) (ap (λ (out : List ℤ). set out (a .to + 2 * (a .count / 2)) x) {y = sets (now (a .out)) (a .to) (r .samples)} o ∙ high-store (now (a .out)) (a .to) (a .count / 2) (r .samples) x (from-length (now (a .bytes)) (2 * a .from) (a .c0) (a .c1) (a .scale) (a .s0) (a .s1) (2 * (a .count / 2)))),
     )
 
 pub play-nibbles-spec : {M : Type 1} → statement M

@@ -1,24 +1,18 @@
 -- `play_pairs` meets its contract: after j bytes the samples of 2 * j nibbles are stored. Assumes nothing.
 use mathlib.Core.Path.{_≡_, refl, sym, ap, _∙_}
-use mathlib.Core.List.{List, [], _∷_, _++_}
-use Prim.Native.Nat.{ℕ, _+_, _-_, _*_, _/_, _%_, _≤_, _<_}
+use mathlib.Core.List.{[], _∷_, _++_}
+use Prim.Native.Nat.{ℕ, _+_, _-_, _*_, _≤_}
 use native.Mathlib.Omega.{arith}
 use denote.Ref.{now}
-use lib.IntN.{ℤ, pos}
-use lib.ListN.{length, getD, length-set}
+use lib.ListN.{length, length-set}
 use lib.Seq.{sets, length-sets}
 use mir.Facts.{toZ-ofZ}
 use mir.Syntax.{w16}
 use mir.Val.{SFits, toZ, ofZ}
-use Rattle.block.specs.Sample.{sampleOf}
 use Rattle.block.specs.Frame.{runFrom, runNibbles, nibblesFrom, Run, run}
-use Rattle.block.proofs.LawsSample.{sample-fits}
 use Rattle.block.proofs.LawsFrame.{pair-more, pair-stores, from-length}
 use Rattle.block.proofs.frame.play_pairs.Statement.{statement}
 use Rattle.block.proofs.frame.play_pairs.Tie as tie
-use Rattle.block.proofs.frame.play_pairs.Reads as reads
-use Rattle.block.proofs.frame.play_pairs.Lts as lts
-use Rattle.block.proofs.sample.decode_sample.Reads as decode-sample-reads
 
 abbrev Inv-loop : tie.InvT-loop
 Inv-loop bytes from pairs c0 c1 scale s0 s1 out₀ to a₀ b₀ j₀ out a b j =

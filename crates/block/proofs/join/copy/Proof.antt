@@ -2,15 +2,13 @@
 use denote.Ref.{now}
 use mathlib.Core.Path.{_≡_, refl, ap, _∙_}
 use mathlib.Core.List.{List}
-use Prim.Native.Nat.{ℕ, _+_, _-_, _≤_}
+use Prim.Native.Nat.{ℕ, _-_, _≤_}
 use native.Mathlib.Omega.{arith}
 use lib.ListN.{length, take}
 use lib.Seq.{sets, length-sets, take-all}
 use Rattle.block.proofs.Stores.{sets-take}
 use Rattle.block.proofs.join.copy.Statement.{statement}
 use Rattle.block.proofs.join.copy.Tie as tie
-use Rattle.block.proofs.join.copy.Reads as reads
-use Rattle.block.proofs.join.copy.Lts as lts
 
 abbrev Inv-loop : tie.InvT-loop
 Inv-loop source out₀ to j₀ out j = (j ≤ length source) × (out ≡ sets out₀ to (take j source))

@@ -1,13 +1,11 @@
 -- `shorter` meets its contract. Assumes nothing.
 use mathlib.Core.Path.{sym}
-use Prim.Native.Nat.{ℕ, _+_, _-_, _<_, _≤_}
+use Prim.Native.Nat.{_+_, _-_}
 use native.Mathlib.Omega.{arith}
 use borrow.Author.Tests.{lt-ltb}
 use Rattle.block.proofs.LawsRefusals.{ltb-same}
 use Rattle.block.proofs.join.shorter.Statement.{statement}
 use Rattle.block.proofs.join.shorter.Tie as tie
-use Rattle.block.proofs.join.shorter.Reads as reads
-use Rattle.block.proofs.join.shorter.Lts as lts
 
 returns : tie.Need-returns
 returns c = sym (lt-ltb (c .before .args .room) (c .before .args .first + c .before .args .second) (omega arith))

@@ -1,13 +1,10 @@
 -- `bad_length` meets its contract. Assumes nothing.
-use mathlib.Core.Path.{sym, _∙_}
 use borrow.Author.Tests.{eq-eqb, ne-eqb}
 use Rattle.block.specs.Refusals.{badLength}
 use Rattle.block.proofs.LawsRefusals.{above-twice}
 use borrow.Author.Needs.{needs}
 use Rattle.block.proofs.play.bad_length.Statement.{statement}
 use Rattle.block.proofs.play.bad_length.Tie as tie
-use Rattle.block.proofs.play.bad_length.Reads as reads
-use Rattle.block.proofs.play.bad_length.Lts as lts
 
 returns : tie.Need-returns
 unfolding badLength

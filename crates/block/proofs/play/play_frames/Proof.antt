@@ -1,25 +1,18 @@
 -- `play_frames` meets its contract: after k turns the first k frames are played. Assumes nothing.
 use denote.Ref.{now}
-use mathlib.Core.Path.{_≡_, refl, sym, ap, _∙_, subst}
-use mathlib.Core.List.{List, []}
-use Prim.Native.Nat.{ℕ, _+_, _-_, _*_, _≤_, _<_}
+use mathlib.Core.Path.{_≡_, refl, sym, ap, _∙_}
+use mathlib.Core.List.{[]}
+use Prim.Native.Nat.{_+_, _-_, _*_, _<_}
 use native.Mathlib.Omega.{arith}
-use borrow.Author.Needs.{needs}
-use lib.IntN.{ℤ}
-use lib.ListN.{length, getD}
+use lib.ListN.{length}
 use lib.Seq.{sets, length-sets}
 use Rattle.block.specs.Address.{addressToSample}
-use Rattle.block.specs.Frame.{playing, lent}
-use Rattle.block.specs.Play.{playFrames, playInto}
+use Rattle.block.specs.Frame.{playing}
+use Rattle.block.specs.Play.{playFrames}
 use Rattle.block.proofs.LawsAddress.{room-whole, room-last}
 use Rattle.block.proofs.LawsPlay.{frame-turn, frame-end}
 use Rattle.block.proofs.play.play_frames.Statement.{statement}
 use Rattle.block.proofs.play.play_frames.Tie as tie
-use Rattle.block.proofs.play.play_frames.Reads as reads
-use Rattle.block.proofs.play.play_frames.Lts as lts
-use Rattle.block.proofs.FrameContext.with_header.Reads as with-header-reads
-use Rattle.block.proofs.play.beyond_header.Reads as beyond-header-reads
-use Rattle.block.proofs.play_frame.Reads as play-frame-reads
 
 abbrev Inv-loop : tie.InvT-loop
 Inv-loop bytes len coefficients out₀ current₀ k₀ left₀ out current k left =

@@ -1,9 +1,9 @@
 -- `decode_sample` meets its contract. Assumes nothing.
 use borrow.Author.Needs.{needs}
-use mathlib.Core.Path.{_≡_, refl, sym, ap, _∙_}
+use mathlib.Core.Path.{ap, _∙_}
 use Prim.Native.Nat.{ℕ, _*_}
 use native.Mathlib.Nat.{le-trans}
-use lib.IntN.{ℤ, pos, natAbs, _+ℤ_, _*ℤ_}
+use lib.IntN.{ℤ, pos, _+ℤ_, _*ℤ_}
 use mir.Facts.{toZ-ofZ}
 use mir.Syntax.{w16, w64}
 use mir.Val.{SFits, toZ, ofZ}
@@ -13,11 +13,6 @@ use Rattle.block.specs.Sample.{signedNibble, sampleOf}
 use Rattle.block.proofs.LawsSample.{nibble-size}
 use Rattle.block.proofs.sample.decode_sample.Statement.{statement}
 use Rattle.block.proofs.sample.decode_sample.Tie as tie
-use Rattle.block.proofs.sample.decode_sample.Reads as reads
-use Rattle.block.proofs.sample.decode_sample.Lts as lts
-use Rattle.block.proofs.sample.signed_nibble.Reads as signed-nibble-reads
-use Rattle.whole.proofs.clamp_i16.Reads as clamp-i16-reads
-use Rattle.whole.proofs.shift_11.Reads as shift-11-reads
 
 -- the bits of an i16 as i64, of the two products' sum, and of the sum with 1,024
 abbrev up : ℤ → ℕ
