@@ -308,6 +308,22 @@ clamp4-size z = go (ltZ z (negsuc 7)) (ltZ (pos 7) z) (mid-size z)
     go false true h = omega arith
     go false false h = h refl refl
 
+-- the excess at either end, and within
+pub excess-low : (z : ℤ) → ltZ z (negsuc 7) ≡ true → negsuc 7 -ℤ z ≡ pos (natAbs (z -ℤ clamp4 z))
+excess-low z e =
+    let l = diff-lt (diff-of z) (diff-neg (diff-pos 8)) e in
+    let d = diff-sub (diff-of z) (diff-neg (diff-pos 8)) in
+    rw (clamp4-low z e) (diff-eq (diff-sub (diff-neg (diff-pos 8)) (diff-of z)) (diff-pos (natAbs (z -ℤ negsuc 7))) (omega (arith, diff-abs d, abs-diff d (under z - (over z + 8)) (omega arith) (omega arith))))
+
+pub excess-high : (z : ℤ) → ltZ z (negsuc 7) ≡ false → ltZ (pos 7) z ≡ true → z -ℤ pos 7 ≡ pos (natAbs (z -ℤ clamp4 z))
+excess-high z e f =
+    let l = diff-lt (diff-pos 7) (diff-of z) f in
+    let d = diff-sub (diff-of z) (diff-pos 7) in
+    rw (clamp4-high z e f) (diff-eq d (diff-pos (natAbs (z -ℤ pos 7))) (omega (arith, diff-abs d, abs-diff d (over z - (under z + 7)) (omega arith) (omega arith))))
+
+pub excess-none : (z : ℤ) → ltZ z (negsuc 7) ≡ false → ltZ (pos 7) z ≡ false → _≡_ {A = ℕ} 0 (natAbs (z -ℤ clamp4 z))
+excess-none z e f = rw (clamp4-mid z e f) (omega (arith, abs-diff (diff-sub (diff-of z) (diff-of z)) 0 (omega arith) (omega arith)))
+
 -- the excess is no larger than what was clamped
 pub clamp4-excess : (z : ℤ) → natAbs (z -ℤ clamp4 z) ≤ natAbs z
 clamp4-excess z = go (ltZ z (negsuc 7)) refl

@@ -6,7 +6,7 @@ ghost use Rattle.frame.specs.Pass.{Bounded, stepOf, squareOf, passOf};
 use crate::History;
 use crate::estimate::weigh;
 use crate::quantise::clamp_4;
-use crate::quantise::magnitude;
+use crate::quantise::excess;
 use crate::quantise::quantise;
 
 // One sample: its nibble, the reconstructed sample, and how far the nibble was out of range.
@@ -42,7 +42,7 @@ fn code_sample(c0: i16, c1: i16, s0: i16, s1: i16, x: i16, p: u8) -> Step
     let d = 2048 * (x as i64) - q;
     let u = quantise(d, p);
     let n = clamp_4(u);
-    let overflow = magnitude(u - n);
+    let overflow = excess(u);
     let sample = whole::clamp_i16(((q + 1024) >> 11) + n * power_of(p));
     Step {
         nibble: n as i8,

@@ -2,7 +2,7 @@
 ghost use mathlib.Core.Path.{_≡_};
 ghost use Prim.Native.Nat.{_<_, _≤_, _*_, _^_};
 ghost use lib.Ieee.Nearest.{closest};
-ghost use lib.IntN.{natAbs};
+ghost use lib.IntN.{natAbs, _-ℤ_};
 ghost use Rattle.frame.specs.Quantise.{round24, scale, nearestDown, signed, quantised, clamp4};
 
 // |z|.
@@ -93,4 +93,18 @@ pub(crate) fn clamp_4(x: i64) -> i64
         return 7;
     }
     x
+}
+
+// How far x is out of -8..7.
+pub(crate) fn excess(x: i64) -> u64
+    requires { ⌜ natAbs x ≤ 4294967296 ⌝ }
+    ensures { λ r. ⌜ r ≡ natAbs (x -ℤ clamp4 x) ⌝ }
+{
+    if x < -8 {
+        return (-8 - x) as u64;
+    }
+    if 7 < x {
+        return (x - 7) as u64;
+    }
+    0
 }

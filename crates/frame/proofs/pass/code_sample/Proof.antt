@@ -51,7 +51,7 @@ w-is c =
     is-call (c .power-of .ensures) l tt
 
 -- the prediction, rounded down
-p-is : (c : tie.After-magnitude) → Is w64 (ofZ w64 (shrZ (toZ w64 (ofZ w64 (toZ w64 (ofZ w64 (c .before .before .before .weigh .result)) +ℤ pos 1024))) 2048)) (floored (sum (c .before .before .before .before) +ℤ pos 1024) 2048) 2013266944
+p-is : (c : tie.After-excess) → Is w64 (ofZ w64 (shrZ (toZ w64 (ofZ w64 (toZ w64 (ofZ w64 (c .before .before .before .weigh .result)) +ℤ pos 1024))) 2048)) (floored (sum (c .before .before .before .before) +ℤ pos 1024) 2048) 2013266944
 p-is c = is-shr (is-add (q-is (c .before .before .before)) (is-lit w64 1024 tt) tt) 2048 tt
 
 weigh-requires : tie.Need-weigh-requires
@@ -72,11 +72,8 @@ quantise-requires c κs = omega (arith, is-size (d-is c))
 clamp-4-requires : tie.Need-clamp-4-requires
 clamp-4-requires c κs = search needs
 
-sub-magnitude : tie.Need-sub-magnitude
-sub-magnitude c = chk-sub (u-is (c .before)) (n-is c) tt
-
-magnitude-requires : tie.Need-magnitude-requires
-magnitude-requires c κs = omega (arith, is-size (is-sub (u-is (c .before)) (n-is c) tt))
+excess-requires : tie.Need-excess-requires
+excess-requires c κs = omega (arith, is-size (u-is (c .before)))
 
 add-clamp-i16 : tie.Need-add-clamp-i16
 add-clamp-i16 c = chk-add (q-is (c .before .before .before)) (is-lit w64 1024 tt) tt
@@ -107,7 +104,7 @@ returns c =
       is-cast {w′ = w8} n tt .is,
       toZ-ofZ {w = w16} {z = c .clamp-i16 .result} (record { sfits = c .clamp-i16 .ok }),
       r,
-      c .before .before .magnitude .ensures ∙ ap natAbs (is-sub (u-is (c .before .before .before .before)) n tt .is),
+      c .before .before .excess .ensures ∙ ap (λ (z : ℤ). natAbs (z -ℤ clamp4 z)) (u-is (c .before .before .before .before) .is),
     )
 
 pub code-sample-spec : {M : Type 1} → statement M
@@ -120,8 +117,7 @@ code-sample-spec =
     sub-d
     quantise-requires
     clamp-4-requires
-    sub-magnitude
-    magnitude-requires
+    excess-requires
     add-clamp-i16
     power-of-requires
     mul-clamp-i16
