@@ -22,7 +22,9 @@ fn main() -> io::Result<()> {
     let mut output = BufWriter::new(io::stdout().lock());
     match env::args().nth(1).as_deref() {
         Some("inputs") => cases().iter().try_for_each(|case| writeln!(output, "{}", case.input())),
-        Some("answers") => cases().iter().try_for_each(|case| writeln!(output, "{}", case.answer())),
+        Some("answers") => {
+            cases().iter().try_for_each(|case| writeln!(output, "{}", case.answer()))
+        }
         _ => Err(io::Error::other("usage: frame_list inputs | answers")),
     }
 }
@@ -48,9 +50,11 @@ impl Case {
 
     /// Document 01's limits of a pair.
     fn is_refused(&self) -> bool {
-        self.coefficients.as_chunks::<2>().0.iter().any(|[c0, c1]| {
-            !(-4096..=4096).contains(c0) || !(-2048..=2048).contains(c1)
-        })
+        self.coefficients
+            .as_chunks::<2>()
+            .0
+            .iter()
+            .any(|[c0, c1]| !(-4096..=4096).contains(c0) || !(-2048..=2048).contains(c1))
     }
 
     fn answer(&self) -> String {
@@ -96,7 +100,8 @@ fn pairs(c0: i16, c1: i16) -> Coefficients {
 
 /// Coefficients at the limits, zero, and a mixture.
 fn limits() -> [Coefficients; 6] {
-    let mixed = [4096, -2048, -4096, 2048, 4096, 2048, -4096, -2048, 0, 2048, 4096, 0, 2048, 0, 0, 0];
+    let mixed =
+        [4096, -2048, -4096, 2048, 4096, 2048, -4096, -2048, 0, 2048, 4096, 0, 2048, 0, 0, 0];
     [[0; 16], pairs(4096, -2048), pairs(4096, 2048), pairs(-4096, 2048), pairs(-4096, -2048), mixed]
 }
 
@@ -190,14 +195,15 @@ fn equal(random: &mut Random) -> Vec<Case> {
 
 /// Frames of all kinds.
 fn clips(random: &mut Random) -> Vec<Case> {
-    let clip = |_| Case::new(&random.clip(14), [random.sample(), random.sample()], random.coefficients());
+    let clip =
+        |_| Case::new(&random.clip(14), [random.sample(), random.sample()], random.coefficients());
     (0..500).map(clip).collect()
 }
 
 /// Coefficients one beyond a limit, at each place.
 fn refused() -> Vec<Case> {
     let beyond = |place: usize| {
-        let limit = if place % 2 == 0 { 4097 } else { 2049 };
+        let limit = [4097, 2049][place % 2];
         [limit, -limit].map(|coefficient| {
             let mut coefficients = limits()[5];
             coefficients[place] = coefficient;

@@ -10,7 +10,6 @@ use lib.ListN.{getD, length}
 use mir.Syntax.{w16}
 use mir.Val.{SFits}
 use Rattle.whole.specs.Whole.{clamp16, floored}
-use Rattle.whole.proofs.Differences.{Diff, diff-of, diff-pos, diff-add, diff-times, diff-same, diff-eq, over, under, left, floor-law}
 use Rattle.frame.specs.declared.History.{History}
 use Rattle.frame.specs.declared.EncodedFrame.{EncodedFrame}
 use Rattle.frame.specs.declared.search.Candidate.{Candidate}
@@ -21,35 +20,11 @@ use Rattle.frame.specs.Search.{finished, tryCoefficients}
 use Rattle.frame.specs.Choice.{c0At, c1At, AllBounded, candidateAt, winner, passesOf}
 use Rattle.frame.specs.Frame.{InNibble, header, low4, nibbleAt, signedNibble, packed, preceded, historyAfter, encodeFrame}
 use Rattle.frame.proofs.LawsArrays.{Fit}
-use Rattle.frame.proofs.LawsPass.{FitHistory, stepAt, overflow-upto, upto-sample, pass-lengths, pass-sample, pass-fits}
+use Rattle.frame.proofs.LawsPass.{reconstruct-played, FitHistory, stepAt, overflow-upto, upto-sample, pass-lengths, pass-sample, pass-fits}
 use Rattle.frame.proofs.LawsSearch.{Shape, Found, try-found, ended}
 use Rattle.frame.proofs.LawsChoice.{candidate-shape, candidate-nibble, winner-le, passes-le}
 use Rattle.frame.proofs.LawsDistance.{step-distance}
 use Rattle.frame.proofs.LawsNibbles.{low-lt, signed-low, packed-length, packed-head, packed-byte, byte-parts, nibble-at}
-
--- ---- playing gives what encoding reconstructed
-
--- (a + n × S' + 1024) >> 11 is ((a + 1024) >> 11) + n × 2^p
-pub shift-apart : (a n : ℤ) (w : ℕ) → floored (a +ℤ n *ℤ pos (2048 * w) +ℤ pos 1024) 2048 ≡ floored (a +ℤ pos 1024) 2048 +ℤ n *ℤ pos w
-shift-apart a n w =
-    let y = a +ℤ n *ℤ pos (2048 * w) +ℤ pos 1024 in
-    let z = a +ℤ pos 1024 in
-    let ly = floor-law y 2048 (omega arith) in
-    let lz = floor-law z 2048 (omega arith) in
-    let y1 : Diff y (over a + over n * (2048 * w) + 1024) (under a + under n * (2048 * w) + 0) = diff-add (diff-add (diff-of a) (diff-times (diff-of n) (2048 * w))) (diff-pos 1024) in
-    let y2 : Diff y (over (floored y 2048) * 2048 + left y 2048) (under (floored y 2048) * 2048 + 0) = subst (λ (v : ℤ). Diff v (over (floored y 2048) * 2048 + left y 2048) (under (floored y 2048) * 2048 + 0)) (sym (ly .0)) (diff-add (diff-times (diff-of (floored y 2048)) 2048) (diff-pos (left y 2048))) in
-    let z1 : Diff z (over a + 1024) (under a + 0) = diff-add (diff-of a) (diff-pos 1024) in
-    let z2 : Diff z (over (floored z 2048) * 2048 + left z 2048) (under (floored z 2048) * 2048 + 0) = subst (λ (v : ℤ). Diff v (over (floored z 2048) * 2048 + left z 2048) (under (floored z 2048) * 2048 + 0)) (sym (lz .0)) (diff-add (diff-times (diff-of (floored z 2048)) 2048) (diff-pos (left z 2048))) in
-    let ey = diff-same y1 y2 in
-    let ez = diff-same z1 z2 in
-    let ry = ly .1 in
-    let rz = lz .1 in
-    diff-eq (diff-of (floored y 2048)) (diff-add (diff-of (floored z 2048)) (diff-times (diff-of n) w)) (omega arith)
-
--- "clamp(((c0 × s0 + c1 × s1 + 1024) >> 11) + nibble × scale)", for scale 2^p
-pub reconstruct-played : (c0 c1 s0 s1 n : ℤ) (p : ℕ) → reconstruct c0 c1 s0 s1 n p ≡ clamp16 (floored (weighted c0 c1 s0 s1 +ℤ pos 1024) 2048 +ℤ n *ℤ pos (2 ^ p))
-unfolding reconstruct
-reconstruct-played c0 c1 s0 s1 n p = ap clamp16 (shift-apart (weighted c0 c1 s0 s1) n (2 ^ p))
 
 -- ---- the history, place by place
 pub history-step : (h : History) (xs : List ℤ) (i : ℕ) → historyAfter h xs (suc i) ≡ record { newest = getD xs i (pos 0); older = historyAfter h xs i .newest }

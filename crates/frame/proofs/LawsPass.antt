@@ -16,6 +16,7 @@ use mir.Syntax.{w16}
 use mir.Val.{SFits}
 use Rattle.whole.specs.Whole.{clamp16, floored}
 use Rattle.whole.proofs.Values.{abs-add, abs-sub, abs-mul, abs-sfits}
+use Rattle.whole.proofs.Differences.{Diff, diff-of, diff-pos, diff-add, diff-times, diff-same, diff-eq, over, under, left, floor-law}
 use Rattle.whole.proofs.Laws.{clamp-fits}
 use Rattle.frame.specs.declared.History.{History}
 use Rattle.frame.specs.declared.pass.Step.{Step}
@@ -64,6 +65,30 @@ square-le {x} {y} f g =
     let h : natAbs (x -ℤ y) ≤ 65536 = omega (arith, abs-sub x y, abs-sfits f, abs-sfits g) in
     mul-le-mul h h
 
+-- ---- playing gives what encoding reconstructed
+
+-- (a + n × S' + 1024) >> 11 is ((a + 1024) >> 11) + n × 2^p
+pub shift-apart : (a n : ℤ) (w : ℕ) → floored (a +ℤ n *ℤ pos (2048 * w) +ℤ pos 1024) 2048 ≡ floored (a +ℤ pos 1024) 2048 +ℤ n *ℤ pos w
+shift-apart a n w =
+    let y = a +ℤ n *ℤ pos (2048 * w) +ℤ pos 1024 in
+    let z = a +ℤ pos 1024 in
+    let ly = floor-law y 2048 (omega arith) in
+    let lz = floor-law z 2048 (omega arith) in
+    let y1 : Diff y (over a + over n * (2048 * w) + 1024) (under a + under n * (2048 * w) + 0) = diff-add (diff-add (diff-of a) (diff-times (diff-of n) (2048 * w))) (diff-pos 1024) in
+    let y2 : Diff y (over (floored y 2048) * 2048 + left y 2048) (under (floored y 2048) * 2048 + 0) = subst (λ (v : ℤ). Diff v (over (floored y 2048) * 2048 + left y 2048) (under (floored y 2048) * 2048 + 0)) (sym (ly .0)) (diff-add (diff-times (diff-of (floored y 2048)) 2048) (diff-pos (left y 2048))) in
+    let z1 : Diff z (over a + 1024) (under a + 0) = diff-add (diff-of a) (diff-pos 1024) in
+    let z2 : Diff z (over (floored z 2048) * 2048 + left z 2048) (under (floored z 2048) * 2048 + 0) = subst (λ (v : ℤ). Diff v (over (floored z 2048) * 2048 + left z 2048) (under (floored z 2048) * 2048 + 0)) (sym (lz .0)) (diff-add (diff-times (diff-of (floored z 2048)) 2048) (diff-pos (left z 2048))) in
+    let ey = diff-same y1 y2 in
+    let ez = diff-same z1 z2 in
+    let ry = ly .1 in
+    let rz = lz .1 in
+    diff-eq (diff-of (floored y 2048)) (diff-add (diff-of (floored z 2048)) (diff-times (diff-of n) w)) (omega arith)
+
+-- "clamp(((c0 × s0 + c1 × s1 + 1024) >> 11) + nibble × scale)", for scale 2^p
+pub reconstruct-played : (c0 c1 s0 s1 n : ℤ) (p : ℕ) → reconstruct c0 c1 s0 s1 n p ≡ clamp16 (floored (weighted c0 c1 s0 s1 +ℤ pos 1024) 2048 +ℤ n *ℤ pos (2 ^ p))
+unfolding reconstruct
+reconstruct-played c0 c1 s0 s1 n p = ap clamp16 (shift-apart (weighted c0 c1 s0 s1) n (2 ^ p))
+
 -- ---- the loop's step
 
 abbrev pub run : ℤ → ℤ → List ℤ → List ℤ → ℕ → ℕ → Run
@@ -83,6 +108,23 @@ run-done c0 c1 h xs p i a b ns ss o d e ln ls inv =
     let ts : take 14 ss ≡ ss = take-all 14 ss (le-of-eq ls) in
     let q : upto c0 c1 h xs p 14 ≡ run a b ns ss o d = rw (e, tn, ts) at inv in
     rw q
+
+-- ---- a list that grows by one element a place
+module _ (l : ℕ → List ℤ) (v : ℕ → ℤ) (none : l 0 ≡ []) (more : (i : ℕ) → l (suc i) ≡ l i ++ (v i ∷ [])) where
+  pub grown-length : (i : ℕ) → length (l i) ≡ i
+  grown-length zero = ap length none
+  grown-length (suc i) = ap length (more i) ∙ length-append (l i) (v i ∷ []) ∙ omega (arith, grown-length i)
+
+  pub grown-at : (i j : ℕ) → j < i → getD (l i) j (pos 0) ≡ v j
+  grown-at zero j k = absurd (never j k)
+    where
+      never : (j : ℕ) → j < 0 → ⊥
+      never j k = omega arith
+  grown-at (suc i) j k = ap (λ (ys : List ℤ). getD ys j (pos 0)) (more i) ∙ go (decLe i j) (grown-at i j)
+    where
+      go : Dec (i ≤ j) → (j < i → getD (l i) j (pos 0) ≡ v j) → getD (l i ++ (v i ∷ [])) j (pos 0) ≡ v j
+      go (yes m) r = let e : i ≡ j = omega arith in getD-at (l i) (v i) [] (pos 0) j (grown-length i ∙ e) ∙ ap v e
+      go (no m) r = List·getD-append (l i) (v i ∷ []) (pos 0) j (omega (arith, grown-length i, lt-of-not-le m)) ∙ r (lt-of-not-le m)
 
 -- ---- what holds at each place
 
@@ -127,42 +169,20 @@ module _ (c0 c1 : ℤ) (h : History) (xs : List ℤ) (p : ℕ) where
       go (yes k) r = same (omega arith)
       go (no k) r = let m = r (lt-of-not-le k) in omega arith
 
-  pub upto-lengths : (i : ℕ) → (length (upto c0 c1 h xs p i .nibbles) ≡ i) × (length (upto c0 c1 h xs p i .samples) ≡ i)
-  unfolding upto next
-  upto-lengths zero = (refl, refl)
-  upto-lengths (suc i) =
-      let r = upto-lengths i in (
-        simp length-append (omega (arith, r .0)),
-        simp length-append (omega (arith, r .1)),
-      )
-
   pub upto-nibble : (i j : ℕ) → j < i → getD (upto c0 c1 h xs p i .nibbles) j (pos 0) ≡ stepAt j .nibble
   unfolding upto next
-  upto-nibble zero j l = absurd (never j l)
-    where
-      never : (j : ℕ) → j < 0 → ⊥
-      never j l = omega arith
-  upto-nibble (suc i) j l = go (decLe i j) (upto-nibble i j)
-    where
-      go : Dec (i ≤ j) → (j < i → getD (upto c0 c1 h xs p i .nibbles) j (pos 0) ≡ stepAt j .nibble) → getD (upto c0 c1 h xs p i .nibbles ++ (stepAt i .nibble ∷ [])) j (pos 0) ≡ stepAt j .nibble
-      go (yes k) r =
-          let e : i ≡ j = omega arith in
-          getD-at (upto c0 c1 h xs p i .nibbles) (stepAt i .nibble) [] (pos 0) j (upto-lengths i .0 ∙ e) ∙ ap (λ (m : ℕ). stepAt m .nibble) e
-      go (no k) r = List·getD-append (upto c0 c1 h xs p i .nibbles) (stepAt i .nibble ∷ []) (pos 0) j (omega (arith, upto-lengths i .0, lt-of-not-le k)) ∙ r (lt-of-not-le k)
+  upto-nibble i j l = grown-at (λ (k : ℕ). upto c0 c1 h xs p k .nibbles) (λ (k : ℕ). stepAt k .nibble) refl (λ k. refl) i j l
 
   pub upto-sample : (i j : ℕ) → j < i → getD (upto c0 c1 h xs p i .samples) j (pos 0) ≡ stepAt j .sample
   unfolding upto next
-  upto-sample zero j l = absurd (never j l)
-    where
-      never : (j : ℕ) → j < 0 → ⊥
-      never j l = omega arith
-  upto-sample (suc i) j l = go (decLe i j) (upto-sample i j)
-    where
-      go : Dec (i ≤ j) → (j < i → getD (upto c0 c1 h xs p i .samples) j (pos 0) ≡ stepAt j .sample) → getD (upto c0 c1 h xs p i .samples ++ (stepAt i .sample ∷ [])) j (pos 0) ≡ stepAt j .sample
-      go (yes k) r =
-          let e : i ≡ j = omega arith in
-          getD-at (upto c0 c1 h xs p i .samples) (stepAt i .sample) [] (pos 0) j (upto-lengths i .1 ∙ e) ∙ ap (λ (m : ℕ). stepAt m .sample) e
-      go (no k) r = List·getD-append (upto c0 c1 h xs p i .samples) (stepAt i .sample ∷ []) (pos 0) j (omega (arith, upto-lengths i .1, lt-of-not-le k)) ∙ r (lt-of-not-le k)
+  upto-sample i j l = grown-at (λ (k : ℕ). upto c0 c1 h xs p k .samples) (λ (k : ℕ). stepAt k .sample) refl (λ k. refl) i j l
+
+  pub upto-lengths : (i : ℕ) → (length (upto c0 c1 h xs p i .nibbles) ≡ i) × (length (upto c0 c1 h xs p i .samples) ≡ i)
+  unfolding upto next
+  upto-lengths i = (
+    grown-length (λ (k : ℕ). upto c0 c1 h xs p k .nibbles) (λ (k : ℕ). stepAt k .nibble) refl (λ k. refl) i,
+    grown-length (λ (k : ℕ). upto c0 c1 h xs p k .samples) (λ (k : ℕ). stepAt k .sample) refl (λ k. refl) i,
+  )
 
   -- before place j the two reconstructed samples are those that stand before it
   pub upto-newest : (i j : ℕ) → j ≤ i → getD (preceded h (upto c0 c1 h xs p i .samples)) (suc j) (pos 0) ≡ upto c0 c1 h xs p j .s0

@@ -2,21 +2,21 @@
 use mathlib.Core.Path.{_≡_, refl, sym, ap, ap₂, _∙_, subst}
 use mathlib.Core.Bool.{Bool, true, false, not, cond}
 use Prim.Native.Nat.{ℕ, zero, suc, _+_, _-_, _*_, _/_, _%_, _^_, _≤_, _<_, compare, Ordering, Ordering·lt, Ordering·eq, Ordering·gt}
-use native.Mathlib.Nat.{le-trans, le-refl, lt-of-le-of-lt, lt-of-lt-of-le, suc-mul, mul-le-mul-right, div-mul-le-self, div-le-self, pow-suc, mul-comm, one-mul, mod-eq-of-lt, mod-lt, mod-one, div-one, mul-one, div-add-mod', div-eq-of-lt-le, mod-eq-sub-div-mul, lt-of-not-le, le-of-eq}
+use native.Mathlib.Nat.{le-trans, le-refl, lt-of-le-of-lt, lt-of-lt-of-le, suc-mul, mul-le-mul-right, div-mul-le-self, div-le-self, pow-suc, mul-comm, one-mul, mod-eq-of-lt, mod-lt, mod-one, div-one, mul-one, div-add-mod', div-eq-of-lt-le, div-eq-of-lt, add-div-right, zero-mod, zero-div, lt-of-not-le, le-of-eq}
 use native.Mathlib.Decide.{decLe}
 use native.Mathlib.Omega.{arith}
 use lib.Dec.{T, isLe, isEq, eqb, leb→le, nleb→lt, eqb→eq, eqb-refl, ltb, lit<}
 use lib.Pow.{pow-mono, pow-pos, pow-add}
 use lib.Count.{leadingZeros, leading-unique}
-use lib.IntN.{ℤ, pos, negsuc, negℤ, natAbs, _-ℤ_, +ℤ-idl}
-use lib.Signed.{ltZ}
+use lib.IntN.{ℤ, pos, negsuc, negℤ, natAbs, _+ℤ_, _-ℤ_, +ℤ-idl}
+use lib.Signed.{ltZ, shrZ}
 use borrow.Author.Tests.{ltb-true, ltb-false, lt-ltb, le-ltb}
 use lib.Ieee.{size, nearest}
 use lib.Ieee.Fits.{nearest-le}
 use lib.Ieee.Digits.{size-lt, size-reaches, size-le}
 use lib.Ieee.Nearest.{closest}
 use Rattle.whole.proofs.Values.{abs-neg}
-use Rattle.whole.proofs.Differences.{diff-of, diff-pos, diff-neg, diff-sub, diff-lt, diff-abs, abs-diff, over, under}
+use Rattle.whole.proofs.Differences.{diff-of, diff-pos, diff-neg, diff-add, diff-sub, diff-eq, diff-lt, diff-abs, abs-diff, over, under}
 use Rattle.frame.specs.Quantise.{unit24, round24, scale, nearestDown, signed, quantised, clamp4}
 
 -- ---- `compare` from an order
@@ -64,9 +64,6 @@ shl-is a p k h t =
 pub one-shl : (p k : ℕ) → p ≤ k → T (ltb (1 * 2 ^ k) 18446744073709551616) → (1 * 2 ^ p) % 18446744073709551616 ≡ 2 ^ p
 one-shl p k h t = shl-is 1 p k h t ∙ one-mul (2 ^ p)
 
-pub left-over : (m u : ℕ) → m - m / u * u ≡ m % u
-left-over m u = sym (mod-eq-sub-div-mul m u)
-
 -- ---- leading zeros: with the size they make the width
 size-twice : (m n : ℕ) → size m ≡ n → 2 ^ n ≤ 2 * m + 1
 size-twice m zero e = omega arith
@@ -94,12 +91,12 @@ size-above m j h = go (decLe (size m) j)
     go (yes l) = bad l
     go (no l) = lt-of-not-le l
 
-pub digits-dropped : (m : ℕ) → m ≤ 2147483648 → 16777216 ≤ m → (leadingZeros 64 m ≤ 40) × (40 - leadingZeros 64 m ≡ size m - 24) × (40 - leadingZeros 64 m ≤ 8)
+pub digits-dropped : (m : ℕ) → m ≤ 2147483648 → 16777216 ≤ m → (leadingZeros 64 m ≤ 40) × (40 - leadingZeros 64 m ≡ size m - 24) × (1 ≤ 40 - leadingZeros 64 m) × (40 - leadingZeros 64 m ≤ 8)
 digits-dropped m h g =
     let l : leadingZeros 64 m + size m ≡ 64 = lz-size 64 m (omega arith) in
     let a : 24 < size m = size-above m 24 g in
     let b : size m ≤ 32 = size-le m 32 (omega arith) in
-    (omega arith, omega arith, omega arith)
+    (omega arith, omega arith, omega arith, omega arith)
 
 -- ---- the 24-bit rounding
 pub unit-le : (m : ℕ) → m ≤ 2147483648 → unit24 m ≤ 256
@@ -121,6 +118,16 @@ round-same m h =
     let e : size m - 24 ≡ 0 = omega arith in
     rw (e, div-one, mod-one) (sym (mul-one m))
 
+-- twice a unit's half
+pub halves : (k : ℕ) → 1 ≤ k → 2 ^ k ≡ 2 ^ (k - 1) + 2 ^ (k - 1)
+halves zero l = absurd (never l)
+  where
+    never : 1 ≤ 0 → ⊥
+    never l = omega arith
+halves (suc k) l =
+    let e : suc k - 1 ≡ k = omega arith in
+    rw e (omega (arith, pow-suc 2 k))
+
 pub round-is : (m k q u : ℕ) → k ≡ size m - 24 → q ≡ closest m (2 ^ k) → u ≡ 2 ^ k → q * u ≡ round24 m
 unfolding round24 unit24
 round-is m k q u e f g = rw (f, g, e)
@@ -133,6 +140,29 @@ closest-mul m u =
 pub round24-le : (m : ℕ) → m ≤ 2147483648 → round24 m ≤ m + 256
 unfolding round24
 round24-le m h = omega (arith, closest-mul m (unit24 m), unit-le m h)
+
+-- m / u to the nearest, a tie to the even one: half the unit less one is added, and one where the quotient is odd
+pub even-is : (m u h : ℕ) → 0 < h → u ≡ h + h → ((m + h) - 1 + m / u % 2) / u ≡ closest m u
+even-is m u h p e = go (decLe u (m % u * 2)) (decLe (m % u * 2) u)
+  where
+    m-is : m / u * u + m % u ≡ m
+    m-is = div-add-mod' m u
+
+    r-lt : m % u < u
+    r-lt = mod-lt m (omega arith)
+
+    tie : (b : ℕ) → m / u % 2 ≡ b → m % u * 2 ≡ u → ((m + h) - 1 + b) / u ≡ m / u + b
+    tie zero f g = div-eq-of-lt-le u (omega (arith, m-is)) (omega (arith, m-is))
+    tie (suc zero) f g = div-eq-of-lt-le u (omega (arith, m-is)) (omega (arith, m-is))
+    tie (suc (suc b)) f g = absurd (never b f)
+      where
+        never : (b : ℕ) → m / u % 2 ≡ suc (suc b) → ⊥
+        never b f = omega arith
+
+    go : Dec (u ≤ m % u * 2) → Dec (m % u * 2 ≤ u) → ((m + h) - 1 + m / u % 2) / u ≡ closest m u
+    go (no l) d = let k = lt-of-not-le l in rw (cmp-lt _ _ k) (div-eq-of-lt-le u (omega (arith, m-is)) (omega (arith, m-is)))
+    go (yes l) (no g) = let k = lt-of-not-le g in rw (cmp-gt _ _ k) (div-eq-of-lt-le u (omega (arith, m-is, r-lt)) (omega (arith, m-is, r-lt)))
+    go (yes l) (yes g) = let k : m % u * 2 ≡ u = omega arith in rw (cmp-eq _ _ k) (tie (m / u % 2) refl k)
 
 -- ---- to the nearest, halves downwards
 pub down-is : (m s h : ℕ) → 0 < h → s ≡ h + h → ((m + h) - 1) / s ≡ nearestDown m s
@@ -159,6 +189,39 @@ down-is m s h p e = go (ltb s (m % s * 2)) refl
         let l = ltb-false s (m % s * 2) f in
         div-eq-of-lt-le s (omega (arith, m-is)) (omega (arith, m-is, left, more (m / s)))
 
+-- the same of a number with its sign, by a shift
+pub down-pos : (d : ℤ) (s h : ℕ) → 0 < h → s ≡ h + h → ltZ (pos 0) d ≡ true → shrZ (d +ℤ pos h -ℤ pos 1) s ≡ signed d (nearestDown (natAbs d) s)
+down-pos (pos m) s h p e t =
+    let z : pos m +ℤ pos h -ℤ pos 1 ≡ pos ((m + h) - 1) = diff-eq (diff-sub (diff-add (diff-pos m) (diff-pos h)) (diff-pos 1)) (diff-pos ((m + h) - 1)) (omega arith) in
+    ap (λ (v : ℤ). shrZ v s) z ∙ ap pos (down-is m s h p e)
+down-pos (negsuc k) s h p e t = absurd (subst T (sym t) tt)
+
+pub down-neg : (d : ℤ) (s h : ℕ) → 0 < h → s ≡ h + h → ltZ (pos 0) d ≡ false → shrZ (d +ℤ pos h) s ≡ signed d (nearestDown (natAbs d) s)
+down-neg (pos m) s h p e t =
+    let none : m ≡ 0 = omega (arith, ltb-false 0 m t) in
+    let below : (m + h) / s ≡ nearestDown m s = subst (λ (n : ℕ). (n + h) / s ≡ nearestDown n s) (sym none) (div-eq-of-lt (omega arith) ∙ sym (div-eq-of-lt (omega arith)) ∙ down-is 0 s h p e) in
+    ap pos below
+down-neg (negsuc k) s h p e t = go (decLe (suc k) h)
+  where
+    low : suc k ≤ h → nearestDown (suc k) s ≡ 0
+    low l = sym (down-is (suc k) s h p e) ∙ div-eq-of-lt (omega arith)
+
+    above : h < suc k → suc ((k - h) / s) ≡ nearestDown (suc k) s
+    above l =
+        let a : (suc k + h) - 1 ≡ (k - h) + s = omega arith in
+        let b : ((k - h) + s) / s ≡ (k - h) / s + 1 = add-div-right (k - h) (omega arith) in
+        omega (arith, ap (λ (n : ℕ). n / s) a, b, down-is (suc k) s h p e)
+
+    go : Dec (suc k ≤ h) → shrZ (negsuc k +ℤ pos h) s ≡ negℤ (pos (nearestDown (suc k) s))
+    go (yes l) =
+        let z : negsuc k +ℤ pos h ≡ pos (h - suc k) = diff-eq (diff-add (diff-of (negsuc k)) (diff-pos h)) (diff-pos (h - suc k)) (omega arith) in
+        let q : (h - suc k) / s ≡ 0 = div-eq-of-lt (omega arith) in
+        ap (λ (v : ℤ). shrZ v s) z ∙ ap pos q ∙ sym (ap (λ (n : ℕ). negℤ (pos n)) (low l))
+    go (no l) =
+        let m = lt-of-not-le l in
+        let z : negsuc k +ℤ pos h ≡ negsuc (k - h) = diff-eq (diff-add (diff-of (negsuc k)) (diff-pos h)) (diff-of (negsuc (k - h))) (omega arith) in
+        ap (λ (v : ℤ). shrZ v s) z ∙ ap (λ (n : ℕ). negℤ (pos n)) (above m)
+
 pub scale-is : (p : ℕ) → 2 ^ (p + 11) ≡ scale p
 scale-is p = pow-add 2 p 11 ∙ mul-comm (2 ^ p) 2048
 
@@ -171,6 +234,17 @@ scale-pos p = omega (arith, pow-pos p)
 pick-le : (t : Bool) (a b n : ℕ) → a ≤ n → b ≤ n → cond t a b ≤ n
 pick-le true a b n p q = p
 pick-le false a b n p q = q
+
+pub down-zero : (s : ℕ) → 0 < s → nearestDown 0 s ≡ 0
+unfolding nearestDown
+down-zero s p = rw (zero-mod, zero-div) (go (ltb s (0 * 2)) refl)
+  where
+    go : (t : Bool) → ltb s (0 * 2) ≡ t → cond t (0 + 1) 0 ≡ 0
+    go true e = absurd (never (ltb-true s (0 * 2) e))
+      where
+        never : s < 0 * 2 → ⊥
+        never h = omega arith
+    go false e = refl
 
 pub down-le : (m s : ℕ) → nearestDown m s ≤ m + 1
 unfolding nearestDown
@@ -187,6 +261,17 @@ signed-neg (negsuc k) n e = +ℤ-idl (negℤ (pos n))
 pub signed-pos : (z : ℤ) (n : ℕ) → ltZ z (pos 0) ≡ false → pos n ≡ signed z n
 signed-pos (pos k) n e = refl
 signed-pos (negsuc k) n e = absurd (subst T e tt)
+
+-- a number has its own sign
+pub signed-abs : (z : ℤ) → signed z (natAbs z) ≡ z
+signed-abs (pos n) = refl
+signed-abs (negsuc n) = refl
+
+-- a number with the sign of z has z's sign, or is 0
+pub signed-twice : (z : ℤ) (m s : ℕ) → 0 < s → signed (signed z m) (nearestDown m s) ≡ signed z (nearestDown m s)
+signed-twice (pos k) m s p = refl
+signed-twice (negsuc k) zero s p = let e : nearestDown 0 s ≡ 0 = down-zero s p in rw e
+signed-twice (negsuc k) (suc m) s p = refl
 
 pub signed-size : (z : ℤ) (n : ℕ) → natAbs (signed z n) ≡ n
 signed-size (pos k) n = refl
@@ -222,6 +307,22 @@ clamp4-size z = go (ltZ z (negsuc 7)) (ltZ (pos 7) z) (mid-size z)
     go true b h = omega arith
     go false true h = omega arith
     go false false h = h refl refl
+
+-- the excess at either end, and within
+pub excess-low : (z : ℤ) → ltZ z (negsuc 7) ≡ true → negsuc 7 -ℤ z ≡ pos (natAbs (z -ℤ clamp4 z))
+excess-low z e =
+    let l = diff-lt (diff-of z) (diff-neg (diff-pos 8)) e in
+    let d = diff-sub (diff-of z) (diff-neg (diff-pos 8)) in
+    rw (clamp4-low z e) (diff-eq (diff-sub (diff-neg (diff-pos 8)) (diff-of z)) (diff-pos (natAbs (z -ℤ negsuc 7))) (omega (arith, diff-abs d, abs-diff d (under z - (over z + 8)) (omega arith) (omega arith))))
+
+pub excess-high : (z : ℤ) → ltZ z (negsuc 7) ≡ false → ltZ (pos 7) z ≡ true → z -ℤ pos 7 ≡ pos (natAbs (z -ℤ clamp4 z))
+excess-high z e f =
+    let l = diff-lt (diff-pos 7) (diff-of z) f in
+    let d = diff-sub (diff-of z) (diff-pos 7) in
+    rw (clamp4-high z e f) (diff-eq d (diff-pos (natAbs (z -ℤ pos 7))) (omega (arith, diff-abs d, abs-diff d (over z - (under z + 7)) (omega arith) (omega arith))))
+
+pub excess-none : (z : ℤ) → ltZ z (negsuc 7) ≡ false → ltZ (pos 7) z ≡ false → _≡_ {A = ℕ} 0 (natAbs (z -ℤ clamp4 z))
+excess-none z e f = rw (clamp4-mid z e f) (omega (arith, abs-diff (diff-sub (diff-of z) (diff-of z)) 0 (omega arith) (omega arith)))
 
 -- the excess is no larger than what was clamped
 pub clamp4-excess : (z : ℤ) → natAbs (z -ℤ clamp4 z) ≤ natAbs z

@@ -1,13 +1,12 @@
 // One pass over a frame at a given exponent.
 ghost use mathlib.Core.Path.{_≡_};
-ghost use Prim.Native.Nat.{_≤_, max};
+ghost use Prim.Native.Nat.{_≤_, _^_, max};
 ghost use lib.IntN.{pos};
-ghost use Rattle.frame.specs.Quantise.{scale};
 ghost use Rattle.frame.specs.Pass.{Bounded, stepOf, squareOf, passOf};
 use crate::History;
 use crate::estimate::weigh;
 use crate::quantise::clamp_4;
-use crate::quantise::magnitude;
+use crate::quantise::excess;
 use crate::quantise::quantise;
 
 // One sample: its nibble, the reconstructed sample, and how far the nibble was out of range.
@@ -25,12 +24,12 @@ pub(crate) struct Pass {
     pub distance: u64,
 }
 
-// 2048 * 2^p.
-fn scale_of(p: u8) -> i64
+// 2^p.
+fn power_of(p: u8) -> i64
     requires { ⌜ p ≤ 12 ⌝ }
-    ensures { λ r. ⌜ r ≡ pos (scale p) ⌝ }
+    ensures { λ r. ⌜ r ≡ pos (2 ^ p) ⌝ }
 {
-    2048 * (1i64 << p)
+    1i64 << p
 }
 
 // Sample x after the reconstructed samples s0 and s1.
@@ -43,8 +42,8 @@ fn code_sample(c0: i16, c1: i16, s0: i16, s1: i16, x: i16, p: u8) -> Step
     let d = 2048 * (x as i64) - q;
     let u = quantise(d, p);
     let n = clamp_4(u);
-    let overflow = magnitude(u - n);
-    let sample = whole::clamp_i16((q + n * scale_of(p) + 1024) >> 11);
+    let overflow = excess(u);
+    let sample = whole::clamp_i16(((q + 1024) >> 11) + n * power_of(p));
     Step {
         nibble: n as i8,
         sample: sample,

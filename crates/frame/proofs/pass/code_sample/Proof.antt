@@ -3,18 +3,19 @@ use borrow.Author.Needs.{needs}
 use mathlib.Core.Path.{_≡_, refl, sym, ap, _∙_}
 use Prim.Native.Nat.{ℕ, _*_, _^_, _≤_}
 use native.Mathlib.Omega.{arith}
+use lib.Pow.{pow-mono}
 use lib.IntN.{ℤ, pos, natAbs, _+ℤ_, _-ℤ_, _*ℤ_}
 use lib.Signed.{shrZ}
 use mir.Syntax.{w8, w16, w64}
 use mir.Val.{SFits, toZ, ofZ}
 use mir.Facts.{toZ-ofZ}
-use Rattle.whole.specs.Whole.{clamp16}
+use Rattle.whole.specs.Whole.{clamp16, floored}
 use Rattle.whole.proofs.Values.{Is, is-16, is-in, is-lit, is-call, is-mul, chk-mul, is-add, chk-add, is-sub, chk-sub, is-shr, is-cast, chk-cast, is-size, is-le}
 use Rattle.frame.specs.Estimate.{weighted}
-use Rattle.frame.specs.Quantise.{scale, quantised, clamp4}
-use Rattle.frame.specs.Pass.{residual, reconstruct, stepOf}
-use Rattle.frame.proofs.LawsQuantise.{quantised-size, clamp4-size, scale-le}
-use Rattle.frame.proofs.LawsPass.{weighted-size, residual-size}
+use Rattle.frame.specs.Quantise.{quantised, clamp4}
+use Rattle.frame.specs.Pass.{residual, stepOf}
+use Rattle.frame.proofs.LawsQuantise.{quantised-size, clamp4-size}
+use Rattle.frame.proofs.LawsPass.{weighted-size, residual-size, reconstruct-played}
 use Rattle.frame.proofs.pass.code_sample.Statement.{statement}
 use Rattle.frame.proofs.pass.code_sample.Tie as tie
 
@@ -44,8 +45,14 @@ u-is c =
 n-is : (c : tie.After-clamp-4) → Is w64 (ofZ w64 (c .clamp-4 .result)) (clamp4 (quantised (whole (c .before .before .before)) (c .before .before .before .args .p))) 8
 n-is c = is-call (c .clamp-4 .ensures ∙ ap clamp4 (u-is (c .before) .is)) (clamp4-size _) tt
 
-s-is : (c : tie.After-scale-of) → Is w64 (ofZ w64 (c .scale-of .result)) (pos (scale (c .before .before .before .before .before .args .p))) 8388608
-s-is c = is-call (c .scale-of .ensures) (scale-le (c .before .before .before .before .before .args .p) (c .before .before .before .before .before .pre .1)) tt
+w-is : (c : tie.After-power-of) → Is w64 (ofZ w64 (c .power-of .result)) (pos (2 ^ c .before .before .before .before .before .args .p)) 4096
+w-is c =
+    let l : 2 ^ c .before .before .before .before .before .args .p ≤ 2 ^ 12 = pow-mono (c .before .before .before .before .before .pre .1) in
+    is-call (c .power-of .ensures) l tt
+
+-- the prediction, rounded down
+p-is : (c : tie.After-excess) → Is w64 (ofZ w64 (shrZ (toZ w64 (ofZ w64 (toZ w64 (ofZ w64 (c .before .before .before .weigh .result)) +ℤ pos 1024))) 2048)) (floored (sum (c .before .before .before .before) +ℤ pos 1024) 2048) 2013266944
+p-is c = is-shr (is-add (q-is (c .before .before .before)) (is-lit w64 1024 tt) tt) 2048 tt
 
 weigh-requires : tie.Need-weigh-requires
 weigh-requires c κs = search needs
@@ -65,23 +72,20 @@ quantise-requires c κs = omega (arith, is-size (d-is c))
 clamp-4-requires : tie.Need-clamp-4-requires
 clamp-4-requires c κs = search needs
 
-sub-magnitude : tie.Need-sub-magnitude
-sub-magnitude c = chk-sub (u-is (c .before)) (n-is c) tt
-
-magnitude-requires : tie.Need-magnitude-requires
-magnitude-requires c κs = omega (arith, is-size (is-sub (u-is (c .before)) (n-is c) tt))
-
-scale-of-requires : tie.Need-scale-of-requires
-scale-of-requires c κs = search needs
-
-mul-clamp-i16 : tie.Need-mul-clamp-i16
-mul-clamp-i16 c = chk-mul (n-is (c .before .before)) (s-is c) tt
+excess-requires : tie.Need-excess-requires
+excess-requires c κs = omega (arith, is-size (u-is (c .before)))
 
 add-clamp-i16 : tie.Need-add-clamp-i16
-add-clamp-i16 c = chk-add (q-is (c .before .before .before .before)) (is-mul (n-is (c .before .before)) (s-is c) tt) tt
+add-clamp-i16 c = chk-add (q-is (c .before .before .before)) (is-lit w64 1024 tt) tt
+
+power-of-requires : tie.Need-power-of-requires
+power-of-requires c κs = search needs
+
+mul-clamp-i16 : tie.Need-mul-clamp-i16
+mul-clamp-i16 c = chk-mul (n-is (c .before .before)) (w-is c) tt
 
 add-clamp-i16-2 : tie.Need-add-clamp-i16-2
-add-clamp-i16-2 c = chk-add (is-add (q-is (c .before .before .before .before)) (is-mul (n-is (c .before .before)) (s-is c) tt) tt) (is-lit w64 1024 tt) tt
+add-clamp-i16-2 c = chk-add (p-is (c .before)) (is-mul (n-is (c .before .before)) (w-is c) tt) tt
 
 clamp-i16-requires : tie.Need-clamp-i16-requires
 clamp-i16-requires c κs = search needs
@@ -90,15 +94,17 @@ cast-t18 : tie.Need-cast-t18
 cast-t18 c = chk-cast (n-is (c .before .before .before)) tt
 
 returns : tie.Need-returns
-unfolding stepOf reconstruct
+unfolding stepOf
 returns c =
+    let s = c .before .before .before .before .before .before in
     let n = n-is (c .before .before .before) in
-    let sum = is-add (is-add (q-is (c .before .before .before .before .before)) (is-mul n (s-is (c .before)) tt) tt) (is-lit w64 1024 tt) tt in
+    let sum = is-add (p-is (c .before .before)) (is-mul n (w-is (c .before)) tt) tt in
+    let r = c .clamp-i16 .ensures ∙ ap clamp16 (sum .is) ∙ sym (reconstruct-played (s .args .c0) (s .args .c1) (s .args .s0) (s .args .s1) (clamp4 (quantised (whole s) (s .args .p))) (s .args .p)) in
     rw (
       is-cast {w′ = w8} n tt .is,
       toZ-ofZ {w = w16} {z = c .clamp-i16 .result} (record { sfits = c .clamp-i16 .ok }),
-      c .clamp-i16 .ensures ∙ ap clamp16 (is-shr sum 2048 tt .is),
-      c .before .before .magnitude .ensures ∙ ap natAbs (is-sub (u-is (c .before .before .before .before)) n tt .is),
+      r,
+      c .before .before .excess .ensures ∙ ap (λ (z : ℤ). natAbs (z -ℤ clamp4 z)) (u-is (c .before .before .before .before) .is),
     )
 
 pub code-sample-spec : {M : Type 1} → statement M
@@ -111,11 +117,10 @@ code-sample-spec =
     sub-d
     quantise-requires
     clamp-4-requires
-    sub-magnitude
-    magnitude-requires
-    scale-of-requires
-    mul-clamp-i16
+    excess-requires
     add-clamp-i16
+    power-of-requires
+    mul-clamp-i16
     add-clamp-i16-2
     clamp-i16-requires
     cast-t18

@@ -1,54 +1,49 @@
--- `nearest_even` meets its contract: the quotient and what is left are a shift's.
+-- `nearest_even` meets its contract: half the unit less one is added, and one where the quotient is odd.
 use borrow.Author.Needs.{needs}
-use mathlib.Core.Path.{_≡_, ap, sym, subst}
-use Prim.Native.Nat.{ℕ, _/_, _%_, _*_, _^_, _-_, _≤_, _<_}
+use mathlib.Core.Path.{_≡_}
+use Prim.Native.Nat.{ℕ, _+_, _/_, _%_, _*_, _^_, _-_, _≤_, _<_}
 use native.Mathlib.Omega.{arith}
-use native.Mathlib.Nat.{div-le-self, le-antisymm, div-mul-le-self}
-use native.Mathlib.Numerals.{add-one}
-use Rattle.frame.proofs.LawsQuantise.{cmp-lt, cmp-gt, cmp-eq, one-shl, left-over}
+use lib.Pow.{pow-mono, pow-pos}
+use Rattle.frame.proofs.LawsQuantise.{one-shl, halves, even-is}
 use Rattle.frame.proofs.quantise.nearest_even.Statement.{statement}
 use Rattle.frame.proofs.quantise.nearest_even.Tie as tie
 
--- the unit
-u-is : (c : tie.Start) → (1 * 2 ^ c .args .k) % 18446744073709551616 ≡ 2 ^ c .args .k
-u-is c = one-shl (c .args .k) 8 (c .pre .1) tt
+half-is : (c : tie.Start) → (1 * 2 ^ (c .args .k - 1)) % 18446744073709551616 ≡ 2 ^ (c .args .k - 1)
+half-is c = one-shl (c .args .k - 1) 8 (omega arith) tt
 
-part : (c : tie.Start) → c .args .m / 2 ^ c .args .k * 2 ^ c .args .k ≤ c .args .m
-part c = div-mul-le-self (c .args .m) (2 ^ c .args .k)
-
-shl-u : tie.Need-shl-u
-shl-u c = search needs
+half-le : (c : tie.Start) → 2 ^ (c .args .k - 1) ≤ 2 ^ 8
+half-le c = let h : c .args .k - 1 ≤ 8 = omega arith in pow-mono h
 
 shr-q : tie.Need-shr-q
 shr-q c = search needs
 
-mul-r : tie.Need-mul-r
-mul-r c = rw (u-is c) (omega (arith, part c))
+sub-half : tie.Need-sub-half
+sub-half c = search needs
 
-sub-r : tie.Need-sub-r
-sub-r c = rw (u-is c) (part c)
+cast-half : tie.Need-cast-half
+cast-half c = search needs
 
-mul-r-2 : tie.Need-mul-r-2
-mul-r-2 c = search needs
-
-returns : tie.Need-returns
-returns c = rw (cmp-lt _ _ (rw (u-is (c .before), left-over) at (c .if1 .taken)))
+shl-half : tie.Need-shl-half
+shl-half c = search needs
 
 add-result : tie.Need-add-result
-add-result c = omega (arith, div-le-self (c .before .before .args .m) (2 ^ c .before .before .args .k))
+add-result c = rw (half-is c) (omega (arith, half-le c))
 
-returns-2 : tie.Need-returns-2
-returns-2 c = rw (cmp-gt _ _ (rw (u-is (c .before .before), left-over) at (c .if2 .taken)), add-one)
+sub-result : tie.Need-sub-result
+sub-result c = rw (half-is c) (omega (arith, pow-pos (c .args .k - 1)))
 
 add-result-2 : tie.Need-add-result-2
-add-result-2 c = omega (arith, div-le-self (c .before .before .args .m) (2 ^ c .before .before .args .k))
+add-result-2 c = rw (half-is c) (omega (arith, half-le c))
 
-returns-3 : tie.Need-returns-3
-returns-3 c =
-    let u = u-is (c .before .before) in
-    rw (cmp-eq _ _ (le-antisymm (rw (u, left-over) at (c .if2 .left)) (rw (u, left-over) at (c .before .if1 .left))))
+shr-result : tie.Need-shr-result
+shr-result c = search needs
+
+returns : tie.Need-returns
+returns c =
+    let k = c .args .k in
+    rw (half-is c) (even-is (c .args .m) (2 ^ k) (2 ^ (k - 1)) (pow-pos (k - 1)) (halves k (c .pre .1 .0)))
 
 pub nearest-even-spec : {M : Type 1} → statement M
 nearest-even-spec =
     tie.close
-    (tie.spec shl-u shr-q mul-r sub-r mul-r-2 returns add-result returns-2 add-result-2 returns-3)
+    (tie.spec shr-q sub-half cast-half shl-half add-result sub-result add-result-2 shr-result returns)
