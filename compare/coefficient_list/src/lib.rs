@@ -19,6 +19,7 @@ pub use cases::cases;
 pub use cuts::Cut;
 pub use random::random_clip;
 
+use oracle::list::Listed;
 use oracle::{Measured, SAMPLES_PER_FRAME, measure};
 
 /// Records for which the replay program has room.
@@ -38,9 +39,9 @@ pub enum Step {
 #[derive(Debug, Clone, Default, PartialEq)]
 pub struct Clip(pub Vec<Step>);
 
-impl Clip {
+impl Listed for Clip {
     /// The clip's lines of the list.
-    pub fn inputs(&self) -> String {
+    fn inputs(&self) -> String {
         let mut lines = line('n', &[]);
         for step in &self.0 {
             match step {
@@ -52,7 +53,7 @@ impl Clip {
     }
 
     /// The Rust's answers.
-    pub fn answers(&self) -> String {
+    fn answers(&self) -> String {
         let (mut pieces, mut samples) = (Vec::<&[i16]>::new(), 0);
         let mut lines = String::new();
         for step in &self.0 {

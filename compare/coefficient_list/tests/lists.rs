@@ -1,6 +1,7 @@
 //! The list has every kind of call, its lines are as said, and neither cuts nor askings change an answer.
 
 use coefficient_list::{Clip, Cut, LONGEST_PIECE, ROOM, Step, cases, random_clip};
+use oracle::list::Listed;
 use oracle::measure;
 use oracle::random::Random;
 

@@ -3,6 +3,7 @@
 mod block;
 mod caught;
 mod encode;
+pub mod list;
 mod measure;
 mod pieces;
 pub mod random;
