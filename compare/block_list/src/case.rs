@@ -1,13 +1,6 @@
 //! A call on blocks, as a line of the list and as a line of the answers.
-//!
-//! A line of the list is a record of 178 bytes in hexadecimal digits: 0 what to do (0 play, 1 join, 2 addresses), 1 and 2 how
-//! many bytes the two blocks have, 3 the output's length, 4 and 8 the lengths in nibbles (four bytes each, the first also the
-//! address), 12 the context's header and its two samples, 18 and 50 the two blocks' coefficients, 82 and 130 their bytes.
-//!
-//! A line of the answers is 00 or the refusal's number (2 digits), the count or the lengths' sum (9 digits), the context after
-//! playing, and the whole output, which holds 5A in each byte at first; for addresses the two values. What is played, joined and
-//! converted is the Rust's answer. The refusals' numbers are the port's.
 
+use oracle::list::Listed;
 use oracle::{Coefficients, FrameContext, address_to_sample, decode, join, sample_to_address};
 
 /// The most bytes a block has, and the most samples or bytes an output has.
@@ -15,7 +8,7 @@ pub const MOST_BYTES: usize = 48;
 pub const MOST_ROOM: usize = 96;
 
 /// A block's bytes, its length in nibbles and its coefficients.
-#[derive(Clone)]
+#[derive(Debug, Clone, PartialEq)]
 pub struct Part {
     pub bytes: Vec<u8>,
     pub len: u32,
@@ -23,7 +16,7 @@ pub struct Part {
 }
 
 /// A call.
-#[derive(Clone)]
+#[derive(Debug, Clone, PartialEq)]
 pub enum Case {
     Play { part: Part, context: FrameContext, room: usize },
     Join { first: Part, second: Part, room: usize },
@@ -35,9 +28,9 @@ pub fn has_lowest_pair(coefficients: &Coefficients) -> bool {
     coefficients.as_chunks::<2>().0.contains(&[i16::MIN, i16::MIN])
 }
 
-impl Case {
+impl Listed for Case {
     /// The record in hexadecimal digits.
-    pub fn line(&self) -> String {
+    fn inputs(&self) -> String {
         let empty = Part { bytes: vec![], len: 0, coefficients: [0; 16] };
         let (kind, first, second, context, room) = match self {
             Self::Play { part, context, room } => (0, part.clone(), empty, *context, *room),
@@ -64,20 +57,25 @@ impl Case {
         record.resize(82 + MOST_BYTES, 0);
         record.extend(&second.bytes);
         record.resize(82 + 2 * MOST_BYTES, 0);
-        record.iter().map(|byte| format!("{byte:02x}")).collect()
+        hexadecimal(&record) + "\n"
     }
 
-    /// The answer.
-    pub fn answer_line(&self) -> String {
-        match self {
+    fn answers(&self) -> String {
+        let answer = match self {
             Self::Play { part, context, room } => played(part, *context, *room),
             Self::Join { first, second, room } => joined(first, second, *room),
             Self::Addresses(value) => {
                 let value = *value as usize;
                 format!("00 {:09x} {:09x}", address_to_sample(value), sample_to_address(value))
             }
-        }
+        };
+        answer + "\n"
     }
+}
+
+/// Two digits each.
+fn hexadecimal(bytes: &[u8]) -> String {
+    bytes.iter().map(|byte| format!("{byte:02x}")).collect()
 }
 
 /// What playing leaves.
@@ -117,8 +115,7 @@ fn joined(first: &Part, second: &Part, room: usize) -> String {
             Err(_) => "12 000000000".to_string(),
         }
     };
-    let digits: String = output.iter().map(|byte| format!("{byte:02x}")).collect();
-    format!("{answer} {digits}")
+    format!("{answer} {}", hexadecimal(&output))
 }
 
 /// The header and the two samples.

@@ -13,7 +13,8 @@ pub fn cases() -> Vec<Case> {
     let mut cases = vec![];
     for residue in 0..16 {
         for turn in 0..BLOCKS {
-            cases.push(accepted(&mut random, residue, turn));
+            let frames = if residue == 0 { 1 + turn % 6 } else { turn % 6 };
+            cases.push(accepted(&mut random, 16 * frames + residue, turn % 2 == 0));
         }
     }
     for turn in 0..64 {
@@ -51,17 +52,15 @@ fn context(random: &mut Random) -> FrameContext {
     }
 }
 
-/// A block that is played. Every other one has small headers, so that not each sample is clamped.
-fn accepted(random: &mut Random, residue: usize, turn: usize) -> Case {
-    let frames = if residue == 0 { 1 + turn % 6 } else { turn % 6 };
-    let len = 16 * frames + residue;
+/// A block of `len` nibbles that is played. A tame one has small headers, so that not each sample is clamped.
+pub fn accepted(random: &mut Random, len: usize, tame: bool) -> Case {
     let room = address_to_sample(len);
     let least = len.div_ceil(2);
     let count = least + random.below(MOST_BYTES - least + 1).min(random.below(4));
     let mut part =
         Part { bytes: bytes(random, count), len: len as u32, coefficients: wild(random) };
     let mut start = context(random);
-    if turn % 2 == 0 {
+    if tame {
         for header in part.bytes.iter_mut().step_by(8) {
             *header = (*header & 0xf0) | (*header & 0x0f) % 9;
         }
@@ -73,7 +72,7 @@ fn accepted(random: &mut Random, residue: usize, turn: usize) -> Case {
 }
 
 /// A block that is refused, for one reason or several.
-fn refused(random: &mut Random, turn: usize) -> Case {
+pub fn refused(random: &mut Random, turn: usize) -> Case {
     let count = random.below(MOST_BYTES + 1);
     let good = (1 + random.below(2 * count + 1)).min(2 * count);
     let bad_length = turn % 8 % 2 == 1 || good == 0;
@@ -96,7 +95,7 @@ fn refused(random: &mut Random, turn: usize) -> Case {
 }
 
 /// Two blocks to join.
-fn joined(random: &mut Random, turn: usize) -> Case {
+pub fn joined(random: &mut Random, turn: usize) -> Case {
     let (first, second) = (random.below(MOST_BYTES + 1), random.below(MOST_BYTES + 1));
     let coefficients = wild(random);
     let mut others = coefficients;

@@ -1,21 +1,11 @@
-//! Writes the list of blocks to play and join, or the Rust's answers.
+//! Writes a list of calls on blocks or the Rust's answers: the fixed list, or random calls.
 //! Usage: block_list inputs | answers
+//!        block_list random COUNT SEED inputs | answers
 
-mod case;
-mod cases;
-
-use std::env;
-use std::io::{self, BufWriter, Write};
+use block_list::{cases, random_call};
+use oracle::list::write_list;
+use std::io;
 
 fn main() -> io::Result<()> {
-    let mut output = BufWriter::new(io::stdout().lock());
-    match env::args().nth(1).as_deref() {
-        Some("inputs") => {
-            cases::cases().iter().try_for_each(|case| writeln!(output, "{}", case.line()))
-        }
-        Some("answers") => {
-            cases::cases().iter().try_for_each(|case| writeln!(output, "{}", case.answer_line()))
-        }
-        _ => Err(io::Error::other("usage: block_list inputs | answers")),
-    }
+    write_list(cases, random_call)
 }
