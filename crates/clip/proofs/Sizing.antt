@@ -1,7 +1,7 @@
 -- Laws of the sizes.
 use mathlib.Core.Path.{_≡_, refl, sym, ap, _∙_}
-use Prim.Native.Nat.{ℕ, suc, _+_, _-_, _*_, _/_, _≤_, _<_}
-use native.Mathlib.Nat.{mul-le-mul, le-refl, div-lt-iff-lt-mul, le-div-iff-mul-le, suc-mul, mul-assoc}
+use Prim.Native.Nat.{ℕ, suc, _+_, _-_, _*_, _/_, _%_, _≤_, _<_}
+use native.Mathlib.Nat.{mul-le-mul, le-refl, div-lt-iff-lt-mul, le-div-iff-mul-le, suc-mul, mul-assoc, div-add-mod'}
 use native.Mathlib.Omega.{arith}
 use Rattle.clip.specs.Sizes.{most, framesOf, lastOf, blocksOf, bodyOf, sizeOf}
 use Rattle.clip.specs.Facts.{Limits}
@@ -45,3 +45,13 @@ blocks-most n b L = omega (arith, blocks-le (framesOf n) b (L .wide), frames-le 
 
 pub start-most : (n b k : ℕ) → Limits n b → k < blocksOf n b → k * b < 8388608
 start-most n b k L h = omega (arith, start-within n b k L h, frames-le n (L .few))
+
+-- the block that a frame is the first of
+pub first-block : (n b q : ℕ) → Limits n b → q < framesOf n → q % (b / 8) ≡ 0 → q / (b / 8) < blocksOf n b
+unfolding blocksOf
+first-block n b q L h e =
+    let w : b ≡ b / 8 * 8 = omega (arith, L .eights) in
+    let d = div-add-mod' q (b / 8) in
+    let p : q / (b / 8) * b ≡ q / (b / 8) * (b / 8) * 8 = ap (λ (x : ℕ). q / (b / 8) * x) w ∙ sym (mul-assoc (q / (b / 8)) (b / 8) 8) in
+    let z : 0 < b = omega (arith, L .wide) in
+    le-div-iff-mul-le {x = suc (q / (b / 8))} {y = 8 * framesOf n + b - 1} z .1 (omega (arith, suc-mul (q / (b / 8)) b, p, d))

@@ -1,14 +1,20 @@
 // The clip image: starting, feeding, closing.
 ghost use mathlib.Core.Path.{_≡_};
-ghost use Rattle.clip.specs.Encoding.{both, outOf, numberOf, noEncoder, startOf};
+ghost use Rattle.clip.specs.Encoding.{both, outOf, numberOf, noEncoder, startOf, feedOf, closeOf};
 
 mod checks;
+mod closing;
 mod contents;
+mod feeding;
 mod fields;
 mod sizes;
 
+use checks::close_answer;
+use checks::feed_answer;
 use checks::start_answer;
+use closing::finish;
 use contents::put_fresh;
+use feeding::feed_all;
 use frame::History;
 
 // Why a call is refused.
@@ -130,5 +136,45 @@ pub fn start(
                 encoder: encoder,
             }
         }
+    }
+}
+
+// Feeds a piece: each frame that it fills is encoded to its place.
+pub fn feed(e: Encoder, piece: &[i16], image: &mut [u8]) -> Encoding
+    ensures { λ r. ⌜ outOf (r .answer) (both (r .encoder) (now (image .exit))) ≡ feedOf e (now (piece .entry)) (now (image .entry)) ⌝ }
+{
+    let answer = feed_answer(e, piece.len(), image.len());
+    match answer {
+        Answer::Accepted => {
+            let fed = feed_all(e, piece, image);
+            Encoding {
+                answer: Answer::Accepted,
+                encoder: fed,
+            }
+        }
+        Answer::Refused(why) => Encoding {
+            answer: Answer::Refused(why),
+            encoder: e,
+        },
+    }
+}
+
+// Closes the clip: encodes a short last frame and writes the mark.
+pub fn close(e: Encoder, image: &mut [u8]) -> Encoding
+    ensures { λ r. ⌜ outOf (r .answer) (both (r .encoder) (now (image .exit))) ≡ closeOf e (now (image .entry)) ⌝ }
+{
+    let answer = close_answer(e, image.len());
+    match answer {
+        Answer::Accepted => {
+            let closed = finish(e, image);
+            Encoding {
+                answer: Answer::Accepted,
+                encoder: closed,
+            }
+        }
+        Answer::Refused(why) => Encoding {
+            answer: Answer::Refused(why),
+            encoder: e,
+        },
     }
 }

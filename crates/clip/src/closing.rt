@@ -1,0 +1,67 @@
+// The last frame and the mark.
+ghost use mathlib.Core.Path.{_≡_};
+ghost use Prim.Native.Nat.{_-_, _≤_};
+ghost use lib.IntN.{pos};
+ghost use lib.ListN.{length, replicate};
+ghost use lib.Seq.{sets};
+ghost use Rattle.clip.specs.Encoding.{both, endOf};
+ghost use Rattle.clip.specs.Facts.{Whole};
+use crate::Encoder;
+use crate::contents::put_mark;
+use crate::feeding::store;
+use frame::encode_frame;
+use frame::history_after;
+
+// A frame whose samples from place m on are zero.
+fn padded(frame: [i16; 14], m: usize) -> [i16; 14]
+    requires { ⌜ m ≤ 14 ⌝ }
+    ensures { λ r. ⌜ r ≡ sets frame m (replicate (14 - m) (pos 0)) ⌝ }
+{
+    let mut f = frame;
+    let mut j: usize = m;
+    while j < 14 {
+        f[j] = 0;
+        j += 1;
+    }
+    f
+}
+
+// Encodes a short last frame and writes the mark.
+pub(crate) fn finish(e: Encoder, image: &mut [u8]) -> Encoder
+    requires { ⌜ Whole e (length (now image)) ⌝ }
+    ensures { λ r. ⌜ both r (now (image .exit)) ≡ endOf (both e (now (image .entry))) ⌝ }
+{
+    let n = e.fed;
+    let m = (n % 14) as usize;
+    let mut c = e;
+    let none = [0i16; 14];
+    c.frame = none;
+    c.closed = true;
+    if m != 0 {
+        let h = e.history;
+        let g = e.frame;
+        let f = padded(g, m);
+        let cs = e.coefficients;
+        let t = encode_frame(h, f, cs);
+        let b = t.bytes;
+        let s = t.samples;
+        let total = e.total as usize;
+        let block = e.block as usize;
+        store(
+            image,
+            total,
+            block,
+            (n / 14) as usize,
+            b,
+            1 + (m + 1) / 2,
+            h,
+        );
+        let after = history_after(h, s, m);
+        c.history = after;
+        c.passes = e.passes + t.passes;
+        put_mark(image);
+        return c;
+    }
+    put_mark(image);
+    c
+}
