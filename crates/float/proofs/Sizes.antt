@@ -193,7 +193,7 @@ up-sub a b = go (ltb a b) (ltb→lt a b) (nltb→le a b)
         fill : (a b : ℕ) → b ≤ a → a - b + b ≡ a
         fill a b h = omega arith
 
-up-add : (e d : ℤ) → up (e +ℤ d) * (down e * down d) ≡ up e * up d * down (e +ℤ d)
+pub up-add : (e d : ℤ) → up (e +ℤ d) * (down e * down d) ≡ up e * up d * down (e +ℤ d)
 up-add (pos a) (pos b) = ap (λ (z : ℕ). z * 1) (pow-add 2 a b)
 up-add (pos a) (negsuc b) = ap (λ (z : ℕ). up (subℕ a (suc b)) * z) (one-mul (2 ^ suc b)) ∙ up-sub a (suc b) ∙ ap (λ (z : ℕ). z * down (subℕ a (suc b))) (sym (mul-one (2 ^ a)))
 up-add (negsuc a) (pos b) = ap (λ (z : ℕ). up (subℕ b (suc a)) * z) (mul-one (2 ^ suc a)) ∙ up-sub b (suc a) ∙ ap (λ (z : ℕ). z * down (subℕ b (suc a))) (sym (one-mul (2 ^ b)))

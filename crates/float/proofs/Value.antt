@@ -14,6 +14,7 @@ use lib.Ieee.Fits.{up-pos, down-pos}
 use lib.Ieee.Exact.{HasValue, round-exact}
 use lib.Ieee.Scale.{round-same}
 use Rattle.float.specs.FusedMultiplyAdd.{times, fusedMultiplyAdd, plainly}
+use Rattle.float.proofs.Sizes.{up-add}
 
 -- ---- a fraction at another scale
 pub value-scale : (x : Float) (s : Bool) (a c k : ℕ) → HasValue x s a c → HasValue x s (a * k) (c * k)
@@ -25,27 +26,6 @@ pub value-is : (x : Float) (s : Bool) (a b c d : ℕ) → a ≡ b → c ≡ d �
 value-is x s a b c d p q h = subst (λ (z : ℕ). HasValue x s b z) q (subst (λ (z : ℕ). HasValue x s z c) p h)
 
 -- ---- the exact product
-up-sub : (a b : ℕ) → up (subℕ a b) * 2 ^ b ≡ 2 ^ a * down (subℕ a b)
-up-sub a b = go (ltb a b) (ltb→lt a b) (nltb→le a b)
-  where
-    go : (x : Bool) → (T x → a < b) → (T (not x) → b ≤ a) → up (cond x (negsuc (b - suc a)) (pos (a - b))) * 2 ^ b ≡ 2 ^ a * down (cond x (negsuc (b - suc a)) (pos (a - b)))
-    go true h k = one-mul (2 ^ b) ∙ ap (λ (z : ℕ). 2 ^ z) (fill a b (h tt)) ∙ pow-add 2 a (suc (b - suc a))
-      where
-        fill : (a b : ℕ) → a < b → b ≡ a + suc (b - suc a)
-        fill a b h = omega arith
-    go false h k = sym (pow-add 2 (a - b) b) ∙ ap (λ (z : ℕ). 2 ^ z) (fill a b (k tt)) ∙ sym (mul-one (2 ^ a))
-      where
-        fill : (a b : ℕ) → b ≤ a → a - b + b ≡ a
-        fill a b h = omega arith
-
-up-add : (e d : ℤ) → up (e +ℤ d) * (down e * down d) ≡ up e * up d * down (e +ℤ d)
-up-add (pos a) (pos b) = ap (λ (z : ℕ). z * 1) (pow-add 2 a b)
-up-add (pos a) (negsuc b) = ap (λ (z : ℕ). up (subℕ a (suc b)) * z) (one-mul (2 ^ suc b)) ∙ up-sub a (suc b) ∙ ap (λ (z : ℕ). z * down (subℕ a (suc b))) (sym (mul-one (2 ^ a)))
-up-add (negsuc a) (pos b) = ap (λ (z : ℕ). up (subℕ b (suc a)) * z) (mul-one (2 ^ suc a)) ∙ up-sub b (suc a) ∙ ap (λ (z : ℕ). z * down (subℕ b (suc a))) (sym (one-mul (2 ^ b)))
-up-add (negsuc a) (negsuc b) = one-mul (2 ^ suc a * 2 ^ suc b) ∙ sym (pow-add 2 (suc a) (suc b)) ∙ ap (λ (z : ℕ). 2 ^ z) (two a b) ∙ sym (one-mul (2 ^ suc (suc (a + b)))) ∙ ap (λ (z : ℕ). z * 2 ^ suc (suc (a + b))) (sym (one-mul 1))
-  where
-    two : (a b : ℕ) → suc a + suc b ≡ suc (suc (a + b))
-    two a b = omega arith
 
 -- m * ue is a * de / c, and n * ud is b * dd / g
 cross : (m ue de a c n ud dd b g us ds : ℕ) → 0 < de → 0 < dd → m * ue * c ≡ a * de → n * ud * g ≡ b * dd → us * (de * dd) ≡ ue * ud * ds → m * n * us * (c * g) ≡ a * b * ds
