@@ -51,8 +51,8 @@ fn push(e: Encoder, x: i16, image: &mut [u8]) -> Encoder
         let s = t.samples;
         let total = e.total as usize;
         let block = e.block as usize;
-        store(image, total, block, (n / 14) as usize, b, 8, h);
         let after = history_after(h, s, 14);
+        store(image, total, block, (n / 14) as usize, b, 8, h);
         let none = [0i16; 14];
         c.history = after;
         c.frame = none;

@@ -1,4 +1,4 @@
--- Whatever the records are, a NaN among them too: a coefficient is within its limit, or it came from a NaN and is -32768.
+-- Whatever the records are, a NaN among them too: a coefficient is within its limit, or is -32768.
 use mathlib.Core.Path.{_≡_, refl, ap, _∙_}
 use mathlib.Core.Logic.{_⊎_, inl, inr}
 use mathlib.Core.List.{List}

@@ -35,6 +35,6 @@ searchWithin (suc k) c0 c1 h xs p n =
     let q = raised (t .overflow) p in
     cond (ends q (t .overflow)) (finished t q (n + 1)) (searchWithin k c0 c1 h xs (q + 1) (n + 1))
 
--- `try_coefficients`; "At most 13 passes" is never what ends it (`search-found`)
+-- `try_coefficients`; "At most 13 passes" is never what ends it (`try-bound`)
 unfoldable pub tryCoefficients : ℤ → ℤ → History → List ℤ → Candidate
 tryCoefficients c0 c1 h xs = searchWithin 13 c0 c1 h xs (firstExponent c0 c1 h xs) 0

@@ -3,7 +3,7 @@ ghost use mathlib.Core.Path.{_≡_};
 ghost use Prim.Native.Nat.{_≤_};
 ghost use lib.IntN.{natAbs};
 ghost use Rattle.frame.specs.Choice.{AllBounded};
-ghost use Rattle.frame.specs.Frame.{encodeFrame, encodeOneFrame, historyAfter, pairWithin, withinLimits};
+ghost use Rattle.frame.specs.Frame.{encodeFrame, encodeOneFrame, historyAfter, pairWithin, refusalNumber, withinLimits};
 
 mod choice;
 mod estimate;
@@ -132,5 +132,14 @@ pub fn encode_one_frame(history: History, samples: [i16; 14], coefs: [i16; 16]) 
         bytes: bytes,
         passes: frame.passes,
         history: history_after(history, kept, 14),
+    }
+}
+
+// Document 01's number of a refusal.
+pub fn code(refusal: Refusal) -> u32
+    ensures { λ r. ⌜ r ≡ refusalNumber refusal ⌝ }
+{
+    match refusal {
+        Refusal::CoefficientOutside => 7,
     }
 }

@@ -3,3 +3,4 @@ pub mod Values
 pub mod Differences
 pub mod Laws
 pub mod Stores
+pub mod Sixteen

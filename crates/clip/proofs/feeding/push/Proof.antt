@@ -36,14 +36,14 @@ cast-total c = search needs
 cast-block : tie.Need-cast-block
 cast-block c = search needs
 
+history-after-requires : tie.Need-history-after-requires
+history-after-requires c κs = search needs
+
 cast-store : tie.Need-cast-store
 cast-store c = search needs
 
 store-requires : tie.Need-store-requires
-store-requires c κs = full-room (c .before .before .before .before .before .before .before .before .before .before .before .args .e) _ (c .before .before .before .before .before .before .before .before .before .before .before .pre) (c .before .before .before .before .before .before .before .if1 .taken)
-
-history-after-requires : tie.Need-history-after-requires
-history-after-requires c κs = search needs
+store-requires c κs = full-room (c .before .before .before .before .before .before .before .before .before .before .before .before .args .e) _ (c .before .before .before .before .before .before .before .before .before .before .before .before .pre) (c .before .before .before .before .before .before .before .before .if1 .taken)
 
 add-c-2 : tie.Need-add-c-2
 add-c-2 c =
@@ -63,10 +63,10 @@ returns c =
     let a = s .args in
     let e = a .e in
     let same = toZ-ofZ w16 (a .x) (s .fits .x) in
-    push-full e (a .x) (a .image .now) (c .before .before .before .before .before .before .before .before .before .before .before .encode-frame .result) (c .before .before .history-after .result) (c .before .before .before .before .before .store .last .0) (c .before .before .before .before .before .before .before .before .before .before .before .before .before .if1 .taken)
+    push-full e (a .x) (a .image .now) (c .before .before .before .before .before .before .before .before .before .before .before .encode-frame .result) (c .before .before .before .before .before .before .history-after .result) (c .before .before .before .before .store .last .0) (c .before .before .before .before .before .before .before .before .before .before .before .before .before .if1 .taken)
     (c .before .before .before .before .before .before .before .before .before .before .before .encode-frame .ensures ∙ ap (λ (x : ℤ). encodeFrame (e .history) (set (e .frame) (e .fed % 14) x) (e .coefficients)) same)
-    (c .before .before .before .before .before .store .ensures)
-    (c .before .before .history-after .ensures)
+    (c .before .before .before .before .store .ensures)
+    (c .before .before .before .before .before .before .history-after .ensures)
 
 returns-2 : tie.Need-returns-2
 returns-2 c =
@@ -88,9 +88,9 @@ push-spec =
     encode-frame-requires
     cast-total
     cast-block
+    history-after-requires
     cast-store
     store-requires
-    history-after-requires
     add-c-2
     same-length
     returns

@@ -1,2 +1,0 @@
--- Laws of this program's proofs.
-mod Sixteen
