@@ -2,10 +2,16 @@
 mod Bits
 pub mod Sizing
 pub mod Sound
-mod FieldRuns
+pub mod FieldRuns
 pub mod Tables
 pub mod Accepting
 pub mod Storing
 pub mod Pieces
 pub mod Ending
 pub mod Playback
+pub mod Stable
+pub mod Built
+pub mod Following
+pub mod WholeRuns
+pub mod Cuts
+pub mod Worked

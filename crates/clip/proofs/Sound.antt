@@ -2,7 +2,7 @@
 use mathlib.Core.Path.{_≡_, refl, sym, subst}
 use mathlib.Core.Bool.{Bool, true, false, not, cond, _&&_}
 use Prim.Native.Nat.{ℕ, _*_, _%_, _≤_}
-use borrow.Author.Tests.{leb-true, eqb-true}
+use borrow.Author.Tests.{leb-true, eqb-true, eqb-false}
 use lib.Dec.{T, leb, ltb, eqb}
 use Rattle.frame.specs.Frame.{withinLimits}
 use Rattle.clip.specs.declared.Encoder.{Encoder}
@@ -37,6 +37,19 @@ numbers-sound n total b rate h =
         eights = eqb-true (b % 8) 0 (m .0);
       };
     }
+
+not-true : (v : Bool) → not v ≡ true → v ≡ false
+not-true true e = absurd (subst T (sym e) tt)
+not-true false e = refl
+
+pub rate-some : (n total b rate : ℕ) → numbersOk n total b rate ≡ true → rate ≡ 0 → ⊥
+unfolding numbersOk
+rate-some n total b rate h =
+    let a = both-true (leb n total) _ h in
+    let t = both-true (totalOk total) _ (a .1) in
+    let k = both-true (blockOk b) _ (t .1) in
+    let m = both-true (eqb (b % 8) 0) _ (k .1) in
+    eqb-false rate 0 (not-true (eqb rate 0) (m .1))
 
 counts-sound : (n total : ℕ) (closed : Bool) (passes : ℕ) → countsOk n total closed passes ≡ true → passes ≤ 104 * encodedOf n total closed
 unfolding countsOk

@@ -51,7 +51,7 @@ full-room e len r h =
 
 -- ---- storing
 
-first-byte : (k : ℕ) (t : List ℕ) → 1 ≤ k → getD (take k t) 0 0 ≡ getD t 0 0
+pub first-byte : (k : ℕ) (t : List ℕ) → 1 ≤ k → getD (take k t) 0 0 ≡ getD t 0 0
 first-byte zero t h = absurd (omega arith)
 first-byte (suc k) [] h = refl
 first-byte (suc k) (x ∷ t) h = refl

@@ -3,3 +3,4 @@ pub mod Sizes
 pub mod Image
 pub mod Encoding
 pub mod Facts
+pub mod Runs

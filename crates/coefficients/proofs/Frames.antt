@@ -1,20 +1,22 @@
 -- Frames and histories of X: their lengths, what later samples leave as it was, and the history as the state holds it.
-use mathlib.Core.Path.{_≡_, refl, sym, ap, ap₂, _∙_, subst}
-use mathlib.Core.List.{List, [], _∷_, _++_, append-assoc, append-nil}
-use Prim.Native.Nat.{ℕ, zero, suc, _+_, _-_, _*_, _/_, _%_, _≤_, _<_, min}
+use mathlib.Core.Path.{_≡_, refl, sym, ap, ap₂, _∙_}
+use mathlib.Core.List.{List, _++_, append-nil}
+use Prim.Native.Nat.{ℕ, zero, suc, _+_, _-_, _*_, _/_, _%_, _≤_, _<_}
 use native.Mathlib.Nat.{add-comm}
 use native.Mathlib.Omega.{arith}
 use lib.Ieee.{Float}
 use lib.IntN.{ℤ, pos}
-use lib.ListN.{length, getD, take, drop, set, replicate, length-append, length-take, length-drop, length-set, length-replicate}
-use lib.Seq.{sets, sets-eq, take-all, take-suc, drop-cons, drop-nil, append-snoc, set-at, getD-append-add, getD-drop, take-append-le, take-append-add, drop-append-le, length-take-le, drop-length}
+use lib.ListN.{length, getD, take, drop, set, replicate, length-append, length-drop, length-set, length-replicate}
+use lib.Seq.{sets, sets-eq, take-all, take-suc, drop-cons, append-snoc, set-at, getD-append-add, getD-drop, take-append-add, length-take-le, drop-length}
+use Rattle.whole.specs.Frames.{frameAt}
+use Rattle.whole.proofs.Framing.{frame-length, frame-stable}
 use Rattle.whole.proofs.Stores.{sets-then, take-replicate}
 use Rattle.coefficients.specs.declared.framing.Found.{Found}
 use Rattle.coefficients.specs.declared.framing.Found.the-variants.{Nothing, One}
 use Rattle.coefficients.specs.declared.merging.Record.{Record}
 use Rattle.coefficients.specs.Finish.{analyse, stored, counted}
 use Rattle.coefficients.specs.Measure.{copied, shifted, padded}
-use Rattle.coefficients.specs.Runs.{frameAt, holding, leftAt, recordOf, recordsOf}
+use Rattle.coefficients.specs.Runs.{holding, leftAt, recordOf, recordsOf}
 use Rattle.coefficients.specs.Store as Store
 use Rattle.coefficients.specs.Store.{putRecord}
 use Rattle.coefficients.proofs.Folds.{records-put, records-kept}
@@ -23,10 +25,6 @@ use Rattle.coefficients.proofs.Folds.{records-put, records-kept}
 
 zeros : List ℤ
 zeros = replicate 14 (pos 0)
-
-pub frame-length : (xs : List ℤ) (i : ℕ) → length (frameAt xs i) ≡ 14
-unfolding frameAt
-frame-length xs i = length-take-le 14 (drop (14 * i) xs ++ replicate 14 (pos 0)) (simp (length-append, length-replicate) (omega arith))
 
 holding-length : (h f : List ℤ) → length h ≡ 28 → length f ≡ 14 → length (holding h f) ≡ 28
 unfolding holding
@@ -46,28 +44,18 @@ left-length xs (suc i) =
 -- ---- later samples leave finished frames as they were
 
 module _ (xs ys : List ℤ) where
-  frame-stable : (i : ℕ) → 14 * i + 14 ≤ length xs → frameAt (xs ++ ys) i ≡ frameAt xs i
-  unfolding frameAt
-  frame-stable i k =
-      let long : 14 ≤ length (drop (14 * i) xs) = simp length-drop (omega arith) in
-      let zs : List ℤ = replicate 14 (pos 0) in
-      ap (λ (l : List ℤ). take 14 (l ++ zs)) (drop-append-le (14 * i) xs ys (omega arith))
-      ∙ ap (λ (l : List ℤ). take 14 l) (append-assoc (drop (14 * i) xs) ys zs)
-      ∙ take-append-le 14 (drop (14 * i) xs) (ys ++ zs) long
-      ∙ sym (take-append-le 14 (drop (14 * i) xs) zs long)
-
   pub left-stable : (i : ℕ) → 14 * i ≤ length xs → leftAt (xs ++ ys) i ≡ leftAt xs i
   unfolding leftAt
   left-stable zero k = refl
   left-stable (suc i) k =
-      ap₂ (λ (a f : List ℤ). drop 14 (holding a f) ++ drop 14 (holding a f)) (left-stable i (omega arith)) (frame-stable i (omega arith))
+      ap₂ (λ (a f : List ℤ). drop 14 (holding a f) ++ drop 14 (holding a f)) (left-stable i (omega arith)) (frame-stable xs ys i (omega arith))
 
   pub records-stable : (i : ℕ) → 14 * i ≤ length xs → recordsOf (xs ++ ys) i ≡ recordsOf xs i
   unfolding recordsOf
   records-stable zero k = refl
   records-stable (suc i) k =
       ap₂ (λ (a b : List Record). a ++ b) (records-stable i (omega arith))
-      (ap₂ (λ (a f : List ℤ). recordOf (analyse (holding a f))) (left-stable i (omega arith)) (frame-stable i (omega arith)))
+      (ap₂ (λ (a f : List ℤ). recordOf (analyse (holding a f))) (left-stable i (omega arith)) (frame-stable xs ys i (omega arith)))
 
 -- a frame has at most one record
 record-few : (f : Found) → length (recordOf f) ≤ 1

@@ -1,30 +1,30 @@
 -- Whole runs: for every list of measurings and askings from the fresh state on one store, refused ones included, each answer is the plain machine's.
 use mathlib.Core.Path.{_≡_, refl, sym, ap, ap₂, _∙_, subst}
-use mathlib.Core.Bool.{Bool, true, false, not, cond, _&&_}
+use mathlib.Core.Bool.{Bool, true, false, not, cond}
 use mathlib.Core.List.{List, [], _∷_, _++_, append-assoc, append-nil, foldl}
-use Prim.Native.Nat.{ℕ, zero, suc, _+_, _-_, _*_, _/_, _%_, _≤_, _<_}
+use Prim.Native.Nat.{ℕ, suc, _+_, _-_, _*_, _/_, _%_, _≤_, _<_}
 use native.Mathlib.Omega.{arith}
-use borrow.Author.Tests.{ltb-false, eqb-true, eqb-false, le-leb, eq-eqb, ne-eqb}
-use lib.Dec.{ltb, leb, eqb}
+use borrow.Author.Tests.{ltb-false, eqb-true, eqb-false, le-leb}
+use lib.Dec.{ltb, eqb}
 use lib.Ieee.{Float}
 use lib.IntN.{ℤ, pos}
-use lib.ListN.{length, take, drop, set, replicate, length-append, length-drop}
+use lib.ListN.{length, drop, set, replicate, length-append, length-drop}
 use lib.Seq.{sets, drop-append-le, drop-length, length-sets, take-at}
+use Rattle.whole.specs.Frames.{frameAt}
 use Rattle.whole.proofs.Stores.{sets-snoc}
 use Rattle.coefficients.specs.declared.Answer.{Answer}
 use Rattle.coefficients.specs.declared.Answer.the-variants.{Accepted, Refused}
 use Rattle.coefficients.specs.declared.CoefficientCalculator.{CoefficientCalculator}
-use Rattle.coefficients.specs.declared.Refusal.{Refusal}
 use Rattle.coefficients.specs.declared.Refusal.the-variants.{TooManySamples, StoreTooShort}
 use Rattle.coefficients.specs.declared.framing.Found.{Found}
 use Rattle.coefficients.specs.declared.merging.Record.{Record}
 use Rattle.coefficients.specs.Finish.{analyse, stored, counted, finish}
 use Rattle.coefficients.specs.Measure.{most, framesOf, neededOf, Measuring, calculator, measuring, fresh, validOf, shifted, framed, pushed, padded, closedStore, closedCount, processAnswer, processOf, processBy, finishAnswer, finishOf, finishBy}
-use Rattle.coefficients.specs.Runs.{frameAt, holding, leftAt, recordOf, recordsOf, coefficientsOf, Call, measures, asks, Seen, seen, plainAnswer, plainSeen, plainNext, plainRun, callSeen, callNext, shown, run}
+use Rattle.coefficients.specs.Runs.{holding, leftAt, recordOf, recordsOf, coefficientsOf, Call, measures, asks, Seen, seen, plainAnswer, plainSeen, plainNext, plainRun, callSeen, callNext, run}
 use Rattle.coefficients.specs.Store as Store
 use Rattle.coefficients.proofs.Folds.{records-length}
 use Rattle.coefficients.proofs.Measures.{failed}
-use Rattle.coefficients.proofs.Frames.{frame-length, left-length, left-stable, records-stable, records-few, shifted-law, holding-sets, frame-padded, padded-held, stored-length, stored-records, stored-kept}
+use Rattle.coefficients.proofs.Frames.{left-length, left-stable, records-stable, records-few, shifted-law, holding-sets, padded-held, stored-length, stored-records, stored-kept}
 
 -- the history that the state holds after X
 unfoldable pub heldAt : List ℤ → ℕ → List ℤ

@@ -1,11 +1,11 @@
 -- Whole runs of measuring: a plain machine that sees only the calls and the store's length.
-use Prim.Native.Nat.{ℕ, zero, suc, _+_, _*_}
+use Prim.Native.Nat.{ℕ, zero, suc, _+_}
 use mathlib.Core.List.{List, [], _∷_, _++_}
 use mathlib.Core.Bool.{cond}
 use lib.Dec.{ltb}
 use lib.IntN.{ℤ, pos}
-use lib.Ieee.{Float}
 use lib.ListN.{length, take, drop, replicate}
+use Rattle.whole.specs.Frames.{frameAt}
 use Rattle.coefficients.specs.declared.Answer.{Answer}
 use Rattle.coefficients.specs.declared.Answer.the-variants.{Accepted, Refused}
 use Rattle.coefficients.specs.declared.Refusal.the-variants.{TooManySamples, StoreTooShort}
@@ -16,10 +16,6 @@ use Rattle.coefficients.specs.Finish.{analyse, finish}
 use Rattle.coefficients.specs.Measure.{most, framesOf, neededOf, Measuring, measuring, processOf, finishOf}
 
 -- ---- the coefficients of X
-
--- frame i of X, the last one filled with zeros
-unfoldable pub frameAt : List ℤ → ℕ → List ℤ
-frameAt xs i = take 14 (drop (14 * i) xs ++ replicate 14 (pos 0))
 
 -- a history with the frame in its last fourteen places
 unfoldable pub holding : List ℤ → List ℤ → List ℤ

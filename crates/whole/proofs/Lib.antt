@@ -4,3 +4,4 @@ pub mod Differences
 pub mod Laws
 pub mod Stores
 pub mod Sixteen
+pub mod Framing

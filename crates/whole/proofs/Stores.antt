@@ -75,3 +75,21 @@ module _ {A : Type 0} where
       ap (λ (m : ℕ). take k (replicate m a)) (sym (add-sub-of-le h))
       ∙ ap (λ (l : List A). take k l) (sym (replicate-append-replicate k (n - k) a))
       ∙ take-at (replicate k a) (replicate (n - k) a) k (length-replicate k a)
+
+  -- a list filled up to t elements with one value
+  pub fill : (t : ℕ) (a : List A) (z : A) → length a ≤ t → take t (a ++ replicate t z) ≡ a ++ replicate (t - length a) z
+  fill t a z h =
+      ap (λ (k : ℕ). take k (a ++ replicate t z)) (sym (add-sub-of-le h))
+      ∙ take-append-add a (replicate t z) (t - length a)
+      ∙ ap (λ (r : List A). a ++ r) (take-replicate (t - length a) t z (omega arith))
+
+  -- stores at the first of the values that fill
+  pub fill-set : (t : ℕ) (a v : List A) (z : A) → length a + length v ≤ t
+      → sets (a ++ replicate (t - length a) z) (length a) v ≡ (a ++ v) ++ replicate (t - length (a ++ v)) z
+  fill-set t a v z h =
+      let e : t - length a ≡ length v + (t - (length a + length v)) = omega arith in
+      ap (λ (k : ℕ). sets (a ++ replicate k z) (length a) v) e
+      ∙ ap (λ (r : List A). sets (a ++ r) (length a) v) (sym (replicate-append-replicate (length v) (t - (length a + length v)) z))
+      ∙ sets-part a (length a) v (replicate (length v) z) (replicate (t - (length a + length v)) z) refl (length-replicate (length v) z)
+      ∙ sym (append-assoc a v _)
+      ∙ ap (λ (k : ℕ). (a ++ v) ++ replicate (t - k) z) (sym (length-append a v))

@@ -1,0 +1,9 @@
+-- A recording cut into frames of fourteen samples. Definitions only.
+use mathlib.Core.List.{List, _++_}
+use Prim.Native.Nat.{ℕ, _*_}
+use lib.IntN.{ℤ, pos}
+use lib.ListN.{take, drop, replicate}
+
+-- frame i of X, the last one filled with zeros
+unfoldable pub frameAt : List ℤ → ℕ → List ℤ
+frameAt xs i = take 14 (drop (14 * i) xs ++ replicate 14 (pos 0))
