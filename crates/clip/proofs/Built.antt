@@ -31,13 +31,13 @@ pub record Fine (g : Start) : Type 0 where
   pub sixteen : length (g .coefficients) ≡ 16
   pub within : withinLimits (g .coefficients) ≡ true
 
-abbrev headed : Start → List ℕ → List ℕ
+abbrev pub headed : Start → List ℕ → List ℕ
 headed g first = headOf first (g .total) (g .rate) (g .block) (g .coefficients) (g .gain)
 
-abbrev listed : Start → List ℤ → ℕ → List ℕ
+abbrev pub listed : Start → List ℤ → ℕ → List ℕ
 listed g xs k = tableOf (contextAt g xs k) (g .total) (g .block) 0 (blocksOf (g .total) (g .block))
 
-abbrev filled : Start → List ℤ → ℕ → List ℕ
+abbrev pub filled : Start → List ℤ → ℕ → List ℕ
 filled g xs k = take (bodyOf (g .total)) (bodiesOf g xs k ++ replicate (bodyOf (g .total)) 0)
 
 unfoldable pub built : Start → List ℕ → List ℤ → ℕ → List ℕ
@@ -54,14 +54,14 @@ built-stable g first xs ys k h =
     (fun-ext (λ j. context-stable g xs ys k j h))
     (bodies-stable g xs ys k h)
 
-filled-length : (g : Start) (xs : List ℤ) (k : ℕ) → length (filled g xs k) ≡ bodyOf (g .total)
+pub filled-length : (g : Start) (xs : List ℤ) (k : ℕ) → length (filled g xs k) ≡ bodyOf (g .total)
 filled-length g xs k =
     length-take-le (bodyOf (g .total)) (bodiesOf g xs k ++ replicate (bodyOf (g .total)) 0) (simp (length-append, length-replicate) (omega arith))
 
-listed-length : (g : Start) (xs : List ℤ) (k : ℕ) → length (listed g xs k) ≡ 16 * blocksOf (g .total) (g .block)
+pub listed-length : (g : Start) (xs : List ℤ) (k : ℕ) → length (listed g xs k) ≡ 16 * blocksOf (g .total) (g .block)
 listed-length g xs k = table-length (contextAt g xs k) (context-length g xs k) (g .total) (g .block) 0 (blocksOf (g .total) (g .block))
 
-headed-length : (g : Start) → Fine g → (first : List ℕ) → length first ≡ 4 → length (headed g first) ≡ 56
+pub headed-length : (g : Start) → Fine g → (first : List ℕ) → length first ≡ 4 → length (headed g first) ≡ 56
 headed-length g F first h = head-length first (g .total) (g .rate) (g .block) (g .coefficients) (g .gain) h (F .sixteen)
 
 pub built-length : (g : Start) → Fine g → (first : List ℕ) → length first ≡ 4 → (xs : List ℤ) (k : ℕ) → length (built g first xs k) ≡ sizeOf (g .total) (g .block)
@@ -152,7 +152,7 @@ module _ (g : Start) (xs : List ℤ) (t q k : ℕ) (one : 1 ≤ k) (most : k ≤
       ∙ fill-set t (bodiesOf g xs q) (take k (encodedAt g xs q .bytes)) 0 (omega (arith, bodies-length g xs q, stored-length))
       ∙ sym (⊎-elim more-eight more-last c)
 
-regroup : (a b c d : List ℕ) → (a ++ (b ++ c)) ++ d ≡ a ++ (b ++ (c ++ d))
+pub regroup : (a b c d : List ℕ) → (a ++ (b ++ c)) ++ d ≡ a ++ (b ++ (c ++ d))
 regroup a b c d = simp append-assoc
 
 -- storing frame q takes the image with q frames to that with one more

@@ -9,8 +9,11 @@ pub mod Storing
 pub mod Pieces
 pub mod Ending
 pub mod Playback
+pub mod Replay
 pub mod Stable
 pub mod Built
+pub mod Readback
+pub mod Sounding
 pub mod Following
 pub mod WholeRuns
 pub mod Cuts

@@ -1,11 +1,11 @@
 -- Laws of a recording cut into frames.
-use mathlib.Core.Path.{_≡_, sym, ap, _∙_}
+use mathlib.Core.Path.{_≡_, refl, sym, ap, _∙_}
 use mathlib.Core.List.{List, [], _∷_, _++_, append-assoc, append-nil}
-use Prim.Native.Nat.{ℕ, _+_, _-_, _*_, _/_, _%_, _≤_}
+use Prim.Native.Nat.{ℕ, zero, suc, _+_, _-_, _*_, _/_, _%_, _≤_, _<_}
 use native.Mathlib.Omega.{arith}
 use lib.IntN.{ℤ, pos}
-use lib.ListN.{length, take, drop, set, replicate, length-append, length-drop, length-replicate, drop-of-length-le}
-use lib.Seq.{sets, sets-eq, take-append-le, take-append-add, take-set-lt, set-at, append-snoc, take-take, take-at, drop-append-le, drop-length, length-take-le}
+use lib.ListN.{length, getD, take, drop, set, replicate, length-append, length-drop, length-replicate, drop-of-length-le}
+use lib.Seq.{sets, sets-eq, take-append-le, take-append-add, take-set-lt, set-at, append-snoc, take-take, take-at, drop-append-le, drop-length, length-take-le, getD-take, getD-drop}
 use Rattle.whole.proofs.Stores.{take-replicate}
 use Rattle.whole.specs.Frames.{frameAt}
 
@@ -66,3 +66,20 @@ frame-pad xs =
     ∙ ap (λ (l : List ℤ). d ++ l) (sym (take-replicate (14 - r) 14 (pos 0) (omega arith)))
     ∙ sym (take-append-add d (replicate 14 (pos 0)) (14 - r))
     ∙ ap (λ (k : ℕ). take k (d ++ replicate 14 (pos 0))) e
+
+-- ---- its samples
+
+none-more : (k i : ℕ) (d : ℤ) → getD (replicate k d) i d ≡ d
+none-more zero i d = refl
+none-more (suc k) zero d = refl
+none-more (suc k) (suc i) d = none-more k i d
+
+filled-at : (xs : List ℤ) (k i : ℕ) (d : ℤ) → getD (xs ++ replicate k d) i d ≡ getD xs i d
+filled-at [] k i d = none-more k i d
+filled-at (x ∷ xs) k zero d = refl
+filled-at (x ∷ xs) k (suc i) d = filled-at xs k i d
+
+pub frame-at : (xs : List ℤ) (i j : ℕ) → j < 14 → getD (frameAt xs i) j (pos 0) ≡ getD xs (14 * i + j) (pos 0)
+unfolding frameAt
+frame-at xs i j h =
+    getD-take 14 (drop (14 * i) xs ++ replicate 14 (pos 0)) j (pos 0) h ∙ filled-at (drop (14 * i) xs) 14 j (pos 0) ∙ getD-drop (14 * i) xs j (pos 0)
