@@ -21,8 +21,8 @@ fn either(x: bool, y: bool) -> bool
     if x { true } else { y }
 }
 
-// Whether one of the eight pairs has both -32,768.
-pub(crate) fn lowest_pair(coefficients: [i16; 16]) -> bool
+// Whether one of the eight pairs has both -32,768. It is internal: crate image calls it.
+pub fn lowest_pair(coefficients: [i16; 16]) -> bool
     ensures { λ r. ⌜ r ≡ lowestPair coefficients ⌝ }
 {
     let mut found = false;

@@ -1,5 +1,5 @@
 // Blocks of DSP ADPCM: addresses, contexts, playing bytes, joining.
-mod coefficients;
+pub mod coefficients;
 mod frame;
 mod join;
 mod play;

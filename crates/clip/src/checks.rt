@@ -9,8 +9,8 @@ use crate::sizes::encoded;
 use crate::sizes::size;
 use frame::coefficients_ok;
 
-// Whether N, B, the rate and n are within their limits.
-fn numbers_ok(n: u32, total: u32, block: u32, rate: u32) -> bool
+// Whether N, B, the rate and n are within their limits. It is internal: crate image calls it.
+pub fn numbers_ok(n: u32, total: u32, block: u32, rate: u32) -> bool
     ensures { λ r. ⌜ r ≡ numbersOk n total block rate ⌝ }
 {
     if n > total {

@@ -7,6 +7,7 @@ ghost use lib.Seq.{sets};
 ghost use Rattle.clip.specs.Facts.{Limits};
 ghost use Rattle.clip.specs.Image.{be16, be32, mark, noMark, noContext, contextBytes, coefficientBytes, headOf, tableOf, freshOf};
 ghost use Rattle.clip.specs.Sizes.{blocksOf, lengthOf, sizeOf};
+use crate::MARK;
 use crate::fields::bits16;
 use crate::fields::put16;
 use crate::fields::put32;
@@ -21,7 +22,7 @@ pub(crate) fn put_mark(image: &mut [u8])
     requires { ⌜ 4 ≤ length (now image) ⌝ }
     ensures { λ _. ⌜ now (image .exit) ≡ sets (now (image .entry)) 0 mark ⌝ }
 {
-    let m = b"DSPC";
+    let m = MARK;
     image[0] = m[0];
     image[1] = m[1];
     image[2] = m[2];
@@ -50,8 +51,8 @@ pub(crate) fn put_coefficients(image: &mut [u8], cs: [i16; 16])
     }
 }
 
-// The nibbles of block j.
-pub(crate) fn block_length(total: usize, block: usize, j: usize) -> usize
+// The nibbles of block j. It is internal: crate image calls it.
+pub fn block_length(total: usize, block: usize, j: usize) -> usize
     requires { ⌜ Limits total block × (j < blocksOf total block) ⌝ }
     ensures { λ r. ⌜ (r ≡ lengthOf total block j) × (r < 4294967296) ⌝ }
 {

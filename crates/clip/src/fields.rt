@@ -42,8 +42,8 @@ pub(crate) fn bits16(x: i16) -> u16
     }
 }
 
-// The signed number of 16 bits.
-pub(crate) fn signed16(v: u16) -> i16
+// The signed number of 16 bits. It is internal: crate image calls it.
+pub fn signed16(v: u16) -> i16
     ensures { λ r. ⌜ r ≡ toZ w16 v ⌝ }
 {
     if v < 32768 {
@@ -53,14 +53,16 @@ pub(crate) fn signed16(v: u16) -> i16
     }
 }
 
-pub(crate) fn get16(buf: &[u8], at: usize) -> u32
+// The number that two bytes are. It is internal: crate image calls it.
+pub fn get16(buf: &[u8], at: usize) -> u32
     requires { ⌜ at + 2 ≤ length (now buf) ⌝ }
     ensures { λ r. ⌜ r ≡ at16 (now (buf .entry)) at ⌝ }
 {
     wide(buf[at]) * 256 + wide(buf[at + 1])
 }
 
-pub(crate) fn get32(buf: &[u8], at: usize) -> u32
+// The number that four bytes are. It is internal: crate image calls it.
+pub fn get32(buf: &[u8], at: usize) -> u32
     requires { ⌜ at + 4 ≤ length (now buf) ⌝ }
     ensures { λ r. ⌜ r ≡ at32 (now (buf .entry)) at ⌝ }
 {

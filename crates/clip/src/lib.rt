@@ -2,12 +2,12 @@
 ghost use mathlib.Core.Path.{_≡_};
 ghost use Rattle.clip.specs.Encoding.{both, outOf, numberOf, noEncoder, startOf, feedOf, closeOf};
 
-mod checks;
+pub mod checks;
 mod closing;
-mod contents;
+pub mod contents;
 mod feeding;
-mod fields;
-mod sizes;
+pub mod fields;
+pub mod sizes;
 
 use checks::close_answer;
 use checks::feed_answer;
@@ -16,6 +16,9 @@ use closing::finish;
 use contents::put_fresh;
 use feeding::feed_all;
 use frame::History;
+
+// The mark: closing writes it, opening compares it.
+pub const MARK: [u8; 4] = *b"DSPC";
 
 // Why a call is refused.
 pub enum Refusal {

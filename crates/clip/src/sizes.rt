@@ -5,16 +5,16 @@ ghost use Rattle.clip.specs.Encoding.{encodedOf};
 ghost use Rattle.clip.specs.Facts.{Limits};
 ghost use Rattle.clip.specs.Sizes.{framesOf, blocksOf, bodyOf, sizeOf, cutDown};
 
-// Frames of n samples, the last one filled.
-pub(crate) fn frames(n: usize) -> usize
+// Frames of n samples, the last one filled. It is internal: crate image calls it.
+pub fn frames(n: usize) -> usize
     requires { ⌜ n ≤ 14680064 ⌝ }
     ensures { λ r. ⌜ (r ≡ framesOf n) × (r ≤ 1048576) ⌝ }
 {
     (n + 13) / 14
 }
 
-// Blocks of a clip.
-pub(crate) fn blocks(total: usize, block: usize) -> usize
+// Blocks of a clip. It is internal: crate image calls it.
+pub fn blocks(total: usize, block: usize) -> usize
     requires { ⌜ Limits total block ⌝ }
     ensures { λ r. ⌜ (r ≡ blocksOf total block) × (r ≤ 1048576) ⌝ }
 {
@@ -31,8 +31,8 @@ pub(crate) fn body(total: usize) -> usize
     8 * (f - 1) + 1 + (last + 1) / 2
 }
 
-// Bytes of a clip's image.
-pub(crate) fn size(total: usize, block: usize) -> usize
+// Bytes of a clip's image. It is internal: crate image calls it.
+pub fn size(total: usize, block: usize) -> usize
     requires { ⌜ Limits total block ⌝ }
     ensures { λ r. ⌜ r ≡ sizeOf total block ⌝ }
 {

@@ -1,0 +1,6 @@
+-- Laws that callers' proofs cite.
+pub mod Places
+pub mod Marks
+pub mod Coefficients
+pub mod Accepting
+mod EntryTurns

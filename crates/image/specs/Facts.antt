@@ -1,0 +1,31 @@
+-- What an image that opens satisfies.
+use mathlib.Core.Bool.{true}
+use mathlib.Core.List.{List}
+use mathlib.Core.Path.{_≡_}
+use Prim.Native.Nat.{ℕ, _≤_, _<_}
+use lib.ListN.{length, getD}
+use Rattle.clip.specs.Facts.{Limits}
+use Rattle.clip.specs.Sizes.{blocksOf, sizeOf, offsetOf, lengthOf}
+use Rattle.image.specs.Reading.{totalIn, rateIn, blockIn, zeroIn, blocksIn, offsetIn, lengthIn, headerIn, entryZeroIn}
+use Rattle.image.specs.Opened.{markOk}
+
+-- a head that 15 does not refuse
+pub record Headed (l : List ℕ) : Type 0 where
+  pub long : 56 ≤ length l
+  pub marked : markOk l ≡ true
+  pub limits : Limits (totalIn l) (blockIn l)
+  pub rate : 1 ≤ rateIn l
+  pub blocks : blocksIn l ≡ blocksOf (totalIn l) (blockIn l)
+  pub zeros : zeroIn l ≡ 0
+  pub size : sizeOf (totalIn l) (blockIn l) ≤ length l
+
+-- an entry that 16 does not refuse
+pub record Entry (l : List ℕ) (n b j : ℕ) : Type 0 where
+  pub offset : offsetIn l j ≡ offsetOf n b j
+  pub nibbles : lengthIn l j ≡ lengthOf n b j
+  pub zeros : entryZeroIn l j ≡ 0
+  pub header : headerIn l j ≡ getD l (offsetOf n b j) 0
+
+pub record Opens (l : List ℕ) : Type 0 where
+  pub head : Headed l
+  pub entries : (j : ℕ) → j < blocksOf (totalIn l) (blockIn l) → Entry l (totalIn l) (blockIn l) j

@@ -1,0 +1,4 @@
+-- What the contracts cite.
+pub mod Reading
+pub mod Opened
+pub mod Facts

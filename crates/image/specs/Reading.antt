@@ -1,0 +1,66 @@
+-- What the bytes of an image say. Definitions only.
+use mathlib.Core.List.{List, [], _∷_, _++_}
+use Prim.Native.Nat.{ℕ, zero, suc, _+_, _*_}
+use lib.IntN.{ℤ}
+use mir.Syntax.{w16}
+use mir.Val.{toZ}
+use Rattle.clip.specs.Image.{at16, at32}
+use Rattle.image.specs.declared.Head.{Head}
+
+-- "4 N; 8 rate; 12 B (four bytes each)", "48 gain; 50 two zero bytes; 52 K (four bytes)"
+unfoldable pub totalIn : List ℕ → ℕ
+totalIn l = at32 l 4
+
+unfoldable pub rateIn : List ℕ → ℕ
+rateIn l = at32 l 8
+
+unfoldable pub blockIn : List ℕ → ℕ
+blockIn l = at32 l 12
+
+unfoldable pub gainIn : List ℕ → ℕ
+gainIn l = at16 l 48
+
+unfoldable pub zeroIn : List ℕ → ℕ
+zeroIn l = at16 l 50
+
+unfoldable pub blocksIn : List ℕ → ℕ
+blocksIn l = at32 l 52
+
+-- the signed number that two bytes are
+unfoldable pub signedAt : List ℕ → ℕ → ℤ
+signedAt l i = toZ w16 (at16 l i)
+
+-- "16 coefficients, two bytes each": the first k
+unfoldable pub coefficientsUpTo : List ℕ → ℕ → List ℤ
+coefficientsUpTo l zero = []
+coefficientsUpTo l (suc k) = coefficientsUpTo l k ++ (signedAt l (16 + 2 * k) ∷ [])
+
+unfoldable pub coefficientsIn : List ℕ → List ℤ
+coefficientsIn l = coefficientsUpTo l 16
+
+unfoldable pub headIn : List ℕ → Head
+headIn l =
+    record { total = totalIn l; rate = rateIn l; block = blockIn l; gain = gainIn l; coefficients = coefficientsIn l; blocks = blocksIn l }
+
+-- "Then K contents entries of 16 bytes": where block j's stands
+abbrev pub entryAt : ℕ → ℕ
+entryAt j = 56 + 16 * j
+
+-- "body offset from the image start (4), length in nibbles (4), predictor-and-scale (2), newest history sample (2), older one (2), zero (2)"
+unfoldable pub offsetIn : List ℕ → ℕ → ℕ
+offsetIn l j = at32 l (entryAt j)
+
+unfoldable pub lengthIn : List ℕ → ℕ → ℕ
+lengthIn l j = at32 l (entryAt j + 4)
+
+unfoldable pub headerIn : List ℕ → ℕ → ℕ
+headerIn l j = at16 l (entryAt j + 8)
+
+unfoldable pub newestIn : List ℕ → ℕ → ℤ
+newestIn l j = signedAt l (entryAt j + 10)
+
+unfoldable pub olderIn : List ℕ → ℕ → ℤ
+olderIn l j = signedAt l (entryAt j + 12)
+
+unfoldable pub entryZeroIn : List ℕ → ℕ → ℕ
+entryZeroIn l j = at16 l (entryAt j + 14)

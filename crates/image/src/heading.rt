@@ -1,0 +1,111 @@
+// The head of an image.
+ghost use mathlib.Core.Path.{_≡_};
+ghost use Prim.Native.Nat.{_+_, _≤_};
+ghost use lib.ListN.{length};
+ghost use Rattle.image.specs.Reading.{signedAt, coefficientsIn, headIn};
+ghost use Rattle.image.specs.Opened.{markOk, numbersFit, headOk};
+use crate::Head;
+use clip::MARK;
+use clip::checks::numbers_ok;
+use clip::fields::get16;
+use clip::fields::get32;
+use clip::fields::signed16;
+use clip::sizes::blocks;
+use clip::sizes::size;
+
+// Whether the image starts with the mark.
+fn mark_ok(image: &[u8]) -> bool
+    requires { ⌜ 56 ≤ length (now image) ⌝ }
+    ensures { λ r. ⌜ r ≡ markOk (now (image .entry)) ⌝ }
+{
+    let m = MARK;
+    if image[0] != m[0] {
+        return false;
+    }
+    if image[1] != m[1] {
+        return false;
+    }
+    if image[2] != m[2] {
+        return false;
+    }
+    image[3] == m[3]
+}
+
+// Whether N, rate, B, K and the zero bytes are right, and an image of `len` bytes has all of its bytes.
+fn numbers_fit(total: u32, rate: u32, block: u32, kk: u32, zero: u32, len: usize) -> bool
+    ensures { λ r. ⌜ r ≡ numbersFit total rate block kk zero len ⌝ }
+{
+    if !numbers_ok(0, total, block, rate) {
+        return false;
+    }
+    let n = total as usize;
+    let b = block as usize;
+    if kk as usize != blocks(n, b) {
+        return false;
+    }
+    if zero != 0 {
+        return false;
+    }
+    len >= size(n, b)
+}
+
+// Code 15.
+pub(crate) fn head_ok(image: &[u8]) -> bool
+    ensures { λ r. ⌜ r ≡ headOk (now (image .entry)) ⌝ }
+{
+    if image.len() < 56 {
+        return false;
+    }
+    if !mark_ok(image) {
+        return false;
+    }
+    let total = get32(image, 4);
+    let rate = get32(image, 8);
+    let block = get32(image, 12);
+    let kk = get32(image, 52);
+    let zero = get16(image, 50);
+    numbers_fit(total, rate, block, kk, zero, image.len())
+}
+
+// The signed number that two bytes are.
+pub(crate) fn signed_at(image: &[u8], at: usize) -> i16
+    requires { ⌜ at + 2 ≤ length (now image) ⌝ }
+    ensures { λ r. ⌜ r ≡ signedAt (now (image .entry)) at ⌝ }
+{
+    signed16(get16(image, at) as u16)
+}
+
+// The sixteen coefficients.
+pub(crate) fn read_coefficients(image: &[u8]) -> [i16; 16]
+    requires { ⌜ 56 ≤ length (now image) ⌝ }
+    ensures { λ r. ⌜ r ≡ coefficientsIn (now (image .entry)) ⌝ }
+{
+    let mut cs = [0i16; 16];
+    let mut i: usize = 0;
+    while i < 16 {
+        cs[i] = signed_at(image, 16 + 2 * i);
+        i += 1;
+    }
+    cs
+}
+
+// The head's values.
+pub(crate) fn read_head(image: &[u8]) -> Head
+    requires { ⌜ 56 ≤ length (now image) ⌝ }
+    ensures { λ r. ⌜ r ≡ headIn (now (image .entry)) ⌝ }
+{
+    let total = get32(image, 4);
+    let rate = get32(image, 8);
+    let block = get32(image, 12);
+    let coefficients = read_coefficients(image);
+    let gain = get16(image, 48) as u16;
+    let kk = get32(image, 52);
+    Head {
+        total: total,
+        rate: rate,
+        block: block,
+        gain: gain,
+        coefficients: coefficients,
+        blocks: kk,
+    }
+}
