@@ -133,6 +133,11 @@ pub passed : (v : Bool) (r : Refusal) (a : Answer) → cond (not v) (Refused r) 
 passed true r a p = (refl, p)
 passed false r a p = absurd (never p)
 
+-- a test that failed
+pub failed : (t : Bool) (r : Refusal) (a : Answer) → cond t (Refused r) a ≡ Accepted → (t ≡ false) × (a ≡ Accepted)
+failed true r a p = absurd (never p)
+failed false r a p = (refl, p)
+
 pub opened : (l : List ℕ) → openAnswer l ≡ Accepted → Opens l
 unfolding openAnswer
 opened l p =

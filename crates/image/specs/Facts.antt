@@ -29,3 +29,8 @@ pub record Entry (l : List ℕ) (n b j : ℕ) : Type 0 where
 pub record Opens (l : List ℕ) : Type 0 where
   pub head : Headed l
   pub entries : (j : ℕ) → j < blocksOf (totalIn l) (blockIn l) → Entry l (totalIn l) (blockIn l) j
+
+-- the image opens and has a block k
+pub record Found (l : List ℕ) (k : ℕ) : Type 0 where
+  pub opens : Opens l
+  pub block : k < blocksOf (totalIn l) (blockIn l)

@@ -2,3 +2,5 @@
 pub mod Reading
 pub mod Opened
 pub mod Facts
+pub mod Bodies
+pub mod Samples

@@ -1,10 +1,15 @@
-// The tests of opening.
+// The tests of the calls, in document 01's sequence.
 ghost use mathlib.Core.Path.{_≡_};
 ghost use Rattle.image.specs.Opened.{openAnswer};
+ghost use Rattle.image.specs.Bodies.{blockAnswer};
+ghost use Rattle.image.specs.Samples.{playAnswer};
 use crate::Answer;
 use crate::Refusal;
 use crate::entries::entries_ok;
 use crate::heading::head_ok;
+use crate::heading::read_coefficients;
+use block::address_to_sample;
+use block::coefficients::lowest_pair;
 use clip::fields::get32;
 use clip::sizes::blocks;
 
@@ -22,4 +27,41 @@ pub(crate) fn open_answer(image: &[u8]) -> Answer
         return Answer::Refused(Refusal::BadEntry);
     }
     Answer::Accepted
+}
+
+// Codes 15, 16 and 17.
+pub(crate) fn block_answer(image: &[u8], k: u32) -> Answer
+    ensures { λ r. ⌜ r ≡ blockAnswer (now (image .entry)) k ⌝ }
+{
+    let answer = open_answer(image);
+    match answer {
+        Answer::Accepted => {
+            if k >= get32(image, 52) {
+                return Answer::Refused(Refusal::NoSuchBlock);
+            }
+            Answer::Accepted
+        }
+        Answer::Refused(why) => Answer::Refused(why),
+    }
+}
+
+// Codes 15, 16, 17, 13 and 14, for an output of some room.
+pub(crate) fn play_answer(image: &[u8], k: u32, room: usize) -> Answer
+    ensures { λ r. ⌜ r ≡ playAnswer (now (image .entry)) k room ⌝ }
+{
+    let answer = block_answer(image, k);
+    match answer {
+        Answer::Accepted => {
+            let cs = read_coefficients(image);
+            if lowest_pair(cs) {
+                return Answer::Refused(Refusal::LowestPair);
+            }
+            let nibbles = get32(image, 56 + 16 * (k as usize) + 4);
+            if (room as u64) < address_to_sample(nibbles) {
+                return Answer::Refused(Refusal::OutputTooShort);
+            }
+            Answer::Accepted
+        }
+        Answer::Refused(why) => Answer::Refused(why),
+    }
 }

@@ -2,6 +2,7 @@
 ghost use mathlib.Core.Path.{_≡_};
 ghost use Prim.Native.Nat.{_+_, _≤_};
 ghost use lib.ListN.{length};
+ghost use Rattle.clip.specs.Image.{at16};
 ghost use Rattle.image.specs.Reading.{signedAt, coefficientsIn, headIn};
 ghost use Rattle.image.specs.Opened.{markOk, numbersFit, headOk};
 use crate::Head;
@@ -67,12 +68,20 @@ pub(crate) fn head_ok(image: &[u8]) -> bool
     numbers_fit(total, rate, block, kk, zero, image.len())
 }
 
+// The number of 16 bits that two bytes are.
+pub(crate) fn word_at(image: &[u8], at: usize) -> u16
+    requires { ⌜ at + 2 ≤ length (now image) ⌝ }
+    ensures { λ r. ⌜ r ≡ at16 (now (image .entry)) at ⌝ }
+{
+    get16(image, at) as u16
+}
+
 // The signed number that two bytes are.
 pub(crate) fn signed_at(image: &[u8], at: usize) -> i16
     requires { ⌜ at + 2 ≤ length (now image) ⌝ }
     ensures { λ r. ⌜ r ≡ signedAt (now (image .entry)) at ⌝ }
 {
-    signed16(get16(image, at) as u16)
+    signed16(word_at(image, at))
 }
 
 // The sixteen coefficients.
@@ -98,7 +107,7 @@ pub(crate) fn read_head(image: &[u8]) -> Head
     let rate = get32(image, 8);
     let block = get32(image, 12);
     let coefficients = read_coefficients(image);
-    let gain = get16(image, 48) as u16;
+    let gain = word_at(image, 48);
     let kk = get32(image, 52);
     Head {
         total: total,

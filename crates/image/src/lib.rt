@@ -1,12 +1,25 @@
 // Reading a clip image: opening, the body of a block, playing, sameness.
 ghost use mathlib.Core.Path.{_≡_};
+ghost use Rattle.block.specs.Frame.{lent};
 ghost use Rattle.image.specs.Opened.{numberOf, noHead, openOf};
+ghost use Rattle.image.specs.Bodies.{blockAnswer, blockBody};
+ghost use Rattle.image.specs.Samples.{effectOf, playOf};
 
+mod bodies;
 mod checks;
 mod entries;
 mod heading;
 
+use block::FrameContext;
+use block::address_to_sample;
+use block::play_bytes;
+use bodies::find_body;
+use bodies::read_context;
+use checks::block_answer;
 use checks::open_answer;
+use checks::play_answer;
+use clip::fields::get32;
+use heading::read_coefficients;
 use heading::read_head;
 
 // Why a call is refused.
@@ -38,6 +51,18 @@ pub struct Head {
 pub struct Opening {
     pub answer: Answer,
     pub head: Head,
+}
+
+// Playing's answer: the sample count, or the refusal.
+pub enum PlayAnswer {
+    Played(u64),
+    Refused(Refusal),
+}
+
+// What playing gives: its answer, and the final context or, where it is refused, zeros.
+pub struct Playback {
+    pub answer: PlayAnswer,
+    pub context: FrameContext,
 }
 
 // Document 01's number of a refusal.
@@ -85,6 +110,52 @@ pub fn open(image: &[u8]) -> Opening
             Opening {
                 answer: Answer::Refused(why),
                 head: head,
+            }
+        }
+    }
+}
+
+// Whether block k's body can be handed back: codes 15, 16 and 17.
+pub fn find(image: &[u8], k: u32) -> Answer
+    ensures { λ r. ⌜ r ≡ blockAnswer (now (image .entry)) k ⌝ }
+{
+    block_answer(image, k)
+}
+
+// Block k's body, as that part of the image; where `find` refuses, no bytes.
+pub fn block_body<'a>(image: &'a [u8], k: u32) -> &'a [u8]
+    ensures { λ r. ⌜ now r ≡ blockBody (now (image .entry)) k ⌝ }
+{
+    let answer = block_answer(image, k);
+    match answer {
+        Answer::Accepted => find_body(image, k as usize),
+        Answer::Refused(_) => &image[..0],
+    }
+}
+
+// Plays block k of an image to the output.
+pub fn play(image: &[u8], k: u32, out: &mut [i16]) -> Playback
+    ensures { λ r. ⌜ effectOf (r .answer) (lent (r .context) (now (out .exit))) ≡ playOf (now (image .entry)) k (now (out .entry)) ⌝ }
+{
+    let answer = play_answer(image, k, out.len());
+    match answer {
+        Answer::Accepted => {
+            let nibbles = get32(image, 56 + 16 * (k as usize) + 4);
+            let cs = read_coefficients(image);
+            let context = read_context(image, k as usize);
+            let body = find_body(image, k as usize);
+            let played = play_bytes(body, nibbles, cs, context, out);
+            let after = played.context;
+            Playback {
+                answer: PlayAnswer::Played(address_to_sample(nibbles)),
+                context: after,
+            }
+        }
+        Answer::Refused(why) => {
+            let context = FrameContext::new();
+            Playback {
+                answer: PlayAnswer::Refused(why),
+                context: context,
             }
         }
     }

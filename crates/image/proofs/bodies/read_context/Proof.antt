@@ -1,0 +1,54 @@
+-- `read_context` meets its contract. Assumes nothing.
+use denote.Ref.{now}
+use mathlib.Core.Path.{_≡_}
+use native.Mathlib.Omega.{arith}
+use Rattle.image.specs.Reading.{headerIn, newestIn, olderIn}
+use Rattle.image.proofs.LawsBody.{found-within, context-made}
+use Rattle.image.proofs.bodies.read_context.Statement.{statement}
+use Rattle.image.proofs.bodies.read_context.Tie as tie
+
+mul-at : tie.Need-mul-at
+mul-at c = let w = found-within (now (c .before .args .image)) (c .before .args .k) (c .before .pre) in omega (arith, w .entry, w .small)
+
+add-at : tie.Need-add-at
+add-at c = let w = found-within (now (c .before .args .image)) (c .before .args .k) (c .before .pre) in omega (arith, w .entry, w .small)
+
+add-word-at : tie.Need-add-word-at
+add-word-at c = let w = found-within (now (c .before .args .image)) (c .before .args .k) (c .before .pre) in omega (arith, w .entry, w .small)
+
+word-at-requires : tie.Need-word-at-requires
+word-at-requires c κs = let w = found-within (now (c .before .args .image)) (c .before .args .k) (c .before .pre) in omega (arith, w .entry, w .small)
+
+add-signed-at : tie.Need-add-signed-at
+add-signed-at c = let w = found-within (now (c .before .before .args .image)) (c .before .before .args .k) (c .before .before .pre) in omega (arith, w .entry, w .small)
+
+signed-at-requires : tie.Need-signed-at-requires
+signed-at-requires c κs = let w = found-within (now (c .before .before .args .image)) (c .before .before .args .k) (c .before .before .pre) in omega (arith, w .entry, w .small)
+
+add-signed-at-2 : tie.Need-add-signed-at-2
+add-signed-at-2 c = let w = found-within (now (c .before .before .before .args .image)) (c .before .before .before .args .k) (c .before .before .before .pre) in omega (arith, w .entry, w .small)
+
+signed-at-requires-2 : tie.Need-signed-at-requires-2
+signed-at-requires-2 c κs = let w = found-within (now (c .before .before .before .args .image)) (c .before .before .before .args .k) (c .before .before .before .pre) in omega (arith, w .entry, w .small)
+
+returns : tie.Need-returns
+unfolding headerIn newestIn olderIn
+returns c =
+    let a = c .before .before .before .before .args in
+    let x = c .before .signed-at in
+    let y = c .signed-at2 in
+    context-made (now (a .image)) (a .k) (c .before .before .word-at .result) (x .result) (y .result) (record { sfits = x .ok }) (record { sfits = y .ok }) (c .before .before .word-at .ensures) (x .ensures) (y .ensures)
+
+pub read-context-spec : {M : Type 1} → statement M
+read-context-spec =
+    tie.close
+    (tie.spec
+    mul-at
+    add-at
+    add-word-at
+    word-at-requires
+    add-signed-at
+    signed-at-requires
+    add-signed-at-2
+    signed-at-requires-2
+    returns)
