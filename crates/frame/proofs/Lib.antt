@@ -9,3 +9,6 @@ pub mod LawsFrame
 pub mod LawsEncoded
 pub mod LawsArrays
 pub mod LawsDistance
+pub mod LawsFloat
+pub mod LawsNearHalf
+pub mod LawsUnclamped

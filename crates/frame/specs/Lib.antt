@@ -1,4 +1,4 @@
--- What the contracts cite: section 3 of document 01, from the estimate to the encoded frame.
+-- What the contracts cite: section 3 of document 01, from the estimate to the encoded frame; and the Rust's expression that a theorem compares with it (Unclamped).
 pub mod Estimate
 pub mod Quantise
 pub mod Pass
@@ -6,3 +6,4 @@ pub mod Search
 pub mod Choice
 pub mod Frame
 pub mod Worked
+pub mod Unclamped
