@@ -6,6 +6,7 @@ mod encode;
 pub mod list;
 mod measure;
 mod pieces;
+mod quantise;
 pub mod random;
 
 #[cfg(feature = "count")]
@@ -20,6 +21,7 @@ pub use encode::{Block, encode_blocks, encode_frame_bytes};
 pub use encode::{Encoded, encode, encode_frame};
 pub use measure::{Measured, Record, coefficients_of_records, measure, process_frame};
 pub use pieces::Pieces;
+pub use quantise::{quantised, unclamped};
 pub use unplug::audio::Error;
 pub use unplug::audio::format::adpcm::{Coefficients, FrameContext, SAMPLES_PER_FRAME};
 

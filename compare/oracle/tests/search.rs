@@ -1,7 +1,7 @@
 //! Bytes and passes of a frame against the scope paper's rules, written here in whole numbers.
 
-use oracle::encode_frame;
 use oracle::random::Random;
+use oracle::{encode_frame, quantised};
 
 /// What one pair gives: its exponent, passes, nibbles and sum of squares.
 struct Candidate {
@@ -26,19 +26,6 @@ fn first_power(samples: &[i64; 16], c0: i64, c1: i64) -> u32 {
         halvings += 1;
     }
     ((halvings - 2).max(-1) + 1) as u32
-}
-
-/// A magnitude rounded to 24 significant bits, ties to even.
-fn round24(value: i64) -> i64 {
-    let unit = 1 << (64 - value.leading_zeros()).saturating_sub(24);
-    let (whole, rest) = (value / unit, value % unit);
-    let up = 2 * rest > unit || (2 * rest == unit && whole % 2 == 1);
-    (whole + up as i64) * unit
-}
-
-/// D rounded to 24 bits, divided by `scale`, to nearest, halves towards zero.
-fn quantised(distance: i64, scale: i64) -> i64 {
-    distance.signum() * ((round24(distance.abs()) + scale / 2 - 1) / scale)
 }
 
 /// One pass: nibbles, sum of squares, largest overflow.

@@ -3,7 +3,9 @@
 //! The image sizes S and the image's head have no counterpart in the Rust (it knows no image), so
 //! they are left to the port. Of the last example the block is compared: body, length, context.
 
-use oracle::{FrameContext, address_to_sample, decode, encode, encode_frame, sample_to_address};
+use oracle::{
+    FrameContext, address_to_sample, decode, encode, encode_frame, sample_to_address, unclamped,
+};
 
 const ZEROS: [i16; 16] = [0; 16];
 
@@ -41,16 +43,6 @@ fn header_9c_is_played_with_pair_1_and_scale_4096() {
 fn nibbles_7_8_15_are_7_minus_8_minus_1() {
     let (samples, _) = decode(&[0x00, 0x78, 0xf0], 5, &ZEROS, FrameContext::new());
     assert_eq!(samples, [7, -8, -1]);
-}
-
-/// The Rust's quantiser before its clamp, as vgaudio/encode.rs has it.
-fn unclamped(power: i32, distance: i32) -> i32 {
-    let scale = (1 << power) * 2048;
-    if distance > 0 {
-        ((distance as f32 / scale as f32) as f64 + 0.4999999) as i32
-    } else {
-        ((distance as f32 / scale as f32) as f64 - 0.4999999) as i32
-    }
 }
 
 #[test]

@@ -1,7 +1,7 @@
 -- Float operations by the fractions that their operands equal: where a rounding changes nothing, between which values it stays, quotients, sums, and an integer cut towards zero.
 use mathlib.Core.Path.{_≡_, refl, sym, ap, ap₂, _∙_, subst}
 use mathlib.Core.Logic.{_⊎_, inl, inr}
-use mathlib.Core.Bool.{Bool, true, false, _&&_, Bool·beq, cond, true≢false, false≢true}
+use mathlib.Core.Bool.{Bool, true, false, not, _&&_, Bool·beq, cond, true≢false, false≢true}
 use Prim.Native.Nat.{ℕ, zero, suc, _+_, _-_, _*_, _/_, _^_, _≤_, _<_, min}
 use native.Mathlib.Nat.{lt-irrefl, le-trans, le-of-lt, le-of-eq, lt-of-not-le, add-comm, div-one, mod-one, mul-right-comm, mul-le-mul-right, lt-of-le-of-lt, lt-of-lt-of-le, eq-or-lt-of-le, mul-assoc, mul-comm, mul-left-comm, mul-pos, mul-one, one-mul, zero-mul, eq-of-mul-eq-mul-right}
 use native.Mathlib.Decide.{decLe}
@@ -9,7 +9,7 @@ use native.Mathlib.Omega.{arith}
 use lib.Dec.{T, lit<, eqb, eqb·suc-zero, ltb, lt→ltb}
 use lib.Pow.{pow-add, pow-pos, pow-mono, pow-lt, shl-lt}
 use lib.IntN.{pos, negℤ}
-use lib.Ieee.{Float, nan, inf, fin, Format, prec, emax, low, up, down, unlike, size, units, round, sum, add, div, le, toSigned}
+use lib.Ieee.{Float, nan, inf, fin, Format, prec, emax, low, up, down, unlike, size, units, round, neg, sum, add, div, le, toSigned}
 use lib.Ieee.Fits.{two, two-le-pos, down-pos, round-is}
 use lib.Ieee.Exact.{HasValue, round-exact, units-val}
 use lib.Ieee.Back.{round-whole}
@@ -117,6 +117,13 @@ round-between f s a c n d m b C D B N M lo hi h k =
       values-of-le (round f false n d) x n d (grid f a c) (2 ^ low f) lo-pos x-pos lo v x-ge,
       values-of-le x (round f false m b) (grid f a c) (2 ^ low f) m b x-pos hi-pos v hi x-le,
     )
+
+-- ---- the negative
+pub neg-at : (x : Float) (s : Bool) (a c : ℕ) → HasValue x s a c → HasValue (neg x) (not s) a c
+unfolding neg
+neg-at nan s a c v = v
+neg-at (inf t) s a c v = v
+neg-at (fin t m e) s a c v = (ap not (v .0), v .1)
 
 -- ---- a / c over b / d
 not-zero : (n : ℕ) → 0 < n → eqb n 0 ≡ false

@@ -17,12 +17,13 @@ use lib.Ieee.Digits.{size-le}
 use lib.Ieee.Exact.{HasValue}
 use lib.Ieee.Fits.{nearest-le, kept-lt, div-fits, fits-widens}
 use lib.Ieee.Nearest.{closest}
+use lib.Ieee.Positive.{num, den}
 use lib.Ieee.Scale.{grid}
 use Rattle.frame.specs.Quantise.{unit24, round24, scale, nearestDown, quantised, clamp4}
 use Rattle.frame.specs.Pass.{Bounded, residual, reconstruct, stepOf}
 use Rattle.frame.specs.Unclamped.{asF32, nearHalf, quotient, unclamped}
 use Rattle.frame.specs.declared.pass.Step.{Step}
-use Rattle.frame.proofs.LawsFloat.{few-digits, whole-at, round-between, div-at, add-at, toSigned-at}
+use Rattle.frame.proofs.LawsFloat.{few-digits, whole-at, round-between, neg-at, div-at, add-at, toSigned-at}
 use Rattle.frame.proofs.LawsNearHalf.{NearlyHalf, sum-above, sum-below, down-most}
 use Rattle.frame.proofs.LawsQuantise.{round-same, round24-le, down-zero, scale-pos}
 use Rattle.frame.proofs.LawsPass.{residual-size}
@@ -102,30 +103,31 @@ sum-at x y s t r k h a c even k-ge k-le r-le near o u v =
     ∙ toSigned-at 31 z t g (2 ^ low binary64) (pow-pos (low binary64)) (b .0) (lt-of-le-of-lt (le-of-eq whole) (omega arith))
     ∙ ap (λ (m : ℕ). cond t (negℤ (pos m)) (pos m)) whole
 
--- ---- `0.4999999`: 9007197453301141 / 2 ^ 54
+-- ---- `0.4999999` as a fraction; of it no more is used than that it is nearly a half
+near-half : NearlyHalf (num nearHalf) (den nearHalf)
+unfolding nearHalf round
+near-half = record { some = lit< tt; over = lit< tt; least = lit≤ tt; most = lit≤ tt }
+
+near-half-at : HasValue nearHalf false (num nearHalf) (den nearHalf)
+unfolding nearHalf round
+near-half-at = (refl, refl)
+
+near-half-neg : HasValue (neg nearHalf) true (num nearHalf) (den nearHalf)
+near-half-neg = neg-at nearHalf false (num nearHalf) (den nearHalf) near-half-at
+
+-- its bits, as the Rust has them
 pub near-half-bits : toBits binary64 nearHalf ≡ 0x3fdf_ffff_94a0_3595
 unfolding nearHalf round toBits
 near-half-bits = refl
 
-near-half-at : HasValue nearHalf false 9007197453301141 18014398509481984
-unfolding nearHalf round
-near-half-at = (refl, refl)
-
-near-half-neg : HasValue (neg nearHalf) true 9007197453301141 18014398509481984
-unfolding nearHalf round neg
-near-half-neg = (refl, refl)
-
-near-half : NearlyHalf 9007197453301141 18014398509481984
-near-half = record { some = lit< tt; over = lit< tt; least = lit≤ tt; most = lit≤ tt }
-
 -- ---- the expression
 -- with y, 0.4999999 of the sign t: the sign of d, or either where d is 0
-rounded : (d : ℤ) (p : ℕ) (t : Bool) (y : Float) → natAbs d ≤ 2147483648 → p ≤ 12 → (signOf d ≡ t) ⊎ (round24 (natAbs d) ≡ 0) → HasValue y t 9007197453301141 18014398509481984
+rounded : (d : ℤ) (p : ℕ) (t : Bool) (y : Float) → natAbs d ≤ 2147483648 → p ≤ 12 → (signOf d ≡ t) ⊎ (round24 (natAbs d) ≡ 0) → HasValue y t (num nearHalf) (den nearHalf)
     → toSigned 31 (add binary64 (quotient d (pos (2 ^ p * 2048))) y) ≡ cond t (negℤ (pos (nearestDown (round24 (natAbs d)) (scale p)))) (pos (nearestDown (round24 (natAbs d)) (scale p)))
 rounded d p t y h l o v =
     let r = round24 (natAbs d) in
     let r-le : r ≤ 2147483904 = omega (arith, round24-le (natAbs d) h) in
-    sum-at (quotient d (pos (2 ^ p * 2048))) y (signOf d) t r (2 ^ p * 2048) (2 ^ p * 1024) 9007197453301141 18014398509481984
+    sum-at (quotient d (pos (2 ^ p * 2048))) y (signOf d) t r (2 ^ p * 2048) (2 ^ p * 1024) (num nearHalf) (den nearHalf)
     (omega arith) (omega (arith, pow-pos p)) (omega (arith, pow-mono l)) r-le near-half o (quotient-at d p h l) v
     ∙ ap (λ (n : ℕ). cond t (negℤ (pos (nearestDown r n))) (pos (nearestDown r n))) (mul-comm (2 ^ p) 2048)
 
