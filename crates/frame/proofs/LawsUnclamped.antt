@@ -134,7 +134,9 @@ rounded d p t y h l o v =
 none : round24 0 ≡ 0
 none = sym (round-same 0 (lit< tt))
 
--- "this equals the Rust's ± 0.4999999": for every D of 32 bits and every p up to 12
+-- "this equals the Rust's ± 0.4999999": for every D of 32 bits, of either sign or 0, and every p up to 12, the Rust's expression in f32 and f64
+-- gives the number of the whole-number rule. The cast is the 24-bit rounding (`cast-at`), the quotient is exact (`quotient-at`), and the sum, which is
+-- rounded once, stays 2 ^ -26 off the whole numbers, so that it is cut to the right one (`sum-at`).
 pub unclamped-is : (d : ℤ) (p : ℕ) → natAbs d ≤ 2147483648 → p ≤ 12 → unclamped d p ≡ quantised d p
 unfolding unclamped sub quantised
 unclamped-is (pos zero) p h l =
