@@ -142,7 +142,7 @@ module _ (g : Start) (F : Fine g) (xs : List ℤ) (k : ℕ) (rest : List ℕ) wh
   abbrev all : List ℕ
   all = built g mark xs k ++ rest
 
-  parts : all ≡ headed g mark ++ (listed g xs k ++ (filled g xs k ++ rest))
+  pub parts : all ≡ headed g mark ++ (listed g xs k ++ (filled g xs k ++ rest))
   unfolding built
   parts = regroup (headed g mark) (listed g xs k) (filled g xs k) rest
 

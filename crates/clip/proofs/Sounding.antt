@@ -24,7 +24,7 @@ use Rattle.clip.proofs.Replay.{Audible, Holding, soundFrom, contextBefo
 -- ---- the frames of a block
 
 -- a block's bytes begin where its first frame's do
-block-place : (b j : ℕ) → b % 8 ≡ 0 → j * b ≡ 8 * (j * (b / 8))
+pub block-place : (b j : ℕ) → b % 8 ≡ 0 → j * b ≡ 8 * (j * (b / 8))
 block-place b j e =
     let w : b ≡ b / 8 * 8 = omega arith in
     ap (λ (x : ℕ). j * x) w ∙ sym (mul-assoc j (b / 8) 8) ∙ mul-comm (j * (b / 8)) 8

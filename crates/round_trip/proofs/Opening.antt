@@ -1,0 +1,186 @@
+-- The closed image of X opens, and says what it was started with.
+use mathlib.Core.Path.{_≡_, refl, sym, ap, ap₂, _∙_, subst}
+use mathlib.Core.Bool.{Bool, true, false, cond, _&&_}
+use mathlib.Core.List.{List, [], _∷_, _++_}
+use Prim.Native.Nat.{ℕ, zero, suc, _+_, _-_, _*_, _/_, _%_, _≤_, _<_}
+use native.Mathlib.Omega.{arith}
+use borrow.Author.Tests.{leb-true}
+use lib.Dec.{leb}
+use lib.IntN.{ℤ, pos, negsuc, natAbs}
+use lib.ListN.{length, getD, take, length-append}
+use lib.Seq.{take-suc, take-all}
+use mir.Syntax.{w16}
+use mir.Val.{SFits, ofZ, toZ}
+use mir.ValLaws.{toZ-ofZ}
+use Rattle.frame.specs.Choice.{c0At, c1At}
+use Rattle.frame.specs.Frame.{pairWithin, within, withinLimits}
+use Rattle.frame.proofs.LawsFrame.{within-pair}
+use Rattle.frame.proofs.LawsPass.{FitHistory}
+use Rattle.block.specs.declared.FrameContext.{FrameContext}
+use Rattle.block.specs.Context.{contextOf}
+use Rattle.clip.specs.Facts.{Limits}
+use Rattle.clip.specs.Image.{at16, at32, mark, headOf}
+use Rattle.clip.specs.Sizes.{framesOf, lastOf, blocksOf, bodyOf, sizeOf, offsetOf, lengthOf}
+use Rattle.clip.specs.Runs.{Start, historyAt, encodedAt, imageOf}
+use Rattle.clip.proofs.Sizing.{block-first}
+use Rattle.clip.proofs.Sound.{both-true}
+use Rattle.clip.proofs.Built.{Fine, headed, listed, filled, built, built-length}
+use Rattle.clip.proofs.Readback as read
+use Rattle.clip.proofs.Sounding.{block-place, block-parts, wholes, ending}
+use Rattle.clip.proofs.Replay.{Audible, contextBefore, history-sampled}
+use Rattle.image.specs.declared.Answer.the-variants.{Accepted}
+use Rattle.image.specs.declared.Head.{Head}
+use Rattle.image.specs.Reading.{totalIn, rateIn, blockIn, gainIn, zeroIn, blocksIn, signedAt, coefficientsUpTo, coefficientsIn, headIn, offsetIn, lengthIn, headerIn, newestIn, olderIn, entryZeroIn}
+use Rattle.image.specs.Opened.{markOk, openAnswer}
+use Rattle.image.specs.Facts.{Headed, Entry, Opens}
+use Rattle.image.specs.Samples.{contextIn}
+use Rattle.image.proofs.Accepting.{opens}
+
+-- ---- coefficients within the limits are of 16 bits
+
+small : (z : ℤ) → natAbs z ≤ 4096 → SFits w16 z
+small (pos n) h = record { sfits = omega arith }
+small (negsuc n) h = record { sfits = omega arith }
+
+coefficient-fits : (cs : List ℤ) → withinLimits cs ≡ true → (i : ℕ) → i < 16 → SFits w16 (getD cs i (pos 0))
+unfolding withinLimits pairWithin
+coefficient-fits cs ok i h = go (i % 2) refl (omega arith)
+  where
+    t : (leb (natAbs (c0At cs (i / 2))) 4096 ≡ true) × (leb (natAbs (c1At cs (i / 2))) 2048 ≡ true)
+    t = both-true (leb (natAbs (c0At cs (i / 2))) 4096) (leb (natAbs (c1At cs (i / 2))) 2048) (within-pair cs 8 (i / 2) (omega arith) ok)
+
+    go : (r : ℕ) → i % 2 ≡ r → r < 2 → SFits w16 (getD cs i (pos 0))
+    go zero e l =
+        let p : 2 * (i / 2) ≡ i = omega arith in
+        subst (λ (k : ℕ). SFits w16 (getD cs k (pos 0))) p (small (c0At cs (i / 2)) (leb-true (natAbs (c0At cs (i / 2))) 4096 (t .0)))
+    go (suc zero) e l =
+        let p : 2 * (i / 2) + 1 ≡ i = omega arith in
+        let q = leb-true (natAbs (c1At cs (i / 2))) 2048 (t .1) in
+        subst (λ (k : ℕ). SFits w16 (getD cs k (pos 0))) p (small (c1At cs (i / 2)) (omega arith))
+    go (suc (suc r)) e l = absurd (omega arith)
+
+-- ---- the fields of the closed image
+
+module _ (g : Start) (F : Fine g) (xs : List ℤ) (rest : List ℕ) where
+  abbrev pub image : List ℕ
+  image = built g mark xs (framesOf (g .total)) ++ rest
+
+  abbrev tail : List ℕ
+  tail = listed g xs (framesOf (g .total)) ++ (filled g xs (framesOf (g .total)) ++ rest)
+
+  parts : image ≡ headOf mark (g .total) (g .rate) (g .block) (g .coefficients) (g .gain) ++ tail
+  parts = read.parts g F xs (framesOf (g .total)) rest
+
+  pub total-is : totalIn image ≡ g .total
+  unfolding totalIn
+  total-is = ap (λ (l : List ℕ). at32 l 4) parts ∙ read.head-total (g .total) (g .rate) (g .block) (g .coefficients) (g .gain) tail (F .sixteen)
+
+  pub rate-is : rateIn image ≡ g .rate
+  unfolding rateIn
+  rate-is = ap (λ (l : List ℕ). at32 l 8) parts ∙ read.head-rate (g .total) (g .rate) (g .block) (g .coefficients) (g .gain) tail (F .sixteen)
+
+  pub block-is : blockIn image ≡ g .block
+  unfolding blockIn
+  block-is = ap (λ (l : List ℕ). at32 l 12) parts ∙ read.head-block (g .total) (g .rate) (g .block) (g .coefficients) (g .gain) tail (F .sixteen)
+
+  pub gain-is : gainIn image ≡ g .gain
+  unfolding gainIn
+  gain-is = ap (λ (l : List ℕ). at16 l 48) parts ∙ read.head-gain (g .total) (g .rate) (g .block) (g .coefficients) (g .gain) tail (F .sixteen)
+
+  zeros-are : zeroIn image ≡ 0
+  unfolding zeroIn
+  zeros-are = ap (λ (l : List ℕ). at16 l 50) parts ∙ read.head-zeros (g .total) (g .rate) (g .block) (g .coefficients) (g .gain) tail (F .sixteen)
+
+  pub blocks-are : blocksIn image ≡ blocksOf (g .total) (g .block)
+  unfolding blocksIn
+  blocks-are = ap (λ (l : List ℕ). at32 l 52) parts ∙ read.head-blocks (g .total) (g .rate) (g .block) (g .coefficients) (g .gain) tail (F .sixteen)
+
+  marked : markOk image ≡ true
+  unfolding markOk headOf
+  marked = ap markOk parts
+
+  coefficients-upto : (k : ℕ) → k ≤ 16 → coefficientsUpTo image k ≡ take k (g .coefficients)
+  unfolding coefficientsUpTo signedAt
+  coefficients-upto zero h = refl
+  coefficients-upto (suc k) h =
+      let cs = g .coefficients in
+      let x = getD cs k (pos 0) in
+      let e : at16 image (16 + 2 * k) ≡ ofZ w16 x = ap (λ (l : List ℕ). at16 l (16 + 2 * k)) parts ∙ read.head-coefficient (g .total) (g .rate) (g .block) cs (g .gain) tail (F .sixteen) k (omega arith) in
+      ap₂ (λ (l : List ℤ) (z : ℤ). l ++ (z ∷ [])) (coefficients-upto k (omega arith)) (ap (toZ w16) e ∙ toZ-ofZ w16 x (coefficient-fits cs (F .within) k (omega arith)))
+      ∙ sym (take-suc cs k (pos 0) (omega (arith, F .sixteen)))
+
+  pub coefficients-are : coefficientsIn image ≡ g .coefficients
+  unfolding coefficientsIn
+  coefficients-are = coefficients-upto 16 (omega arith) ∙ take-all 16 (g .coefficients) (omega (arith, F .sixteen))
+
+  -- ---- head and entries
+
+  long : sizeOf (g .total) (g .block) ≤ length image
+  long = omega (arith, length-append (built g mark xs (framesOf (g .total))) rest, built-length g F mark refl xs (framesOf (g .total)))
+
+  head-made : Headed image
+  unfolding sizeOf
+  head-made =
+      record {
+        long = omega (arith, long);
+        marked = marked;
+        limits = rw (total-is, block-is) (F .limits);
+        rate = rw rate-is (some (g .rate) (F .some));
+        blocks = rw (total-is, block-is) blocks-are;
+        zeros = zeros-are;
+        size = rw (total-is, block-is) long;
+      }
+    where
+      some : (r : ℕ) → (r ≡ 0 → ⊥) → 1 ≤ r
+      some r h = omega arith
+
+  module _ (j : ℕ) (few : j < blocksOf (g .total) (g .block)) where
+    first-frame : j * (g .block / 8) < framesOf (g .total)
+    first-frame = block-first (g .total) (g .block) j (F .limits) few
+
+    pub header-is : headerIn image j ≡ getD (encodedAt g xs (j * (g .block / 8)) .bytes) 0 0
+    unfolding headerIn
+    header-is = read.entry-header g F xs (framesOf (g .total)) rest j few first-frame
+
+    -- the body's first byte
+    first-byte : getD image (offsetOf (g .total) (g .block) j) 0 ≡ getD (encodedAt g xs (j * (g .block / 8)) .bytes) 0 0
+    unfolding offsetOf
+    first-byte =
+        let p = block-parts (g .total) (g .block) j (F .limits) few in
+        let e : 56 + 16 * blocksOf (g .total) (g .block) + j * g .block ≡ 56 + 16 * blocksOf (g .total) (g .block) + (8 * (j * (g .block / 8)) + 0) = omega (arith, block-place (g .block) j (F .limits .eights)) in
+        ap (λ (k : ℕ). getD image k 0) e
+        ∙ read.body-at g F xs (framesOf (g .total)) rest (j * (g .block / 8)) 0 first-frame (omega arith) (omega (arith, p .2))
+
+    entry-made : Entry image (g .total) (g .block) j
+    unfolding offsetIn lengthIn entryZeroIn
+    entry-made =
+        record {
+          offset = read.entry-offset g F xs (framesOf (g .total)) rest j few first-frame;
+          nibbles = read.entry-nibbles g F xs (framesOf (g .total)) rest j few first-frame;
+          zeros = read.entry-zeros g F xs (framesOf (g .total)) rest j few first-frame;
+          header = header-is ∙ sym first-byte;
+        }
+
+    -- its context is that which its first frame is played from
+    pub context-is : Audible g xs → contextIn image j ≡ contextBefore g xs (j * (g .block / 8))
+    unfolding contextIn newestIn olderIn signedAt
+    context-is A =
+        let h = historyAt g xs (j * (g .block / 8)) in
+        let f = history-sampled g xs A (j * (g .block / 8)) in
+        let n = ap (toZ w16) (read.entry-newest g F xs (framesOf (g .total)) rest j few first-frame) ∙ toZ-ofZ w16 (h .newest) (f .newest-fits) in
+        let o = ap (toZ w16) (read.entry-older g F xs (framesOf (g .total)) rest j few first-frame) ∙ toZ-ofZ w16 (h .older) (f .older-fits) in
+        rw (header-is, n, o)
+
+  pub image-made : Opens image
+  image-made =
+      record {
+        head = head-made;
+        entries = λ j lt. subst (λ (n : ℕ). Entry image n (blockIn image) j) (sym total-is) (subst (λ (b : ℕ). Entry image (g .total) b j) (sym block-is) (entry-made j (here j lt)));
+      }
+    where
+      here : (j : ℕ) → j < blocksOf (totalIn image) (blockIn image) → j < blocksOf (g .total) (g .block)
+      here j lt = rw (total-is, block-is) at lt
+
+  -- the closed image opens
+  pub image-opens : openAnswer image ≡ Accepted
+  image-opens = opens image image-made
