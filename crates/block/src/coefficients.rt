@@ -3,7 +3,8 @@ ghost use mathlib.Core.Path.{_≡_};
 ghost use mathlib.Core.Bool.{_&&_, _||_};
 ghost use Rattle.block.specs.Refusals.{same, lowestPair, equalCoefficients};
 
-fn equal(x: i16, y: i16) -> bool
+// Whether two samples or coefficients are equal. It is internal: crate image calls it.
+pub fn equal(x: i16, y: i16) -> bool
     ensures { λ r. ⌜ r ≡ same x y ⌝ }
 {
     x == y

@@ -5,4 +5,6 @@ pub mod Coefficients
 pub mod Accepting
 pub mod LawsBody
 pub mod LawsPlayed
+pub mod LawsEqual
+pub mod FramePlaces
 mod EntryTurns

@@ -5,7 +5,7 @@ use mathlib.Core.Path.{_≡_}
 use Prim.Native.Nat.{ℕ, _≤_, _<_}
 use lib.ListN.{length, getD}
 use Rattle.clip.specs.Facts.{Limits}
-use Rattle.clip.specs.Sizes.{blocksOf, sizeOf, offsetOf, lengthOf}
+use Rattle.clip.specs.Sizes.{framesOf, blocksOf, sizeOf, offsetOf, lengthOf}
 use Rattle.image.specs.Reading.{totalIn, rateIn, blockIn, zeroIn, blocksIn, offsetIn, lengthIn, headerIn, entryZeroIn}
 use Rattle.image.specs.Opened.{markOk}
 
@@ -34,3 +34,10 @@ pub record Opens (l : List ℕ) : Type 0 where
 pub record Found (l : List ℕ) (k : ℕ) : Type 0 where
   pub opens : Opens l
   pub block : k < blocksOf (totalIn l) (blockIn l)
+
+-- the image opens, B and K are as they were read, and there is a frame i
+pub record Source (l : List ℕ) (block kk i : ℕ) : Type 0 where
+  pub opens : Opens l
+  pub size : block ≡ blockIn l
+  pub blocks : kk ≡ blocksOf (totalIn l) (blockIn l)
+  pub frame : i < framesOf (totalIn l)

@@ -4,3 +4,5 @@ pub mod Opened
 pub mod Facts
 pub mod Bodies
 pub mod Samples
+pub mod Frames
+pub mod Sameness

@@ -7,6 +7,7 @@ ghost use Rattle.image.specs.Samples.{effectOf, playOf};
 
 mod bodies;
 mod checks;
+mod comparing;
 mod entries;
 mod heading;
 
@@ -63,6 +64,13 @@ pub enum PlayAnswer {
 pub struct Playback {
     pub answer: PlayAnswer,
     pub context: FrameContext,
+}
+
+// Comparing's answer.
+pub enum SameAnswer {
+    Same,
+    Different,
+    Refused(Refusal),
 }
 
 // Document 01's number of a refusal.

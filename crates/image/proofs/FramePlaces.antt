@@ -1,0 +1,75 @@
+-- Where frames stand within an image.
+use mathlib.Core.Bool.{Bool, true, false, cond}
+use mathlib.Core.List.{List}
+use mathlib.Core.Path.{_≡_, refl, sym, ap, _∙_, subst}
+use Prim.Native.Nat.{ℕ, _+_, _-_, _*_, _/_, _%_, _≤_, _<_}
+use native.Mathlib.Omega.{arith}
+use borrow.Author.Tests.{ltb-true, ltb-false, lt-ltb, le-ltb}
+use lib.Dec.{ltb}
+use lib.ListN.{length}
+use Rattle.clip.specs.Facts.{Limits}
+use Rattle.clip.specs.Sizes.{framesOf, lastOf, blocksOf, bodyOf, sizeOf}
+use Rattle.clip.proofs.Sizing.{frames-some, frames-le, blocks-most, first-block}
+use Rattle.image.specs.Reading.{totalIn, blockIn}
+use Rattle.image.specs.Facts.{Found, Source}
+use Rattle.image.specs.Frames.{countOf, frameIn}
+
+pub count-whole : (n i : ℕ) → i + 1 < framesOf n → countOf n i ≡ 14
+unfolding countOf
+count-whole n i h = rw (lt-ltb (i + 1) (framesOf n) h)
+
+pub count-last : (n i : ℕ) → framesOf n ≤ i + 1 → countOf n i ≡ lastOf n
+unfolding countOf
+count-last n i h = rw (le-ltb (i + 1) (framesOf n) h)
+
+pub last-most : (n : ℕ) → 1 ≤ n → lastOf n ≤ 14
+unfolding lastOf
+last-most n h = frames-some n h .2
+
+-- a frame's count is at most fourteen, and its bytes are within the bodies
+frame-fits : (n i : ℕ) → 1 ≤ n → i < framesOf n → (countOf n i ≤ 14) × (16 * i + 2 + countOf n i ≤ 2 * bodyOf n)
+unfolding countOf bodyOf
+frame-fits n i s h = go (ltb (i + 1) (framesOf n)) refl
+  where
+    go : (t : Bool) → ltb (i + 1) (framesOf n) ≡ t → (cond t 14 (lastOf n) ≤ 14) × (16 * i + 2 + cond t 14 (lastOf n) ≤ 2 * (8 * (framesOf n - 1) + 1 + (lastOf n + 1) / 2))
+    go true e = let q = ltb-true (i + 1) (framesOf n) e in (omega arith, omega arith)
+    go false e = let q = ltb-false (i + 1) (framesOf n) e in (last-most n s, omega arith)
+
+pub count-most : (n i : ℕ) → 1 ≤ n → i < framesOf n → countOf n i ≤ 14
+count-most n i s h = frame-fits n i s h .0
+
+-- what is known of frame i's place
+pub record Placed (l : List ℕ) (i : ℕ) : Type 0 where
+  pub few : countOf (totalIn l) i ≤ 14
+  pub bytes : 2 * frameIn l i + 2 + countOf (totalIn l) i ≤ 2 * length l
+  pub blocks : blocksOf (totalIn l) (blockIn l) ≤ 1048576
+  pub frames : i < 1048576
+
+module _ (l : List ℕ) (block kk i : ℕ) (s : Source l block kk i) where
+  pub placed : Placed l i
+  unfolding frameIn sizeOf
+  placed =
+      let L = s .opens .head .limits in
+      let z = s .opens .head .size in
+      let f = frame-fits (totalIn l) i (L .some) (s .frame) in
+      let m = frames-le (totalIn l) (L .few) in
+      let h = s .frame in
+      record { few = f .0; bytes = omega (arith, f .1, z); blocks = blocks-most (totalIn l) (blockIn l) L; frames = omega arith }
+
+  -- the byte as it is worked out from what was read
+  pub place-made : 56 + 16 * kk + 8 * i ≡ frameIn l i
+  unfolding frameIn
+  place-made = ap (λ (k : ℕ). 56 + 16 * k + 8 * i) (s .blocks)
+
+  -- the block that frame i is the first of
+  pub first-found : i % (block / 8) ≡ 0 → Found l (i / (block / 8))
+  first-found e =
+      let q : i % (blockIn l / 8) ≡ 0 = ap (λ (b : ℕ). i % (b / 8)) (sym (s .size)) ∙ e in
+      record {
+        opens = s .opens;
+        block = subst (λ (b : ℕ). i / (b / 8) < blocksOf (totalIn l) (blockIn l)) (sym (s .size)) (first-block (totalIn l) (blockIn l) i (s .opens .head .limits) (s .frame) q);
+      }
+
+  -- a block has a frame
+  pub per-some : 0 < block / 8
+  per-some = let w = s .opens .head .limits .wide in let e = s .size in omega arith

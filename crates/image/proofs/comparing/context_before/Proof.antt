@@ -1,0 +1,62 @@
+-- `context_before` meets its contract. Assumes nothing.
+use denote.Ref.{now}
+use mathlib.Core.Path.{_≡_}
+use native.Mathlib.Omega.{arith}
+use borrow.Author.Tests.{eq-eqb, ne-eqb}
+use Rattle.image.specs.Frames.{frameIn, contextBefore}
+use Rattle.image.proofs.FramePlaces.{placed, place-made, first-found}
+use borrow.Author.Needs.{needs}
+use Rattle.image.proofs.comparing.context_before.Statement.{statement}
+use Rattle.image.proofs.comparing.context_before.Tie as tie
+
+rem-if1 : tie.Need-rem-if1
+rem-if1 c = search needs
+
+div-read-context : tie.Need-div-read-context
+div-read-context c = search needs
+
+read-context-requires : tie.Need-read-context-requires
+read-context-requires c κs = first-found (now (c .before .before .args .image)) _ _ _ (c .before .before .pre) (c .if1 .taken)
+
+returns : tie.Need-returns
+unfolding contextBefore
+returns c = rw (c .read-context .ensures, ← c .before .before .before .pre .size, eq-eqb _ _ (c .before .if1 .taken))
+
+mul-with-header : tie.Need-mul-with-header
+mul-with-header c = let p = placed (now (c .before .before .args .image)) _ _ _ (c .before .before .pre) in let e = c .before .before .pre .blocks in omega (arith, p .bytes, p .blocks, p .frames, e)
+
+add-with-header : tie.Need-add-with-header
+add-with-header c = let p = placed (now (c .before .before .args .image)) _ _ _ (c .before .before .pre) in let e = c .before .before .pre .blocks in omega (arith, p .bytes, p .blocks, p .frames, e)
+
+mul-with-header-2 : tie.Need-mul-with-header-2
+mul-with-header-2 c = let p = placed (now (c .before .before .args .image)) _ _ _ (c .before .before .pre) in let e = c .before .before .pre .blocks in omega (arith, p .bytes, p .blocks, p .frames, e)
+
+add-with-header-2 : tie.Need-add-with-header-2
+add-with-header-2 c = let p = placed (now (c .before .before .args .image)) _ _ _ (c .before .before .pre) in let e = c .before .before .pre .blocks in omega (arith, p .bytes, p .blocks, p .frames, e)
+
+shared-slice-read-with-header : tie.Need-shared-slice-read-with-header
+unfolding frameIn
+shared-slice-read-with-header c = let p = placed (now (c .before .before .before .args .image)) _ _ _ (c .before .before .before .pre) in let e = c .before .before .before .pre .blocks in omega (arith, p .bytes, e)
+
+with-header-requires : tie.Need-with-header-requires
+with-header-requires c κs = search needs
+
+returns-2 : tie.Need-returns-2
+unfolding contextBefore
+returns-2 c = rw (c .with-header .ensures, ← c .before .before .before .before .pre .size, ne-eqb _ _ (c .before .before .if1 .left), place-made (now (c .before .before .before .before .args .image)) _ _ _ (c .before .before .before .before .pre))
+
+pub context-before-spec : {M : Type 1} → statement M
+context-before-spec =
+    tie.close
+    (tie.spec
+    rem-if1
+    div-read-context
+    read-context-requires
+    returns
+    mul-with-header
+    add-with-header
+    mul-with-header-2
+    add-with-header-2
+    shared-slice-read-with-header
+    with-header-requires
+    returns-2)

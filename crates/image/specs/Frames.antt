@@ -1,0 +1,44 @@
+-- An image played a frame at a time. Definitions only.
+use mathlib.Core.Bool.{cond}
+use mathlib.Core.List.{List, []}
+use Prim.Native.Nat.{ℕ, zero, suc, _+_, _*_, _/_, _%_}
+use lib.Dec.{eqb, ltb}
+use lib.IntN.{ℤ, pos}
+use lib.ListN.{getD, replicate}
+use lib.Seq.{sets}
+use Rattle.block.specs.declared.FrameContext.{FrameContext}
+use Rattle.block.specs.Context.{contextOf, withHeader}
+use Rattle.block.specs.Frame.{Playing, playing, playFrame}
+use Rattle.clip.specs.Sizes.{framesOf, lastOf, blocksOf}
+use Rattle.image.specs.declared.comparing.Frame.{Frame}
+use Rattle.image.specs.Reading.{totalIn, blockIn, coefficientsIn}
+use Rattle.image.specs.Samples.{contextIn}
+
+-- the samples in frame i: fourteen, and m in the last
+unfoldable pub countOf : ℕ → ℕ → ℕ
+countOf n i = cond (ltb (i + 1) (framesOf n)) 14 (lastOf n)
+
+-- where frame i stands: bodies of whole frames stand back to back
+unfoldable pub frameIn : List ℕ → ℕ → ℕ
+frameIn l i = 56 + 16 * blocksOf (totalIn l) (blockIn l) + 8 * i
+
+-- what frame i is played from: a block's first from its entry's context, another from what the frame before left, under its own header
+unfoldable pub contextBefore : List ℕ → ℕ → FrameContext → FrameContext
+contextBefore l i c =
+    cond (eqb (i % (blockIn l / 8)) 0) (contextIn l (i / (blockIn l / 8))) (withHeader c (getD l (frameIn l i) 0))
+
+-- the first i frames in turn
+unfoldable pub framesIn : List ℕ → ℕ → Playing
+framesIn l zero = playing (contextOf 0 (pos 0) (pos 0)) []
+framesIn l (suc i) =
+    let p = framesIn l i in
+    playFrame l (frameIn l i) (countOf (totalIn l) i) (coefficientsIn l) (playing (contextBefore l i (p .context)) (p .samples))
+
+-- one frame, in an array of fourteen samples
+unfoldable pub frameAt : List ℕ → ℕ → ℕ → List ℤ → FrameContext → Frame
+frameAt l at count cs c =
+    let p = playFrame l at count cs (playing c []) in
+    record { samples = sets (replicate 14 (pos 0)) 0 (p .samples); context = p .context }
+
+unfoldable pub nextFrame : List ℕ → List ℤ → ℕ → FrameContext → Frame
+nextFrame l cs i c = frameAt l (frameIn l i) (countOf (totalIn l) i) cs (contextBefore l i c)

@@ -1,0 +1,92 @@
+// The sound of two images compared, a frame at a time.
+ghost use mathlib.Core.Path.{_≡_};
+ghost use Prim.Native.Nat.{_+_, _*_, _≤_, _<_};
+ghost use lib.ListN.{length};
+ghost use Rattle.block.specs.Refusals.{equalUpTo};
+ghost use Rattle.clip.specs.Sizes.{framesOf};
+ghost use Rattle.image.specs.Facts.{Opens, Source};
+ghost use Rattle.image.specs.Reading.{totalIn};
+ghost use Rattle.image.specs.Frames.{countOf, contextBefore, frameAt, nextFrame};
+use crate::bodies::read_context;
+use crate::heading::read_coefficients;
+use block::FrameContext;
+use block::coefficients::equal;
+use block::play_frame;
+use clip::fields::get32;
+use clip::sizes::blocks;
+use clip::sizes::frames;
+
+// A frame's samples, and the context after them.
+pub(crate) struct Frame {
+    pub(crate) samples: [i16; 14],
+    pub(crate) context: FrameContext,
+}
+
+// The samples in frame i of a clip of `total` samples.
+fn count_of(total: usize, i: usize) -> usize
+    requires { ⌜ (1 ≤ total) × (total ≤ 14680064) × (i < framesOf total) ⌝ }
+    ensures { λ r. ⌜ (r ≡ countOf total i) × (r ≤ 14) ⌝ }
+{
+    let f = frames(total);
+    if i + 1 < f {
+        return 14;
+    }
+    total - 14 * (f - 1)
+}
+
+// What frame i is played from: its block's entry's context, or what the frame before left, under its own header.
+fn context_before(image: &[u8], block: usize, kk: usize, i: usize, before: FrameContext) -> FrameContext
+    requires { ⌜ Source (now image) block kk i ⌝ }
+    ensures { λ r. ⌜ r ≡ contextBefore (now (image .entry)) i before ⌝ }
+{
+    let per = block / 8;
+    if i % per == 0 {
+        return read_context(image, i / per);
+    }
+    before.with_header(image[56 + 16 * kk + 8 * i])
+}
+
+// `count` samples of the frame at a byte.
+fn frame_at(image: &[u8], at: usize, count: usize, cs: [i16; 16], context: FrameContext) -> Frame
+    requires { ⌜ (2 * at + 2 + count ≤ 2 * length (now image)) × (count ≤ 14) ⌝ }
+    ensures { λ r. ⌜ r ≡ frameAt (now (image .entry)) at count cs context ⌝ }
+{
+    let mut out = [0i16; 14];
+    let after = play_frame(image, at, count, cs, context, &mut out, 0);
+    Frame {
+        samples: out,
+        context: after,
+    }
+}
+
+// Frame i, after what the frame before left.
+fn next_frame(
+    image: &[u8],
+    cs: [i16; 16],
+    block: usize,
+    kk: usize,
+    i: usize,
+    count: usize,
+    before: FrameContext,
+) -> Frame
+    requires { ⌜ Source (now image) block kk i × (count ≡ countOf (totalIn (now image)) i) ⌝ }
+    ensures { λ r. ⌜ r ≡ nextFrame (now (image .entry)) cs i before ⌝ }
+{
+    let context = context_before(image, block, kk, i, before);
+    frame_at(image, 56 + 16 * kk + 8 * i, count, cs, context)
+}
+
+// Whether the first `count` samples are equal.
+fn equal_part(xs: [i16; 14], ys: [i16; 14], count: usize) -> bool
+    requires { ⌜ count ≤ 14 ⌝ }
+    ensures { λ r. ⌜ r ≡ equalUpTo xs ys count ⌝ }
+{
+    let mut i: usize = 0;
+    while i < count {
+        if !equal(xs[i], ys[i]) {
+            return false;
+        }
+        i += 1;
+    }
+    true
+}
