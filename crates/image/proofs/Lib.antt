@@ -7,4 +7,8 @@ pub mod LawsBody
 pub mod LawsPlayed
 pub mod LawsEqual
 pub mod FramePlaces
+pub mod Parts
+pub mod Shapes
+pub mod BlockFrames
+pub mod Joined
 mod EntryTurns
