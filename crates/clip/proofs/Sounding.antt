@@ -38,6 +38,11 @@ blocks-all n b L =
     let h : 8 * framesOf n + b - 1 < suc kk * b = div-lt-iff-lt-mul {x = 8 * framesOf n + b - 1} {y = suc kk} z .0 (omega arith) in
     omega (arith, suc-mul kk b, block-place b kk (L .eights))
 
+-- a frame's first byte is among the bodies
+pub frame-place : (n q : ℕ) → q < framesOf n → 8 * q + 0 < bodyOf n
+unfolding bodyOf
+frame-place n q h = omega arith
+
 -- whole frames before the last one of block j, and the samples of that last one
 unfoldable pub wholes : ℕ → ℕ → ℕ → ℕ
 wholes n b j = cond (ltb (j * (b / 8) + b / 8) (framesOf n)) (b / 8 - 1) (framesOf n - 1 - j * (b / 8))
@@ -73,6 +78,11 @@ module _ (n b j : ℕ) (L : Limits n b) (few : j < blocksOf n b) where
           let f = block-first n b j L few in
           let m = last-few n in
           (refl, m, omega (arith, body-is n), omega arith)
+
+-- the frame of a sample
+pub frame-of : (n i : ℕ) → i < n → i / 14 < framesOf n
+unfolding framesOf
+frame-of n i h = omega arith
 
 -- a sample of the last frame
 last-place : (n i : ℕ) → i < n → framesOf n - 1 ≤ i / 14 → (i / 14 ≡ framesOf n - 1) × (i % 14 < lastOf n)

@@ -32,6 +32,10 @@ pub record Legal (g : Start) (xs : List ℤ) (c : Bool) : Type 0 where
 closed-not : _≡_ {A = Bool} false true → ⊥
 closed-not z = let q : _≡_ {A = ℕ} 0 1 = ap (λ (t : Bool). cond t 1 0) z in omega arith
 
+-- an open clip
+pub open-legal : (g : Start) (xs : List ℤ) → length xs ≤ g .total → Legal g xs false
+open-legal g xs h = record { few = h; all = λ z. absurd (closed-not z) }
+
 pub image-length : (g : Start) → Fine g → (xs : List ℤ) (c : Bool) → length (imageOf g xs c) ≡ sizeOf (g .total) (g .block)
 image-length g F xs true = ap length (image-built g xs true) ∙ built-length g F mark refl xs (framesOf (g .total))
 image-length g F xs false = ap length (image-built g xs false) ∙ built-length g F noMark refl xs (length xs / 14)
@@ -66,7 +70,7 @@ long-enough g F rest xs c =
 -- ---- each call
 
 -- what a call leaves, by the plain machine
-abbrev next : Start → List ℕ → List ℤ → Bool → Answer → Call → Both
+abbrev pub next : Start → List ℕ → List ℤ → Bool → Answer → Call → Both
 next g rest xs c a k = let m = plainNext a (plain xs c) k in followed g rest (m .samples) (m .closed)
 
 module _ (g : Start) (xs : List ℤ) where
@@ -110,7 +114,7 @@ module _ (g : Start) (F : Fine g) (rest : List ℕ) (xs : List ℤ) where
   close-by true L Accepted e = absurd (never e)
   close-by false L Accepted e = ap (outOf Accepted) (end-follows g F rest xs (close-open g xs false L e))
 
-  call-follows : (c : Bool) → Legal g xs c → (k : Call) → callOf (followed g rest xs c) k ≡ outOf (plainAnswer g (plain xs c) k) (next g rest xs c (plainAnswer g (plain xs c) k) k)
+  pub call-follows : (c : Bool) → Legal g xs c → (k : Call) → callOf (followed g rest xs c) k ≡ outOf (plainAnswer g (plain xs c) k) (next g rest xs c (plainAnswer g (plain xs c) k) k)
   unfolding feedOf closeOf followed
   call-follows c L (feeds p) = ap (λ (a : Answer). feedBy a (followed g rest xs c) p) (feed-answered c L p) ∙ feed-by c L p (plainAnswer g (plain xs c) (feeds p)) refl
   call-follows c L closes = ap (λ (a : Answer). closeBy a (followed g rest xs c)) (close-answered c L) ∙ close-by c L (plainAnswer g (plain xs c) closes) refl
@@ -181,20 +185,17 @@ module _ (n rate size gain : ℕ) (cs : List ℤ) (h : History) (l : List ℕ) w
       ∙ ap (λ (r : List ℕ). outOf Accepted (both (beginning n rate b gain cs h) r))
       (sets-eq fresh l 0 (omega (arith, s .size)) ∙ ap (λ (k : ℕ). fresh ++ drop k l) e0 ∙ ap (λ (r : List ℕ). r ++ drop (sizeOf n b) l) (fresh-image begun))
 
-  none-yet : Legal begun [] false
-  none-yet = record { few = omega arith; all = λ z. absurd (closed-not z) }
-
   -- Demand 3 for feeding and closing. From an accepted start, for every list of feedings and closings on its buffer, refused ones included:
   -- each answer, the state's passes and the buffer's first S bytes are the plain machine's.
   pub encoding-runs : length cs ≡ 16 → startOf n rate size gain cs h l .answer ≡ Accepted → (ks : List Call)
       → run (sizeOf n (cutDown size)) (left (startOf n rate size gain cs h l)) ks ≡ plainRun begun (plain [] false) ks
   encoding-runs sixteen ok ks =
       ap (λ (o : Out). run (sizeOf n (cutDown size)) (left o) ks) (start-follows sixteen ok)
-      ∙ runs-follow begun (start-fine sixteen ok) (drop (sizeOf n (cutDown size)) l) [] false none-yet ks
+      ∙ runs-follow begun (start-fine sixteen ok) (drop (sizeOf n (cutDown size)) l) [] false (open-legal begun [] (omega arith)) ks
 
   -- and after them the whole state and the whole buffer are functions of the start and of X; bytes from S on are as they were
   pub encoding-states : length cs ≡ 16 → startOf n rate size gain cs h l .answer ≡ Accepted → (ks : List Call)
       → after (left (startOf n rate size gain cs h l)) ks ≡ (let m = plainAfter begun (plain [] false) ks in followed begun (drop (sizeOf n (cutDown size)) l) (m .samples) (m .closed))
   encoding-states sixteen ok ks =
       ap (λ (o : Out). after (left o) ks) (start-follows sixteen ok)
-      ∙ states-follow begun (start-fine sixteen ok) (drop (sizeOf n (cutDown size)) l) [] false none-yet ks
+      ∙ states-follow begun (start-fine sixteen ok) (drop (sizeOf n (cutDown size)) l) [] false (open-legal begun [] (omega arith)) ks

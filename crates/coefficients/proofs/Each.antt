@@ -75,20 +75,29 @@ pub record Each (P Q : ℤ → Type 0) (cs : List ℤ) (i : ℕ) : Type 0 where
   pub even : P (getD cs (2 * i) (pos 0))
   pub odd : Q (getD cs (2 * i + 1) (pos 0))
 
+-- sixteen coefficients
+pairs-length : (vs : List Vec3) (k : ℕ) → length (pairs vs k) ≡ 16
+unfolding pairs
+pairs-length vs zero = length-replicate 16 (pos 0)
+pairs-length vs (suc k) =
+    length-set (set (pairs vs k) (2 * k) (coefficient (getD vs k blank .x1))) (2 * k + 1) (coefficient (getD vs k blank .x2))
+    ∙ length-set (pairs vs k) (2 * k) (coefficient (getD vs k blank .x1))
+    ∙ pairs-length vs k
+
+pub finish-length : (rs : List Record) → length (finish rs) ≡ 16
+unfolding finish
+finish-length rs = go (eqb (length rs) 0)
+  where
+    go : (t : Bool) → length (cond t (replicate 16 (pos 0)) (pairs (vectors rs) 8)) ≡ 16
+    go true = length-replicate 16 (pos 0)
+    go false = pairs-length (vectors rs) 8
+
 module _ (P Q : ℤ → Type 0) (p0 : P (pos 0)) (q0 : Q (pos 0)) where
   zeros-each : (i : ℕ) → i < 8 → Each P Q (replicate 16 (pos 0)) i
   zeros-each i h = record {
     even = subst P (sym (getD-replicate 16 (2 * i) (pos 0) (pos 0) (omega arith))) p0;
     odd = subst Q (sym (getD-replicate 16 (2 * i + 1) (pos 0) (pos 0) (omega arith))) q0;
   }
-
-  pairs-length : (vs : List Vec3) (k : ℕ) → length (pairs vs k) ≡ 16
-  unfolding pairs
-  pairs-length vs zero = length-replicate 16 (pos 0)
-  pairs-length vs (suc k) =
-      length-set (set (pairs vs k) (2 * k) (coefficient (getD vs k blank .x1))) (2 * k + 1) (coefficient (getD vs k blank .x2))
-      ∙ length-set (pairs vs k) (2 * k) (coefficient (getD vs k blank .x1))
-      ∙ pairs-length vs k
 
   step-each : (cs : List ℤ) (k : ℕ) (a b : ℤ) → length cs ≡ 16 → k < 8 → P a → Q b → ((i : ℕ) → i < 8 → Each P Q cs i) → (i : ℕ) → i < 8 → Each P Q (set (set cs (2 * k) a) (2 * k + 1) b) i
   step-each cs k a b e l p q h i s = elim (ℕ-discrete i k) [

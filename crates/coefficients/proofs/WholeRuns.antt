@@ -290,7 +290,7 @@ ask-step xs size m f l = go (plainAnswer size xs asks) refl
         }
     go (Refused r) e = record { shows = rw (by (Refused r) e, e); leaves = rw (by (Refused r) e, e) f; few = rw e l }
 
-call-step : (xs : List ℤ) (size : ℕ) (m : Measuring) (c : Call) → Follows xs size m → length xs ≤ most → Step xs size m c
+pub call-step : (xs : List ℤ) (size : ℕ) (m : Measuring) (c : Call) → Follows xs size m → length xs ≤ most → Step xs size m c
 call-step xs size m (measures p) f l = measure-step xs p size m f l
 call-step xs size m asks f l = ask-step xs size m f l
 
@@ -303,7 +303,7 @@ follows-run (c ∷ cs) xs size m f l =
     let s = call-step xs size m c f l in
     ap₂ (λ (a : Seen) (b : List Seen). a ∷ b) (s .shows) (follows-run cs _ size (callNext m c) (s .leaves) (s .few))
 
-fresh-follows : (s : List Float) → Follows [] (length s) (measuring fresh s)
+pub fresh-follows : (s : List Float) → Follows [] (length s) (measuring fresh s)
 unfolding fresh heldAt leftAt
 fresh-follows s = record { samples = refl; history = refl; records = none s; store = refl }
   where

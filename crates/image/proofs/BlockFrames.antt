@@ -106,11 +106,10 @@ module _ (l : List ℕ) (j : ℕ) (f : Found l j) where
       let t = turn s 14 a c (omega arith) in
       let k : first + suc s ≡ suc (first + s) = add-suc first s in
       let m : (first + suc s) % (blockIn l / 8) ≡ suc s = mul-add-mod-self-right j (blockIn l / 8) (suc s) ∙ mod-eq-of-lt (omega arith) in
-      let o : ((first + suc s) % (blockIn l / 8) ≡ 0) → ⊥ = λ z. omega (arith, m, z) in
-      (
+      let o : ((first + suc s) % (blockIn l / 8) ≡ 0) → ⊥ = λ z. omega (arith, m, z) in (
         ap (λ (x : ℕ). framesIn l x .samples) k ∙ ap (λ (p : Playing). p .samples) t,
         rw (ne-eqb ((first + suc s) % (blockIn l / 8)) 0 o)
-        (ap₂ withHeader (ap (λ (x : ℕ). framesIn l x .context) k ∙ ap (λ (p : Playing). p .context) t) (sym (read-header (suc s) (omega arith)))),
+            (ap₂ withHeader (ap (λ (x : ℕ). framesIn l x .context) k ∙ ap (λ (p : Playing). p .context) t) (sym (read-header (suc s) (omega arith)))),
       )
 
   in-block : (s : ℕ) → s ≤ S .wholes → At s

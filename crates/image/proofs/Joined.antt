@@ -84,8 +84,7 @@ frames-prefix l i zero =
 frames-prefix l i (suc d) =
     let z : suc d + i ≡ suc (d + i) = omega arith in
     let r = frames-prefix l i d in
-    let m = frames-more l (d + i) in
-    (
+    let m = frames-more l (d + i) in (
       rw (z, frames-grow l (d + i)) (take-append-le (length (framesIn l i .samples)) (framesIn l (d + i) .samples) (turnOf l (d + i) .samples) (r .1) ∙ r .0),
       rw z (omega (arith, r .1, m)),
     )

@@ -35,7 +35,13 @@ fn count_of(total: usize, i: usize) -> usize
 }
 
 // What frame i is played from: its block's entry's context, or what the frame before left, under its own header.
-fn context_before(image: &[u8], block: usize, kk: usize, i: usize, before: FrameContext) -> FrameContext
+fn context_before(
+    image: &[u8],
+    block: usize,
+    kk: usize,
+    i: usize,
+    before: FrameContext,
+) -> FrameContext
     requires { ⌜ Source (now image) block kk i ⌝ }
     ensures { λ r. ⌜ r ≡ contextBefore (now (image .entry)) i before ⌝ }
 {

@@ -1,6 +1,6 @@
 -- The closed image of X opens, and says what it was started with.
 use mathlib.Core.Path.{_≡_, refl, sym, ap, ap₂, _∙_, subst}
-use mathlib.Core.Bool.{Bool, true, false, cond, _&&_}
+use mathlib.Core.Bool.{true}
 use mathlib.Core.List.{List, [], _∷_, _++_}
 use Prim.Native.Nat.{ℕ, zero, suc, _+_, _-_, _*_, _/_, _%_, _≤_, _<_}
 use native.Mathlib.Omega.{arith}
@@ -15,22 +15,17 @@ use mir.ValLaws.{toZ-ofZ}
 use Rattle.frame.specs.Choice.{c0At, c1At}
 use Rattle.frame.specs.Frame.{pairWithin, within, withinLimits}
 use Rattle.frame.proofs.LawsFrame.{within-pair}
-use Rattle.frame.proofs.LawsPass.{FitHistory}
-use Rattle.block.specs.declared.FrameContext.{FrameContext}
-use Rattle.block.specs.Context.{contextOf}
-use Rattle.clip.specs.Facts.{Limits}
 use Rattle.clip.specs.Image.{at16, at32, mark, headOf}
-use Rattle.clip.specs.Sizes.{framesOf, lastOf, blocksOf, bodyOf, sizeOf, offsetOf, lengthOf}
-use Rattle.clip.specs.Runs.{Start, historyAt, encodedAt, imageOf}
+use Rattle.clip.specs.Sizes.{framesOf, blocksOf, sizeOf, offsetOf}
+use Rattle.clip.specs.Runs.{Start, historyAt, encodedAt}
 use Rattle.clip.proofs.Sizing.{block-first}
 use Rattle.clip.proofs.Sound.{both-true}
-use Rattle.clip.proofs.Built.{Fine, headed, listed, filled, built, built-length}
+use Rattle.clip.proofs.Built.{Fine, listed, filled, built, built-length}
 use Rattle.clip.proofs.Readback as read
-use Rattle.clip.proofs.Sounding.{block-place, block-parts, wholes, ending}
+use Rattle.clip.proofs.Sounding.{block-place, block-parts}
 use Rattle.clip.proofs.Replay.{Audible, contextBefore, history-sampled}
 use Rattle.image.specs.declared.Answer.the-variants.{Accepted}
-use Rattle.image.specs.declared.Head.{Head}
-use Rattle.image.specs.Reading.{totalIn, rateIn, blockIn, gainIn, zeroIn, blocksIn, signedAt, coefficientsUpTo, coefficientsIn, headIn, offsetIn, lengthIn, headerIn, newestIn, olderIn, entryZeroIn}
+use Rattle.image.specs.Reading.{totalIn, rateIn, blockIn, gainIn, zeroIn, blocksIn, signedAt, coefficientsUpTo, coefficientsIn, offsetIn, lengthIn, headerIn, newestIn, olderIn, entryZeroIn}
 use Rattle.image.specs.Opened.{markOk, openAnswer}
 use Rattle.image.specs.Facts.{Headed, Entry, Opens}
 use Rattle.image.specs.Samples.{contextIn}
@@ -151,7 +146,7 @@ module _ (g : Start) (F : Fine g) (xs : List ℤ) (rest : List ℕ) where
         ap (λ (k : ℕ). getD image k 0) e
         ∙ read.body-at g F xs (framesOf (g .total)) rest (j * (g .block / 8)) 0 first-frame (omega arith) (omega (arith, p .2))
 
-    entry-made : Entry image (g .total) (g .block) j
+    pub entry-made : Entry image (g .total) (g .block) j
     unfolding offsetIn lengthIn entryZeroIn
     entry-made =
         record {

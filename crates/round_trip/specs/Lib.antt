@@ -1,0 +1,3 @@
+-- What the theorems cite.
+pub mod Job
+pub mod Outcome
