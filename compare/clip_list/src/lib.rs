@@ -1,0 +1,28 @@
+//! Lists of calls on clips, and the answers, states and images that the Rust's blocks give.
+//!
+//! A line of a list has 182 bytes: a letter, a record of 90 bytes in hexadecimal digits, and the line's end. The record: 0 the
+//! length of the image buffer that the call is lent (two bytes), 2 whether the answer has the buffer's bytes, 3 how many samples
+//! there are, or whether the clip is closed; at 4 the samples, or 4 N, 8 rate, 12 block size (four bytes each), 16 gain,
+//! 18 coefficients, 50 the newest and the older history sample (two bytes each), 54 n, 58 passes (four bytes each), 62 the
+//! unfinished frame. `n` fills the buffer, byte i with i modulo 251; `p` puts a state; `s` starts a clip; `b` adds the samples to
+//! the piece that is to come; `f` does the same and feeds that piece; `c` closes.
+//!
+//! A line answers each `s`, `f` and `c`: 00 or the refusal's number, the state's fields in the record's order from N on, whether
+//! it is closed, the digest of the lent buffer, and the buffer's bytes where the line asks for them. Bodies, lengths, contexts, the
+//! history and the passes are the Rust's; how an image is made of them, and the numbers of the refusals, are document 01's.
+
+mod case;
+mod cases;
+mod codes;
+mod image;
+mod machine;
+mod random;
+mod state;
+
+pub use case::{Case, MOST_ROOM, Step};
+pub use cases::cases;
+pub use codes::image_size;
+pub use image::image_of;
+pub use machine::Machine;
+pub use random::random_clip;
+pub use state::{Start, State};

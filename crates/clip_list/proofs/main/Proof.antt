@@ -1,0 +1,49 @@
+-- `main` is safe and ends. Assumes nothing.
+use borrow.Author.Needs.{needs}
+use Rattle.clip_list.proofs.main.Statement.{statement}
+use Rattle.clip_list.proofs.main.Tie as tie
+
+abbrev Inv-loop : tie.InvT-loop
+Inv-loop piece₀ image₀ state₀ turns₀ piece image state turns = Unit {0}
+
+abbrev μ-loop : tie.MeasureT-loop
+μ-loop piece₀ image₀ state₀ turns₀ piece image state turns = turns
+
+encoder-of-requires : tie.Need-encoder-of-requires Inv-loop μ-loop
+encoder-of-requires c κs = search needs
+
+loop-holds : tie.Need-loop-holds Inv-loop μ-loop
+loop-holds c = search needs
+
+replay-requires : tie.Need-replay-requires Inv-loop μ-loop
+replay-requires c κs = search needs
+
+sub-turns : tie.Need-sub-turns Inv-loop μ-loop
+sub-turns c = search needs
+
+loop-less : tie.Need-loop-less Inv-loop μ-loop
+loop-less c = search needs
+
+loop-again : tie.Need-loop-again Inv-loop μ-loop
+loop-again c = search needs
+
+returns : tie.Need-returns Inv-loop μ-loop
+returns c = search needs
+
+returns-2 : tie.Need-returns-2 Inv-loop μ-loop
+returns-2 c = search needs
+
+pub main-spec : {M : Type 1} → statement M
+main-spec =
+    tie.close
+    (tie.spec
+    Inv-loop
+    μ-loop
+    encoder-of-requires
+    loop-holds
+    replay-requires
+    sub-turns
+    loop-less
+    loop-again
+    returns
+    returns-2)

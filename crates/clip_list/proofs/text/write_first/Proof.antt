@@ -1,0 +1,22 @@
+-- `write_first` is safe. Assumes nothing.
+use native.Mathlib.Omega.{arith}
+use lib.ListN.{length-take}
+use borrow.Author.Needs.{needs}
+use Rattle.clip_list.proofs.text.write_first.Statement.{statement}
+use Rattle.clip_list.proofs.text.write_first.Tie as tie
+
+least-requires : tie.Need-least-requires
+least-requires c κs = search needs
+
+slice-aggregate-write-all : tie.Need-slice-aggregate-write-all
+slice-aggregate-write-all c = simp length-take (omega arith)
+
+write-all-requires : tie.Need-write-all-requires
+write-all-requires c κs = search needs
+
+returns : tie.Need-returns
+returns c = search needs
+
+pub write-first-spec : {M : Type 1} → statement M
+write-first-spec =
+    tie.close (tie.spec least-requires slice-aggregate-write-all write-all-requires returns)

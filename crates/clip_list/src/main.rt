@@ -1,0 +1,166 @@
+// Replays a list of calls on clips of which the Rust's answers are known. A line of the input is a letter and a record of 90 bytes in
+// hexadecimal digits of lower case: 0 the length of the image buffer that the call is lent (two bytes), 2 whether the answer has the
+// buffer's bytes, 3 how many samples there are, or whether the clip is closed; at 4 the samples, or 4 N, 8 rate, 12 block size (four bytes
+// each), 16 gain, 18 coefficients, 50 the newest and the older history sample (two bytes each), 54 n, 58 passes (four bytes each), 62 the
+// unfinished frame. n fills the buffer, byte i with i modulo 251; p puts a state; s starts a clip; b adds the samples to the piece that
+// is to come; f does the same and feeds that piece; c closes. s, f and c are answered by a line: 00 or the refusal's number, the
+// state's fields from N on, closed, the digest of the lent buffer, and its bytes where the line asks for them.
+mod numbers;
+mod record;
+mod text;
+
+use clip::Answer;
+use clip::Encoder;
+use clip::Encoding;
+use numbers::least;
+use record::add;
+use record::coefficients_of;
+use record::double_word;
+use record::encoder_of;
+use record::history_of;
+use record::unhex;
+use record::word;
+use text::write_line;
+
+// The encoding state, the samples of the piece that is to come, and whether the list goes on.
+struct State {
+    encoder: Encoder,
+    pending: usize,
+    more: bool,
+}
+
+// A new image buffer.
+fn fill(image: &mut [u8; 4096]) {
+    let mut i: usize = 0;
+    while i < 4096 {
+        image[i] = (i % 251) as u8;
+        i += 1;
+    }
+}
+
+// Writes what a call answers and leaves; the next piece is empty.
+fn answered(done: Encoding, image: &[u8], shown: bool) -> State {
+    let answer = done.answer;
+    let encoder = done.encoder;
+    let code = match answer {
+        Answer::Accepted => 0,
+        Answer::Refused(why) => clip::code(why),
+    };
+    let mut text = [0u8; 8704];
+    let more = write_line(&mut text, code, encoder, image, shown);
+    State {
+        encoder,
+        pending: 0,
+        more,
+    }
+}
+
+fn start(record: &[u8; 90], image: &mut [u8], shown: bool) -> State {
+    let coefficients = coefficients_of(record);
+    let history = history_of(record);
+    let done = clip::start(
+        double_word(record, 4),
+        double_word(record, 8),
+        double_word(record, 12),
+        word(record, 16) as u16,
+        coefficients,
+        history,
+        image,
+    );
+    answered(done, image, shown)
+}
+
+fn feed(encoder: Encoder, piece: &[i16], pending: usize, image: &mut [u8], shown: bool) -> State {
+    let n = least(pending, piece.len());
+    let done = clip::feed(encoder, &piece[..n], image);
+    answered(done, image, shown)
+}
+
+fn close(encoder: Encoder, image: &mut [u8], shown: bool) -> State {
+    let done = clip::close(encoder, image);
+    answered(done, image, shown)
+}
+
+// Makes the call of a letter on the first bytes of the buffer.
+fn call(
+    letter: u8,
+    record: &[u8; 90],
+    encoder: Encoder,
+    piece: &[i16],
+    pending: usize,
+    image: &mut [u8],
+) -> State {
+    let room = least(word(record, 0) as usize, image.len());
+    let shown = record[2] != 0;
+    if letter == b's' {
+        return start(record, &mut image[..room], shown);
+    }
+    if letter == b'f' {
+        return feed(encoder, piece, pending, &mut image[..room], shown);
+    }
+    close(encoder, &mut image[..room], shown)
+}
+
+// Replays a line.
+fn turn(
+    letter: u8,
+    record: &[u8; 90],
+    state: State,
+    piece: &mut [i16; 2048],
+    image: &mut [u8; 4096],
+) -> State {
+    let mut encoder = state.encoder;
+    let mut pending = state.pending;
+    if letter == b's' || letter == b'c' {
+        return call(letter, record, encoder, piece, pending, image);
+    }
+    if letter == b'n' {
+        fill(image);
+    } else if letter == b'p' {
+        encoder = encoder_of(record);
+    } else {
+        pending = add(record, piece, pending);
+        if letter == b'f' {
+            return call(letter, record, encoder, piece, pending, image);
+        }
+    }
+    State {
+        encoder,
+        pending,
+        more: true,
+    }
+}
+
+// Reads a line and replays it.
+fn replay(state: State, piece: &mut [i16; 2048], image: &mut [u8; 4096]) -> State {
+    let mut line = [0u8; 182];
+    let n = io::read_full(0, &mut line);
+    if n < 182 {
+        let encoder = state.encoder;
+        return State {
+            encoder,
+            pending: 0,
+            more: false,
+        };
+    }
+    let mut record = [0u8; 90];
+    unhex(&line, &mut record);
+    turn(line[0], &record, state, piece, image)
+}
+
+fn main() {
+    let mut piece = [0i16; 2048];
+    let mut image = [0u8; 4096];
+    let nothing = [0u8; 90];
+    let encoder = encoder_of(&nothing);
+    let mut state = State {
+        encoder,
+        pending: 0,
+        more: true,
+    };
+    let mut turns: u32 = 4_000_000_000;
+    while turns > 0 && state.more {
+        state = replay(state, &mut piece, &mut image);
+        turns -= 1;
+    }
+}
