@@ -3,12 +3,13 @@
 use crate::case::{Case, Step};
 use crate::codes::image_size;
 use crate::machine::Machine;
+use crate::refusals::{refused_calls, refused_starts, refused_states};
 use crate::state::{Start, State};
 use oracle::random::Random;
 use oracle::{Coefficients, History};
 
 /// The lowest and the highest sample.
-const LOW: i16 = i16::MIN;
+pub const LOW: i16 = i16::MIN;
 const HIGH: i16 = i16::MAX;
 
 /// Extreme histories.
@@ -28,7 +29,8 @@ pub fn cases() -> Vec<Case> {
         refused_calls(&mut random),
         refused_states(&mut random),
         stale(&mut random),
-        again(&mut random),
+        on_used_buffers(&mut random),
+        from_any_state(&mut random),
     ];
     lists.concat()
 }
@@ -135,7 +137,7 @@ fn cuts(random: &mut Random) -> Vec<Case> {
 }
 
 /// Eight times the same pair.
-fn pairs(c0: i16, c1: i16) -> Coefficients {
+pub fn pairs(c0: i16, c1: i16) -> Coefficients {
     std::array::from_fn(|place| [c0, c1][place % 2])
 }
 
@@ -184,147 +186,6 @@ fn show(step: &mut Step) {
     }
 }
 
-/// A start of each badness and of several, each followed by calls on the state that it gives.
-fn refused_starts(random: &mut Random) -> Vec<Case> {
-    let good = start(random, 29, 17);
-    let size = image_size(29, 16) as usize;
-    let mut starts = vec![];
-    for total in [0, 14_680_064, 14_680_065, u32::MAX] {
-        starts.push((Start { total, ..good.clone() }, size));
-    }
-    for wanted in [0, 7, 8, 15, 65_536, 65_537, u32::MAX] {
-        starts.push((Start { size: wanted, ..good.clone() }, size));
-    }
-    for place in 0..16 {
-        let limit = [4096, 2048][place % 2];
-        for coefficient in [limit, limit + 1, -limit - 1, LOW] {
-            let mut coefficients = good.coefficients;
-            coefficients[place] = coefficient;
-            starts.push((Start { coefficients, ..good.clone() }, size));
-        }
-    }
-    starts.extend([0, 56, size - 1, size].map(|room| (good.clone(), room)));
-    for bad in 0..32_usize {
-        let is_bad = |place: usize| bad >> place & 1 == 1;
-        let start = Start {
-            total: if is_bad(0) { 14_680_065 } else { 29 },
-            rate: if is_bad(1) { 0 } else { 32_000 },
-            size: if is_bad(2) { 7 } else { 17 },
-            coefficients: if is_bad(3) { pairs(0, 2049) } else { good.coefficients },
-            ..good.clone()
-        };
-        starts.push((start, if is_bad(4) { size - 1 } else { size }));
-    }
-    let one = |(start, room): (Start, usize)| Step::Start { start, room, shown: false };
-    let mut steps = vec![Step::New];
-    steps.extend(starts.into_iter().map(one));
-    let mut refused =
-        Step::Start { start: Start { rate: 0, ..good.clone() }, room: size, shown: true };
-    show(&mut refused);
-    let after = [
-        Step::New,
-        refused,
-        Step::Feed { piece: vec![], room: size, shown: true },
-        Step::Close { room: size, shown: true },
-    ];
-    vec![Case(steps), Case(after.to_vec())]
-}
-
-/// Calls that are refused by 8, 9, 10 and 11, alone and together, before and after closing, none of which leaves a trace.
-fn refused_calls(random: &mut Random) -> Vec<Case> {
-    let mut cases = vec![];
-    for (total, size) in [(1, 8), (14, 8), (29, 16), (28, 8)] {
-        let samples = random.clip(total);
-        let start = start(random, total, size);
-        let room = image_size(start.total, start.block()) as usize;
-        let mut steps = vec![Step::New, Step::Start { start, room, shown: false }];
-        let half = total / 2;
-        for (from, to) in [(0, half), (half, total)] {
-            steps.extend(refused_by_all(total - from, room));
-            let piece = samples[from..to].to_vec();
-            steps.push(Step::Feed { piece, room, shown: false });
-        }
-        steps.extend(refused_by_all(0, room));
-        steps.push(Step::Close { room, shown: true });
-        steps.extend(refused_by_all(0, room));
-        steps.push(Step::Close { room, shown: true });
-        cases.push(Case(steps));
-    }
-    cases
-}
-
-/// A piece that is too long by one or by many, on a buffer that is long enough or too short; and closing with samples left.
-fn refused_by_all(left: usize, room: usize) -> Vec<Step> {
-    let feed = |len, room| Step::Feed { piece: vec![-5; len], room, shown: false };
-    let mut steps = vec![
-        feed(left + 1, room),
-        feed(left + 900, room),
-        feed(left + 1, room - 1),
-        feed(0, room - 1),
-        feed(0, 0),
-        feed(0, room),
-        Step::Close { room: room - 1, shown: false },
-    ];
-    if left > 0 {
-        steps.push(Step::Close { room, shown: false });
-    }
-    steps
-}
-
-/// Each reason for which a state is refused, on both sides of its limit.
-fn refused_states(random: &mut Random) -> Vec<Case> {
-    let samples = random.tone(29);
-    let start = start(random, samples.len(), 16);
-    let room = image_size(start.total, start.block()) as usize + 3;
-    let good = after(&Case::clip(&start, &[&samples[..20]], 3).0[..3]);
-    let full = State { fed: 29, ..good.clone() };
-    let closed = State { closed: true, ..full.clone() };
-    let with = |place: usize, coefficient: i16| {
-        let mut state = good.clone();
-        state.coefficients[place] = coefficient;
-        state
-    };
-    let mut states = vec![
-        State { fed: 30, ..good.clone() },
-        State { fed: u32::MAX, ..good.clone() },
-        State { total: 0, fed: 0, passes: 0, ..good.clone() },
-        State { total: 14_680_065, ..good.clone() },
-        State { total: 14_680_064, ..good.clone() },
-        State { total: u32::MAX, ..good.clone() },
-        State { rate: 0, ..good.clone() },
-        State { rate: 1, ..good.clone() },
-        State { closed: true, ..good.clone() },
-        State { closed: true, fed: 28, ..good.clone() },
-        State { passes: 104, ..good.clone() },
-        State { passes: 105, ..good.clone() },
-        State { passes: u32::MAX, ..good.clone() },
-        State { passes: 208, ..full.clone() },
-        State { passes: 209, ..full.clone() },
-        State { passes: 312, ..closed.clone() },
-        State { passes: 313, ..closed.clone() },
-        State { fed: 13, passes: 1, ..good.clone() },
-        State { fed: 13, passes: 0, ..good.clone() },
-        State::default(),
-    ];
-    states.extend(
-        [0, 4, 7, 9, 12, 65_535, 65_544, u32::MAX].map(|block| State { block, ..good.clone() }),
-    );
-    states.extend([8, 24, 65_536].map(|block| State { block, ..good.clone() }));
-    for place in 0..16 {
-        let limit = [4096, 2048][place % 2];
-        states.extend([with(place, limit + 1), with(place, -limit - 1), with(place, -limit)]);
-    }
-    let calls = |state: State| {
-        let put = Step::Put(state);
-        let feed = Step::Feed { piece: vec![1, -2], room, shown: false };
-        let short = Step::Feed { piece: vec![0; 40], room: 3, shown: false };
-        [put.clone(), feed, put.clone(), short, put, Step::Close { room, shown: false }]
-    };
-    let mut steps = vec![Step::New];
-    steps.extend(states.into_iter().flat_map(calls));
-    vec![Case(steps)]
-}
-
 /// The state after some steps.
 pub fn after(steps: &[Step]) -> State {
     let mut machine = Machine::default();
@@ -360,8 +221,8 @@ pub fn with_tail(random: &mut Random, mut state: State) -> State {
     state
 }
 
-/// Clips on the buffer of a longer one, and states that no run gave: any history, frame and passes, in the midst of a block.
-fn again(random: &mut Random) -> Vec<Case> {
+/// Clips on the buffer of a longer one.
+fn on_used_buffers(random: &mut Random) -> Vec<Case> {
     let mut cases = vec![];
     for total in [60, 61, 70] {
         let samples = random.tone(total);
@@ -372,17 +233,20 @@ fn again(random: &mut Random) -> Vec<Case> {
         }
         cases.push(Case(steps));
     }
+    cases
+}
+
+/// States that no run gave, with any history, frame and most passes, within frames and blocks.
+fn from_any_state(random: &mut Random) -> Vec<Case> {
+    let mut cases = vec![];
     for fed in [0, 5, 14, 30, 42, 55, 69, 70] {
         let clip = start(random, 70, 24);
         let room = image_size(70, 24) as usize + 7;
-        let state = State { fed, passes: fed / 14 * 104, ..clip.state() };
+        let frame = std::array::from_fn(|_| random.sample());
+        let state = State { fed, passes: fed / 14 * 104, frame, ..clip.state() };
         let piece = random.clip(70 - fed as usize);
-        let mut steps = vec![Step::New, Step::Put(with_tail(random, state.clone()))];
-        let lead = &mut steps[1];
-        if let Step::Put(state) = lead {
-            state.frame[..fed as usize % 14].copy_from_slice(&random.clip(fed as usize % 14));
-        }
         let feed = |piece: &[i16]| Step::Feed { piece: piece.to_vec(), room, shown: true };
+        let mut steps = vec![Step::New, Step::Put(state)];
         steps.extend(every(&piece, 27).into_iter().map(feed));
         steps.push(Step::Close { room, shown: true });
         cases.push(Case(steps));

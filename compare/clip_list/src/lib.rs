@@ -17,6 +17,8 @@ mod codes;
 mod image;
 mod machine;
 mod random;
+mod refusals;
+mod run;
 mod state;
 
 pub use case::{Case, MOST_ROOM, Step};
