@@ -10,8 +10,9 @@ use lib.ListN.{length}
 use Rattle.clip.specs.Facts.{Limits}
 use Rattle.clip.specs.Sizes.{framesOf, lastOf, blocksOf, bodyOf, sizeOf}
 use Rattle.clip.proofs.Sizing.{frames-some, frames-le, blocks-most, first-block}
-use Rattle.image.specs.Reading.{totalIn, blockIn}
-use Rattle.image.specs.Facts.{Found, Source}
+use Rattle.image.specs.declared.Head.{Head}
+use Rattle.image.specs.Reading.{totalIn, blockIn, headIn}
+use Rattle.image.specs.Facts.{Found, Source, Turn}
 use Rattle.image.specs.Frames.{countOf, frameIn}
 
 pub count-whole : (n i : ℕ) → i + 1 < framesOf n → countOf n i ≡ 14
@@ -73,3 +74,14 @@ module _ (l : List ℕ) (block kk i : ℕ) (s : Source l block kk i) where
   -- a block has a frame
   pub per-some : 0 < block / 8
   per-some = let w = s .opens .head .limits .wide in let e = s .size in omega arith
+
+-- B and K as they stand in the head that was read
+pub turn-source : (l : List ℕ) (head : Head) (i count : ℕ) → Turn l head i count → Source l (head .block) (head .blocks) i
+unfolding headIn
+turn-source l head i count t =
+    record {
+      opens = t .opens;
+      size = ap (λ (h : Head). h .block) (t .read);
+      blocks = ap (λ (h : Head). h .blocks) (t .read) ∙ t .opens .head .blocks;
+      frame = t .frame;
+    }

@@ -72,7 +72,7 @@ module _ (n b k : ℕ) (L : Limits n b) (h : k < blocksOf n b) where
 
 -- ---- what an accepted call tells
 
-and-then : (a b : Answer) → andThen a b ≡ Accepted → (a ≡ Accepted) × (b ≡ Accepted)
+pub and-then : (a b : Answer) → andThen a b ≡ Accepted → (a ≡ Accepted) × (b ≡ Accepted)
 and-then Accepted b p = (refl, p)
 and-then (Refused r) b p = absurd (let z : _≡_ {A = ℕ} 0 1 = cc in omega arith)
 

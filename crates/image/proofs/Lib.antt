@@ -11,4 +11,6 @@ pub mod Parts
 pub mod Shapes
 pub mod BlockFrames
 pub mod Joined
+pub mod LawsSame
+mod LawsTurn
 mod EntryTurns

@@ -6,7 +6,9 @@ use Prim.Native.Nat.{ℕ, _≤_, _<_}
 use lib.ListN.{length, getD}
 use Rattle.clip.specs.Facts.{Limits}
 use Rattle.clip.specs.Sizes.{framesOf, blocksOf, sizeOf, offsetOf, lengthOf}
-use Rattle.image.specs.Reading.{totalIn, rateIn, blockIn, zeroIn, blocksIn, offsetIn, lengthIn, headerIn, entryZeroIn}
+use Rattle.image.specs.declared.Head.{Head}
+use Rattle.image.specs.Frames.{countOf}
+use Rattle.image.specs.Reading.{totalIn, rateIn, blockIn, zeroIn, blocksIn, headIn, offsetIn, lengthIn, headerIn, entryZeroIn}
 use Rattle.image.specs.Opened.{markOk}
 
 -- a head that 15 does not refuse
@@ -41,3 +43,18 @@ pub record Source (l : List ℕ) (block kk i : ℕ) : Type 0 where
   pub size : block ≡ blockIn l
   pub blocks : kk ≡ blocksOf (totalIn l) (blockIn l)
   pub frame : i < framesOf (totalIn l)
+
+-- frame i of an image that opens, with the head and the count that were read
+pub record Turn (l : List ℕ) (head : Head) (i count : ℕ) : Type 0 where
+  pub opens : Opens l
+  pub read : head ≡ headIn l
+  pub frame : i < framesOf (totalIn l)
+  pub samples : count ≡ countOf (totalIn l) i
+
+-- two images that open and have the same N, with the heads that were read
+pub record Pair (a b : List ℕ) (first second : Head) : Type 0 where
+  pub opens : Opens a
+  pub read : first ≡ headIn a
+  pub others : Opens b
+  pub other : second ≡ headIn b
+  pub total : totalIn a ≡ totalIn b

@@ -40,5 +40,5 @@ frameAt l at count cs c =
     let p = playFrame l at count cs (playing c []) in
     record { samples = sets (replicate 14 (pos 0)) 0 (p .samples); context = p .context }
 
-unfoldable pub nextFrame : List ℕ → List ℤ → ℕ → FrameContext → Frame
-nextFrame l cs i c = frameAt l (frameIn l i) (countOf (totalIn l) i) cs (contextBefore l i c)
+unfoldable pub nextFrame : List ℕ → ℕ → FrameContext → Frame
+nextFrame l i c = frameAt l (frameIn l i) (countOf (totalIn l) i) (coefficientsIn l) (contextBefore l i c)

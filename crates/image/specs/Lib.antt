@@ -1,8 +1,8 @@
 -- What the contracts cite.
 pub mod Reading
 pub mod Opened
-pub mod Facts
 pub mod Bodies
 pub mod Samples
 pub mod Frames
 pub mod Sameness
+pub mod Facts

@@ -3,6 +3,7 @@ ghost use mathlib.Core.Path.{_≡_};
 ghost use Rattle.image.specs.Opened.{openAnswer};
 ghost use Rattle.image.specs.Bodies.{blockAnswer};
 ghost use Rattle.image.specs.Samples.{playAnswer};
+ghost use Rattle.image.specs.Sameness.{compareAnswer, bothAnswer};
 use crate::Answer;
 use crate::Refusal;
 use crate::entries::entries_ok;
@@ -62,6 +63,34 @@ pub(crate) fn play_answer(image: &[u8], k: u32, room: usize) -> Answer
             }
             Answer::Accepted
         }
+        Answer::Refused(why) => Answer::Refused(why),
+    }
+}
+
+// Codes 15, 16 and 13.
+fn compare_answer(image: &[u8]) -> Answer
+    ensures { λ r. ⌜ r ≡ compareAnswer (now (image .entry)) ⌝ }
+{
+    let answer = open_answer(image);
+    match answer {
+        Answer::Accepted => {
+            let cs = read_coefficients(image);
+            if lowest_pair(cs) {
+                return Answer::Refused(Refusal::LowestPair);
+            }
+            Answer::Accepted
+        }
+        Answer::Refused(why) => Answer::Refused(why),
+    }
+}
+
+// Codes 15, 16 and 13 of the first image, then of the second.
+pub(crate) fn both_answer(a: &[u8], b: &[u8]) -> Answer
+    ensures { λ r. ⌜ r ≡ bothAnswer (now (a .entry)) (now (b .entry)) ⌝ }
+{
+    let answer = compare_answer(a);
+    match answer {
+        Answer::Accepted => compare_answer(b),
         Answer::Refused(why) => Answer::Refused(why),
     }
 }

@@ -4,16 +4,15 @@ ghost use Prim.Native.Nat.{_+_, _*_, _≤_, _<_};
 ghost use lib.ListN.{length};
 ghost use Rattle.block.specs.Refusals.{equalUpTo};
 ghost use Rattle.clip.specs.Sizes.{framesOf};
-ghost use Rattle.image.specs.Facts.{Opens, Source};
-ghost use Rattle.image.specs.Reading.{totalIn};
+ghost use Rattle.image.specs.Facts.{Opens, Source, Turn, Pair};
 ghost use Rattle.image.specs.Frames.{countOf, contextBefore, frameAt, nextFrame};
+ghost use Rattle.image.specs.Sameness.{equalSamples, samplesIn, sameSound};
+use crate::Head;
 use crate::bodies::read_context;
-use crate::heading::read_coefficients;
+use crate::heading::read_head;
 use block::FrameContext;
 use block::coefficients::equal;
 use block::play_frame;
-use clip::fields::get32;
-use clip::sizes::blocks;
 use clip::sizes::frames;
 
 // A frame's samples, and the context after them.
@@ -66,18 +65,13 @@ fn frame_at(image: &[u8], at: usize, count: usize, cs: [i16; 16], context: Frame
 }
 
 // Frame i, after what the frame before left.
-fn next_frame(
-    image: &[u8],
-    cs: [i16; 16],
-    block: usize,
-    kk: usize,
-    i: usize,
-    count: usize,
-    before: FrameContext,
-) -> Frame
-    requires { ⌜ Source (now image) block kk i × (count ≡ countOf (totalIn (now image)) i) ⌝ }
-    ensures { λ r. ⌜ r ≡ nextFrame (now (image .entry)) cs i before ⌝ }
+fn next_frame(image: &[u8], head: Head, i: usize, count: usize, before: FrameContext) -> Frame
+    requires { ⌜ Turn (now image) head i count ⌝ }
+    ensures { λ r. ⌜ r ≡ nextFrame (now (image .entry)) i before ⌝ }
 {
+    let block = head.block as usize;
+    let kk = head.blocks as usize;
+    let cs = head.coefficients;
     let context = context_before(image, block, kk, i, before);
     frame_at(image, 56 + 16 * kk + 8 * i, count, cs, context)
 }
@@ -95,4 +89,43 @@ fn equal_part(xs: [i16; 14], ys: [i16; 14], count: usize) -> bool
         i += 1;
     }
     true
+}
+
+// Whether the samples of two images that open and have the same N are equal.
+fn equal_frames(a: &[u8], b: &[u8], first: Head, second: Head) -> bool
+    requires { ⌜ Pair (now a) (now b) first second ⌝ }
+    ensures { λ r. ⌜ r ≡ equalSamples (samplesIn (now (a .entry))) (samplesIn (now (b .entry))) ⌝ }
+{
+    let total = first.total as usize;
+    let f = frames(total);
+    let mut one = FrameContext::new();
+    let mut other = FrameContext::new();
+    let mut i: usize = 0;
+    while i < f {
+        let count = count_of(total, i);
+        let x = next_frame(a, first, i, count, one);
+        let y = next_frame(b, second, i, count, other);
+        let xs = x.samples;
+        let ys = y.samples;
+        if !equal_part(xs, ys, count) {
+            return false;
+        }
+        one = x.context;
+        other = y.context;
+        i += 1;
+    }
+    true
+}
+
+// Whether N and the played samples of two images that open are equal.
+pub(crate) fn same_sound(a: &[u8], b: &[u8]) -> bool
+    requires { ⌜ Opens (now a) × Opens (now b) ⌝ }
+    ensures { λ r. ⌜ r ≡ sameSound (now (a .entry)) (now (b .entry)) ⌝ }
+{
+    let first = read_head(a);
+    let second = read_head(b);
+    if first.total != second.total {
+        return false;
+    }
+    equal_frames(a, b, first, second)
 }

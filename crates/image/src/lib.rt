@@ -4,6 +4,7 @@ ghost use Rattle.block.specs.Frame.{lent};
 ghost use Rattle.image.specs.Opened.{numberOf, noHead, openOf};
 ghost use Rattle.image.specs.Bodies.{blockAnswer, blockBody};
 ghost use Rattle.image.specs.Samples.{effectOf, playOf};
+ghost use Rattle.image.specs.Sameness.{sameOf};
 
 mod bodies;
 mod checks;
@@ -17,9 +18,11 @@ use block::play_bytes;
 use bodies::find_body;
 use bodies::read_context;
 use checks::block_answer;
+use checks::both_answer;
 use checks::open_answer;
 use checks::play_answer;
 use clip::fields::get32;
+use comparing::same_sound;
 use heading::read_coefficients;
 use heading::read_head;
 
@@ -166,5 +169,21 @@ pub fn play(image: &[u8], k: u32, out: &mut [i16]) -> Playback
                 context: context,
             }
         }
+    }
+}
+
+// Whether two images are the same: both open, N is equal and the played samples are equal, whatever their blocks.
+pub fn same(a: &[u8], b: &[u8]) -> SameAnswer
+    ensures { λ r. ⌜ r ≡ sameOf (now (a .entry)) (now (b .entry)) ⌝ }
+{
+    let answer = both_answer(a, b);
+    match answer {
+        Answer::Accepted => {
+            if same_sound(a, b) {
+                return SameAnswer::Same;
+            }
+            SameAnswer::Different
+        }
+        Answer::Refused(why) => SameAnswer::Refused(why),
     }
 }
