@@ -17,4 +17,5 @@ pub mod Sounding
 pub mod Following
 pub mod WholeRuns
 pub mod Cuts
+pub mod Tails
 pub mod Worked

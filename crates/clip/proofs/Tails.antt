@@ -1,0 +1,134 @@
+-- Places of the unfinished frame past the samples fed never reach the image.
+use mathlib.Core.Path.{_≡_, refl, sym, ap, ap₂, _∙_, subst}
+use mathlib.Core.Bool.{Bool, true, false, cond}
+use mathlib.Core.List.{List, [], _∷_, _++_, append-nil}
+use Prim.Native.Nat.{ℕ, suc, _+_, _-_, _/_, _%_, _≤_, _<_}
+use native.Mathlib.Omega.{arith}
+use borrow.Author.Tests.{eqb-true, eqb-false}
+use lib.Dec.{eqb}
+use lib.IntN.{ℤ, pos}
+use lib.ListN.{length, take, set, replicate, length-set, length-replicate, drop-of-length-le}
+use lib.Seq.{sets, sets-eq, take-all, take-suc, take-set-le, getD-set-same}
+use Rattle.frame.specs.Frame.{encodeFrame, historyAfter}
+use Rattle.clip.specs.declared.Answer.{Answer}
+use Rattle.clip.specs.declared.Answer.the-variants.{Accepted, Refused}
+use Rattle.clip.specs.declared.Encoder.{Encoder}
+use Rattle.clip.specs.Encoding.{Both, both, storeOf, moved, noFrame, pushOf, pieceOf, endOf, validOf, feedAnswer, feedBy, feedOf, closeAnswer, closeBy, closeOf}
+
+-- the state with another unfinished frame
+abbrev pub framed : Encoder → List ℤ → Encoder
+framed e f = moved e (e .fed) (e .history) f (e .passes) (e .closed)
+
+-- two frames with the same samples fed
+pub record Alike (n : ℕ) (a b : List ℤ) : Type 0 where
+  pub first : length a ≡ 14
+  pub second : length b ≡ 14
+  pub same : take (n % 14) a ≡ take (n % 14) b
+
+-- ---- lists
+
+take-set : (l : List ℤ) (i : ℕ) (x : ℤ) → i < length l → take (suc i) (set l i x) ≡ take i l ++ (x ∷ [])
+take-set l i x h =
+    let n = length-set l i x in
+    take-suc (set l i x) i (pos 0) (omega arith)
+    ∙ ap₂ (λ (a : List ℤ) (y : ℤ). a ++ (y ∷ [])) (take-set-le i l i x (omega arith)) (getD-set-same l i x (pos 0) h)
+
+-- the samples fed and one more
+set-alike : (n : ℕ) (a b : List ℤ) (x : ℤ) → Alike n a b → take (suc (n % 14)) (set a (n % 14) x) ≡ take (suc (n % 14)) (set b (n % 14) x)
+set-alike n a b x s =
+    let p = s .first in
+    let q = s .second in
+    take-set a (n % 14) x (omega arith) ∙ ap (λ (l : List ℤ). l ++ (x ∷ [])) (s .same) ∙ sym (take-set b (n % 14) x (omega arith))
+
+-- a frame that is full
+set-full : (n : ℕ) (a b : List ℤ) (x : ℤ) → Alike n a b → n % 14 ≡ 13 → set a (n % 14) x ≡ set b (n % 14) x
+set-full n a b x s e =
+    let p = length-set a (n % 14) x ∙ s .first in
+    let q = length-set b (n % 14) x ∙ s .second in
+    sym (take-all (suc (n % 14)) (set a (n % 14) x) (omega arith)) ∙ set-alike n a b x s ∙ take-all (suc (n % 14)) (set b (n % 14) x) (omega arith)
+
+-- a frame padded from the samples fed on
+padded-is : (n : ℕ) (a : List ℤ) → length a ≡ 14 → sets a (n % 14) (replicate (14 - n % 14) (pos 0)) ≡ take (n % 14) a ++ replicate (14 - n % 14) (pos 0)
+padded-is n a p =
+    let z : List ℤ = replicate (14 - n % 14) (pos 0) in
+    let l : length z ≡ 14 - n % 14 = length-replicate (14 - n % 14) (pos 0) in
+    let d : length a ≤ n % 14 + length z = omega arith in
+    sets-eq z a (n % 14) (omega arith)
+    ∙ ap (λ (r : List ℤ). (take (n % 14) a ++ z) ++ r) (drop-of-length-le a d)
+    ∙ append-nil (take (n % 14) a ++ z)
+
+padded-same : (n : ℕ) (a b : List ℤ) → Alike n a b → sets a (n % 14) (replicate (14 - n % 14) (pos 0)) ≡ sets b (n % 14) (replicate (14 - n % 14) (pos 0))
+padded-same n a b s =
+    padded-is n a (s .first) ∙ ap (λ (l : List ℤ). l ++ replicate (14 - n % 14) (pos 0)) (s .same) ∙ sym (padded-is n b (s .second))
+
+-- ---- one sample, a piece, the end
+
+-- the same image, and states that differ in such a frame at most
+pub record Unheard (s t : Both) : Type 0 where
+  pub bytes : s .bytes ≡ t .bytes
+  pub frames : Alike (s .encoder .fed) (s .encoder .frame) (t .encoder .frame)
+  pub state : framed (s .encoder) (t .encoder .frame) ≡ t .encoder
+
+module _ (e : Encoder) (l : List ℕ) (f : List ℤ) (x : ℤ) (s : Alike (e .fed) (e .frame) f) where
+  abbrev full : List ℤ → Both
+  full g =
+      let c = encodeFrame (e .history) g (e .coefficients) in
+      both (moved e (e .fed + 1) (historyAfter (e .history) (c .samples) 14) noFrame (e .passes + c .passes) (e .closed)) (storeOf (e .total) (e .block) (e .fed / 14) (c .bytes) (e .history) l)
+
+  abbrev part : List ℤ → Both
+  part g = both (moved e (e .fed + 1) (e .history) g (e .passes) (e .closed)) l
+
+  push-unheard : Unheard (pushOf (both e l) x) (pushOf (both (framed e f) l) x)
+  unfolding pushOf
+  push-unheard = go (eqb (e .fed % 14) 13) refl
+    where
+      go : (t : Bool) → eqb (e .fed % 14) 13 ≡ t → Unheard (cond t (full (set (e .frame) (e .fed % 14) x)) (part (set (e .frame) (e .fed % 14) x))) (cond t (full (set f (e .fed % 14) x)) (part (set f (e .fed % 14) x)))
+      go true q =
+          let r = eqb-true (e .fed % 14) 13 q in
+          subst (λ (g : List ℤ). Unheard (full (set (e .frame) (e .fed % 14) x)) (full g)) (set-full (e .fed) (e .frame) f x s r)
+          (record { bytes = refl; frames = record { first = refl; second = refl; same = refl }; state = refl })
+      go false q =
+          let r = eqb-false (e .fed % 14) 13 q in
+          let n : suc (e .fed % 14) ≡ (e .fed + 1) % 14 = omega arith in
+          record {
+            bytes = refl;
+            frames = record {
+              first = length-set (e .frame) (e .fed % 14) x ∙ s .first;
+              second = length-set f (e .fed % 14) x ∙ s .second;
+              same = subst (λ (k : ℕ). take k (set (e .frame) (e .fed % 14) x) ≡ take k (set f (e .fed % 14) x)) n (set-alike (e .fed) (e .frame) f x s);
+            };
+            state = refl;
+          }
+
+same-both : (s t : Both) → Unheard s t → both (framed (s .encoder) (t .encoder .frame)) (s .bytes) ≡ t
+same-both s t u = ap₂ both (u .state) (u .bytes)
+
+piece-unheard : (xs : List ℤ) (s t : Both) → Unheard s t → Unheard (pieceOf s xs) (pieceOf t xs)
+piece-unheard [] s t u = u
+piece-unheard (x ∷ xs) s t u =
+    piece-unheard xs (pushOf s x) (pushOf t x)
+    (subst (λ (v : Both). Unheard (pushOf s x) (pushOf v x)) (same-both s t u) (push-unheard (s .encoder) (s .bytes) (t .encoder .frame) x (u .frames)))
+
+end-unheard : (e : Encoder) (l : List ℕ) (f : List ℤ) → Alike (e .fed) (e .frame) f → endOf (both e l) ≡ endOf (both (framed e f) l)
+unfolding endOf
+end-unheard e l f s = rw (padded-same (e .fed) (e .frame) f s)
+
+-- ---- the calls
+
+feed-by : (a : Answer) (xs : List ℤ) (s t : Both) → Unheard s t → feedBy a s xs .bytes ≡ feedBy a t xs .bytes
+feed-by Accepted xs s t u = piece-unheard xs s t u .bytes
+feed-by (Refused r) xs s t u = u .bytes
+
+-- what stands past the samples fed is never heard: feeding leaves the same image
+pub feed-unheard : (e : Encoder) (f : List ℤ) (xs : List ℤ) (l : List ℕ) → Alike (e .fed) (e .frame) f → feedOf e xs l .bytes ≡ feedOf (framed e f) xs l .bytes
+unfolding feedOf feedAnswer validOf
+feed-unheard e f xs l s = feed-by (feedAnswer e (length xs) (length l)) xs (both e l) (both (framed e f) l) (record { bytes = refl; frames = s; state = refl })
+
+close-by : (a : Answer) (e : Encoder) (f : List ℤ) (l : List ℕ) → Alike (e .fed) (e .frame) f → closeBy a (both e l) .bytes ≡ closeBy a (both (framed e f) l) .bytes
+close-by Accepted e f l s = ap (λ (t : Both). t .bytes) (end-unheard e l f s)
+close-by (Refused r) e f l s = refl
+
+-- and so does closing
+pub close-unheard : (e : Encoder) (f : List ℤ) (l : List ℕ) → Alike (e .fed) (e .frame) f → closeOf e l .bytes ≡ closeOf (framed e f) l .bytes
+unfolding closeOf closeAnswer validOf
+close-unheard e f l s = close-by (closeAnswer e (length l)) e f l s
