@@ -32,7 +32,9 @@ fn entry_ok(image: &[u8], total: usize, block: usize, kk: usize, j: usize) -> bo
     if get16(image, at + 14) != 0 {
         return false;
     }
-    get16(image, at + 8) == byte(image[offset])
+    let told = get16(image, at + 8);
+    let header = byte(image[offset]);
+    told == header
 }
 
 // Code 16.
