@@ -12,5 +12,6 @@ pub mod Shapes
 pub mod BlockFrames
 pub mod Joined
 pub mod LawsSame
+pub mod Worked
 mod LawsTurn
 mod EntryTurns

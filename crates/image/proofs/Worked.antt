@@ -1,0 +1,46 @@
+-- The worked clip of document 01: the sample 9 with zero coefficients, gain 0, rate 32,000, size 15.
+use mathlib.Core.List.{List, [], _∷_, _++_}
+use mathlib.Core.Path.{_≡_, refl}
+use Prim.Native.Nat.{ℕ}
+use lib.IntN.{ℤ, pos}
+use lib.ListN.{replicate}
+use Rattle.block.specs.Context.{predictorOf, scaleOf, pushSample, withHeader}
+use Rattle.block.specs.Frame.{nibbleAt, nextSample, takeNibble}
+use Rattle.block.specs.Play.{takeHeader, playFrom, play}
+use Rattle.block.specs.Sample.{signedNibble, sampleOf}
+use Rattle.clip.specs.Encoding.{numbersOk}
+use Rattle.clip.specs.Sizes.{framesOf, lastOf, blocksOf, bodyOf, sizeOf, offsetOf, lengthOf}
+use Rattle.whole.specs.Whole.{clamp16}
+use Rattle.image.specs.declared.Answer.the-variants.{Accepted, Refused}
+use Rattle.image.specs.declared.Refusal.the-variants.{BadHead, BadEntry}
+use Rattle.image.specs.Reading.{totalIn, rateIn, blockIn, zeroIn, blocksIn, signedAt, coefficientsUpTo, coefficientsIn, offsetIn, lengthIn, headerIn, newestIn, olderIn, entryZeroIn}
+use Rattle.image.specs.Opened.{markOk, numbersFit, headOk, entryOk, entriesOk, openAnswer}
+use Rattle.image.specs.Bodies.{bodyIn}
+use Rattle.image.specs.Samples.{contextIn}
+use Rattle.image.specs.Sameness.{blockSamples, samplesFrom, samplesIn}
+
+-- the clip with a mark of four bytes, a header in its entry and one before its nibbles
+abbrev pub clip : List ℕ → ℕ → ℕ → List ℕ
+clip mark told header =
+    mark
+    ++ (0 ∷ 0 ∷ 0 ∷ 1 ∷ 0 ∷ 0 ∷ 0x7D ∷ 0 ∷ 0 ∷ 0 ∷ 0 ∷ 8 ∷ [])
+    ++ replicate 36 0
+    ++ (0 ∷ 0 ∷ 0 ∷ 1 ∷ 0 ∷ 0 ∷ 0 ∷ 0x48 ∷ 0 ∷ 0 ∷ 0 ∷ 3 ∷ 0 ∷ told ∷ 0 ∷ 0 ∷ 0 ∷ 0 ∷ 0 ∷ 0 ∷ header ∷ 0x40 ∷ [])
+
+-- it opens, and plays 8
+pub opens : openAnswer (clip (0x44 ∷ 0x53 ∷ 0x50 ∷ 0x43 ∷ []) 1 1) ≡ Accepted
+unfolding openAnswer headOk numbersFit markOk entriesOk entryOk totalIn rateIn blockIn zeroIn blocksIn offsetIn lengthIn headerIn entryZeroIn numbersOk framesOf lastOf blocksOf bodyOf sizeOf offsetOf lengthOf
+opens = refl
+
+pub plays : samplesIn (clip (0x44 ∷ 0x53 ∷ 0x50 ∷ 0x43 ∷ []) 1 1) ≡ pos 8 ∷ []
+unfolding samplesIn samplesFrom blockSamples bodyIn contextIn blocksIn offsetIn lengthIn headerIn newestIn olderIn coefficientsIn coefficientsUpTo signedAt play playFrom takeHeader takeNibble nextSample nibbleAt pushSample withHeader predictorOf scaleOf sampleOf signedNibble clamp16
+plays = refl
+
+-- a mark of zeros, and another header than the body's
+pub unmarked : openAnswer (clip (replicate 4 0) 1 1) ≡ Refused BadHead
+unfolding openAnswer headOk numbersFit markOk entriesOk entryOk totalIn rateIn blockIn zeroIn blocksIn offsetIn lengthIn headerIn entryZeroIn numbersOk framesOf lastOf blocksOf bodyOf sizeOf offsetOf lengthOf
+unmarked = refl
+
+pub other-header : openAnswer (clip (0x44 ∷ 0x53 ∷ 0x50 ∷ 0x43 ∷ []) 2 1) ≡ Refused BadEntry
+unfolding openAnswer headOk numbersFit markOk entriesOk entryOk totalIn rateIn blockIn zeroIn blocksIn offsetIn lengthIn headerIn entryZeroIn numbersOk framesOf lastOf blocksOf bodyOf sizeOf offsetOf lengthOf
+other-header = refl
