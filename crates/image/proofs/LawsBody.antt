@@ -1,6 +1,6 @@
 -- Bodies within an image that opens.
 use mathlib.Core.Bool.{Bool, true, false, cond, _||_}
-use mathlib.Core.List.{List}
+use mathlib.Core.List.{List, []}
 use mathlib.Core.Path.{_≡_, refl, sym, ap, ap₂, _∙_, subst}
 use Prim.Native.Nat.{ℕ, _+_, _-_, _*_, _/_, _≤_, _<_}
 use native.Mathlib.Omega.{arith}
@@ -25,7 +25,7 @@ use Rattle.image.specs.declared.Refusal.the-variants.{NoSuchBlock, Lowes
 use Rattle.image.specs.Reading.{totalIn, blockIn, blocksIn, coefficientsIn, offsetIn, lengthIn, headerIn, newestIn, olderIn}
 use Rattle.image.specs.Opened.{openAnswer}
 use Rattle.image.specs.Facts.{Opens, Found}
-use Rattle.image.specs.Bodies.{andThen, blockAnswer, bodyIn}
+use Rattle.image.specs.Bodies.{andThen, blockAnswer, bodyIn, blockBody}
 use Rattle.image.specs.Samples.{contextIn, playAnswer}
 use Rattle.image.proofs.Accepting.{opened, opens, failed}
 use Rattle.image.proofs.Places.{Within, within, whole-frames}
@@ -144,3 +144,16 @@ module _ (l : List ℕ) (k : ℕ) (f : Found l k) where
   pub found-good : badLength (lengthIn l k) (length (bodyIn l k)) ≡ false
   unfolding badLength
   found-good = rw (ne-eqb (lengthIn l k) 0 (λ z. omega (arith, found-some)), le-ltb (2 * length (bodyIn l k)) (lengthIn l k) (omega (arith, body-length)))
+
+-- a body that is handed back has a byte of header and one of nibbles: an empty part tells a refusal
+pub body-some : (l : List ℕ) (k : ℕ) → blockAnswer l k ≡ Accepted → 2 ≤ length (blockBody l k)
+unfolding blockBody
+body-some l k e =
+    let f = block-accepted l k e in
+    let s = found-some l k f in
+    let n = body-length l k f in
+    rw e (omega arith)
+
+pub body-none : (l : List ℕ) (k : ℕ) (r : Refusal) → blockAnswer l k ≡ Refused r → blockBody l k ≡ []
+unfolding blockBody
+body-none l k r e = rw e

@@ -1,11 +1,11 @@
 // The tests of the calls, in document 01's sequence.
 ghost use mathlib.Core.Path.{_≡_};
 ghost use Rattle.image.specs.Opened.{openAnswer};
-ghost use Rattle.image.specs.Bodies.{blockAnswer};
 ghost use Rattle.image.specs.Samples.{playAnswer};
 ghost use Rattle.image.specs.Sameness.{compareAnswer, bothAnswer};
 use crate::Answer;
 use crate::Refusal;
+use crate::block_answer;
 use crate::entries::entries_ok;
 use crate::heading::head_ok;
 use crate::heading::read_coefficients;
@@ -28,22 +28,6 @@ pub(crate) fn open_answer(image: &[u8]) -> Answer
         return Answer::Refused(Refusal::BadEntry);
     }
     Answer::Accepted
-}
-
-// Codes 15, 16 and 17.
-pub(crate) fn block_answer(image: &[u8], k: u32) -> Answer
-    ensures { λ r. ⌜ r ≡ blockAnswer (now (image .entry)) k ⌝ }
-{
-    let answer = open_answer(image);
-    match answer {
-        Answer::Accepted => {
-            if k >= get32(image, 52) {
-                return Answer::Refused(Refusal::NoSuchBlock);
-            }
-            Answer::Accepted
-        }
-        Answer::Refused(why) => Answer::Refused(why),
-    }
 }
 
 // Codes 15, 16, 17, 13 and 14, for an output of some room.

@@ -17,7 +17,6 @@ use block::address_to_sample;
 use block::play_bytes;
 use bodies::find_body;
 use bodies::read_context;
-use checks::block_answer;
 use checks::both_answer;
 use checks::open_answer;
 use checks::play_answer;
@@ -126,14 +125,23 @@ pub fn open(image: &[u8]) -> Opening
     }
 }
 
-// Whether block k's body can be handed back: codes 15, 16 and 17.
-pub fn find(image: &[u8], k: u32) -> Answer
+// Whether there is a block k, by codes 15, 16 and 17: what `block_body` and `play` ask first.
+pub fn block_answer(image: &[u8], k: u32) -> Answer
     ensures { λ r. ⌜ r ≡ blockAnswer (now (image .entry)) k ⌝ }
 {
-    block_answer(image, k)
+    let answer = open_answer(image);
+    match answer {
+        Answer::Accepted => {
+            if k >= get32(image, 52) {
+                return Answer::Refused(Refusal::NoSuchBlock);
+            }
+            Answer::Accepted
+        }
+        Answer::Refused(why) => Answer::Refused(why),
+    }
 }
 
-// Block k's body, as that part of the image; where `find` refuses, no bytes.
+// Block k's body, as that part of the image; where `block_answer` refuses, no bytes.
 pub fn block_body<'a>(image: &'a [u8], k: u32) -> &'a [u8]
     ensures { λ r. ⌜ now r ≡ blockBody (now (image .entry)) k ⌝ }
 {

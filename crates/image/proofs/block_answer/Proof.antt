@@ -6,8 +6,8 @@ use Rattle.image.specs.Bodies.{blockAnswer}
 use Rattle.image.specs.Reading.{blocksIn}
 use Rattle.image.proofs.Accepting.{opened}
 use borrow.Author.Needs.{needs}
-use Rattle.image.proofs.checks.block_answer.Statement.{statement}
-use Rattle.image.proofs.checks.block_answer.Tie as tie
+use Rattle.image.proofs.block_answer.Statement.{statement}
+use Rattle.image.proofs.block_answer.Tie as tie
 
 open-answer-requires : tie.Need-open-answer-requires
 open-answer-requires c κs = search needs
