@@ -18,4 +18,3 @@ pub mod Following
 pub mod WholeRuns
 pub mod Cuts
 pub mod Tails
-pub mod Worked

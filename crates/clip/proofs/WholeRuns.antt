@@ -95,6 +95,14 @@ module _ (g : Start) (xs : List ℤ) where
   legal-next false L (feeds p) Accepted e = record { few = omega (arith, length-append xs p, feed-open false p L e); all = λ z. absurd (closed-not z) }
   legal-next c L closes Accepted e = record { few = L .few; all = λ z. omega (arith, close-open c L e) }
 
+pub legal-after : (g : Start) (xs : List ℤ) (c : Bool) → Legal g xs c → (ks : List Call) → (let m = plainAfter g (plain xs c) ks in Legal g (m .samples) (m .closed))
+unfolding plainAfter
+legal-after g xs c L [] = L
+legal-after g xs c L (k ∷ ks) =
+    let a = plainAnswer g (plain xs c) k in
+    let m = plainNext a (plain xs c) k in
+    legal-after g (m .samples) (m .closed) (legal-next g xs c L k a refl) ks
+
 module _ (g : Start) (F : Fine g) (rest : List ℕ) (xs : List ℤ) where
   feed-answered : (c : Bool) → Legal g xs c → (p : List ℤ) → feedAnswer (stateOf g xs c) (length p) (length (imageOf g xs c ++ rest)) ≡ plainAnswer g (plain xs c) (feeds p)
   unfolding feedAnswer stateOf
@@ -162,13 +170,13 @@ module _ (n rate size gain : ℕ) (cs : List ℤ) (h : History) (l : List ℕ) w
   answer-by Accepted = refl
   answer-by (Refused r) = refl
 
-  accepted : startOf n rate size gain cs h l .answer ≡ Accepted → startAnswer n rate size cs (length l) ≡ Accepted
+  pub start-answered : startOf n rate size gain cs h l .answer ≡ Accepted → startAnswer n rate size cs (length l) ≡ Accepted
   unfolding startOf
-  accepted ok = sym (answer-by (startAnswer n rate size cs (length l))) ∙ ok
+  start-answered ok = sym (answer-by (startAnswer n rate size cs (length l))) ∙ ok
 
   pub start-fine : length cs ≡ 16 → startOf n rate size gain cs h l .answer ≡ Accepted → Fine begun
   start-fine sixteen ok =
-      let s = start-accepted n rate size cs (length l) (accepted ok) in
+      let s = start-accepted n rate size cs (length l) (start-answered ok) in
       record { limits = s .limits; some = s .some; sixteen = sixteen; within = s .within }
 
   -- an accepted start leaves the state and the image of no sample
@@ -176,12 +184,12 @@ module _ (n rate size gain : ℕ) (cs : List ℤ) (h : History) (l : List ℕ) w
   unfolding startOf followed stateOf historyAt passesOf frameAt
   start-follows sixteen ok =
       let b = cutDown size in
-      let s = start-accepted n rate size cs (length l) (accepted ok) in
+      let s = start-accepted n rate size cs (length l) (start-answered ok) in
       let F = start-fine sixteen ok in
       let fresh = freshOf n rate b cs gain in
       let e : length fresh ≡ sizeOf n b = ap length (fresh-image begun) ∙ image-length begun F [] false in
       let e0 : 0 + length fresh ≡ sizeOf n b = omega arith in
-      ap (λ (a : Answer). startBy a n rate b gain cs h l) (accepted ok)
+      ap (λ (a : Answer). startBy a n rate b gain cs h l) (start-answered ok)
       ∙ ap (λ (r : List ℕ). outOf Accepted (both (beginning n rate b gain cs h) r))
       (sets-eq fresh l 0 (omega (arith, s .size)) ∙ ap (λ (k : ℕ). fresh ++ drop k l) e0 ∙ ap (λ (r : List ℕ). r ++ drop (sizeOf n b) l) (fresh-image begun))
 

@@ -2,15 +2,17 @@
 use mathlib.Core.Path.{_≡_, refl, sym, ap, _∙_, subst}
 use mathlib.Core.Bool.{Bool, true, false, cond, _&&_}
 use mathlib.Core.List.{List, [], _∷_}
-use Prim.Native.Nat.{ℕ, zero, suc, _+_, _-_, _*_, _≤_, _<_}
+use Prim.Native.Nat.{ℕ, zero, suc, _+_, _-_, _*_, _/_, _%_, _≤_, _<_}
 use native.Mathlib.Numerals.{add-one}
 use native.Mathlib.Nat.{lt-of-not-le}
 use native.Mathlib.Decide.{decLe}
 use native.Mathlib.Omega.{arith}
 use lib.Dec.{leb}
 use borrow.Author.Tests.{leb-true}
-use lib.IntN.{ℤ, pos, natAbs}
+use lib.IntN.{ℤ, pos, negsuc, natAbs}
 use lib.ListN.{getD}
+use mir.Syntax.{w16}
+use mir.Val.{SFits}
 use Rattle.frame.specs.declared.History.{History}
 use Rattle.frame.specs.Pass.{Bounded}
 use Rattle.frame.specs.Choice.{c0At, c1At, AllBounded}
@@ -86,3 +88,25 @@ within-pair cs (suc k) i l e = go (decLe k i) (within-pair cs k i)
 pub limits-bounded : (cs : List ℤ) → withinLimits cs ≡ true → AllBounded cs
 unfolding withinLimits
 limits-bounded cs e = record { pair = λ i l. pair-bounded (c0At cs i) (c1At cs i) (within-pair cs 8 i l e) }
+
+-- coefficients within the limits are of 16 bits
+small : (z : ℤ) → natAbs z ≤ 4096 → SFits w16 z
+small (pos n) h = record { sfits = omega arith }
+small (negsuc n) h = record { sfits = omega arith }
+
+pub limits-fit : (cs : List ℤ) → withinLimits cs ≡ true → (i : ℕ) → i < 16 → SFits w16 (getD cs i (pos 0))
+unfolding withinLimits pairWithin
+limits-fit cs ok i h = go (i % 2) refl (omega arith)
+  where
+    t : (leb (natAbs (c0At cs (i / 2))) 4096 ≡ true) × (leb (natAbs (c1At cs (i / 2))) 2048 ≡ true)
+    t = both (leb (natAbs (c0At cs (i / 2))) 4096) (leb (natAbs (c1At cs (i / 2))) 2048) (within-pair cs 8 (i / 2) (omega arith) ok)
+
+    go : (r : ℕ) → i % 2 ≡ r → r < 2 → SFits w16 (getD cs i (pos 0))
+    go zero e l =
+        let p : 2 * (i / 2) ≡ i = omega arith in
+        subst (λ (k : ℕ). SFits w16 (getD cs k (pos 0))) p (small (c0At cs (i / 2)) (leb-true (natAbs (c0At cs (i / 2))) 4096 (t .0)))
+    go (suc zero) e l =
+        let p : 2 * (i / 2) + 1 ≡ i = omega arith in
+        let q = leb-true (natAbs (c1At cs (i / 2))) 2048 (t .1) in
+        subst (λ (k : ℕ). SFits w16 (getD cs k (pos 0))) p (small (c1At cs (i / 2)) (omega arith))
+    go (suc (suc r)) e l = absurd (omega arith)

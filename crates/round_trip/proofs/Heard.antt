@@ -1,25 +1,23 @@
 -- What is heard of X's closed image: each block, all of them, and their nearness to X.
 use mathlib.Core.Path.{_≡_, refl, sym, ap, ap₂, _∙_}
-use mathlib.Core.Bool.{true, false}
+use mathlib.Core.Bool.{Bool, true, false, _&&_}
 use mathlib.Core.List.{List, _++_, append-assoc, append-nil}
 use Prim.Native.Nat.{ℕ, zero, suc, _+_, _*_, _/_, _≤_, _<_}
 use native.Mathlib.Nat.{add-zero, zero-add}
 use native.Mathlib.Omega.{arith}
-use borrow.Author.Tests.{leb-true, ne-eqb}
-use lib.Dec.{leb}
-use lib.IntN.{ℤ, pos, negsuc, natAbs}
+use borrow.Author.Tests.{eqb-true, ne-eqb}
+use lib.Dec.{eqb}
+use lib.IntN.{ℤ, pos, negsuc}
 use lib.ListN.{length, getD, take, drop}
-use lib.Seq.{sets}
-use Rattle.frame.specs.Choice.{c0At, c1At}
-use Rattle.frame.specs.Frame.{pairWithin, withinLimits}
-use Rattle.frame.proofs.LawsFrame.{within-pair}
+use Rattle.frame.specs.Choice.{c0At, c1At, AllBounded}
+use Rattle.frame.specs.Pass.{Bounded}
 use Rattle.block.specs.Address.{addressToSample}
 use Rattle.block.specs.Frame.{Playing}
-use Rattle.block.specs.Play.{play, playInto}
+use Rattle.block.specs.Play.{play}
 use Rattle.block.specs.Refusals.{same, lowestAmong, lowestPair}
 use Rattle.clip.specs.Sizes.{framesOf, blocksOf, lengthOf}
+use Rattle.clip.specs.Encoding.{placeOf}
 use Rattle.clip.specs.Runs.{Start, encodedAt}
-use Rattle.clip.proofs.Sound.{both-true}
 use Rattle.clip.proofs.Built.{Fine}
 use Rattle.clip.proofs.Readback as read
 use Rattle.clip.proofs.Replay.{Audible}
@@ -27,25 +25,33 @@ use Rattle.clip.proofs.Sounding.{blockSound, blocksSound, soundOf, block-played
 use Rattle.image.specs.declared.PlayAnswer.the-variants.{Played}
 use Rattle.image.specs.Reading.{offsetIn, lengthIn}
 use Rattle.image.specs.Bodies.{bodyIn}
+use Rattle.image.specs.Facts.{Found}
 use Rattle.image.specs.Samples.{Effect, contextIn, playOf}
 use Rattle.image.specs.Sameness.{blockSamples, samplesFrom, samplesIn}
 use Rattle.image.proofs.LawsBody.{Playable}
-use Rattle.image.proofs.LawsPlayed.{play-leaves}
+use Rattle.image.proofs.LawsPlayed.{play-leaves, play-output, block-count}
 use Rattle.image.proofs.Parts.{part-at}
 use Rattle.round_trip.proofs.Opening.{image, total-is, block-is, blocks-are, coefficients-are, entry-made, context-is, image-made}
 
--- ---- coefficients within the limits have no pair of -32768
+-- ---- coefficients with room in the arithmetic have no pair of -32768
 
-not-lowest : (z : ℤ) → natAbs z ≤ 4096 → same z (negsuc 32767) ≡ false
-not-lowest (pos n) h = refl
-not-lowest (negsuc n) h = ne-eqb n 32767 (λ e. omega arith)
+not-both : (c0 c1 : ℤ) → Bounded c0 c1 → same c0 (negsuc 32767) && same c1 (negsuc 32767) ≡ false
+not-both (pos m) c1 b = refl
+not-both (negsuc m) (pos n) b = go (eqb m 32767)
+  where
+    go : (t : Bool) → t && false ≡ false
+    go true = refl
+    go false = refl
+not-both (negsuc m) (negsuc n) b = go (eqb m 32767) refl
+  where
+    go : (t : Bool) → eqb m 32767 ≡ t → t && eqb n 32767 ≡ false
+    go true e = let p = eqb-true m 32767 e in ne-eqb n 32767 (λ q. omega (arith, b .sum))
+    go false e = refl
 
-none-lowest : (cs : List ℤ) → withinLimits cs ≡ true → (k : ℕ) → k ≤ 8 → lowestAmong cs k ≡ false
-unfolding lowestAmong withinLimits pairWithin
-none-lowest cs ok zero h = refl
-none-lowest cs ok (suc k) h =
-    let t = both-true (leb (natAbs (c0At cs k)) 4096) (leb (natAbs (c1At cs k)) 2048) (within-pair cs 8 k (omega arith) ok) in
-    rw (none-lowest cs ok k (omega arith), not-lowest (c0At cs k) (leb-true (natAbs (c0At cs k)) 4096 (t .0)))
+none-lowest : (cs : List ℤ) → AllBounded cs → (k : ℕ) → k ≤ 8 → lowestAmong cs k ≡ false
+unfolding lowestAmong
+none-lowest cs b zero h = refl
+none-lowest cs b (suc k) h = rw (none-lowest cs b k (omega arith), not-both (c0At cs k) (c1At cs k) (b .pair k (omega arith)))
 
 -- ---- blocks in turn
 
@@ -87,22 +93,26 @@ module _ (g : Start) (F : Fine g) (xs : List ℤ) (rest : List ℕ) (A : Audible
   all-heard = ap (samplesFrom l 0) (blocks-are g F xs rest) ∙ blocks-heard (blocksOf (g .total) (g .block)) (omega arith) ∙ all-blocks g F xs
 
   -- a block plays to an output with enough room
-  pub block-plays : (k : ℕ) (out : List ℤ) → k < blocksOf (g .total) (g .block) → addressToSample (lengthOf (g .total) (g .block) k) ≤ length out
-      → (playOf l k out .answer ≡ Played (addressToSample (lengthOf (g .total) (g .block) k))) × (playOf l k out .out ≡ sets out 0 (blockSamples l k))
-  unfolding blockSamples playInto lowestPair
+  pub block-plays : (k : ℕ) (out : List ℤ) → k < blocksOf (g .total) (g .block)
+      → (let n = addressToSample (lengthOf (g .total) (g .block) k) in
+      n ≤ length out → (playOf l k out .answer ≡ Played n) × (length (blockSamples l k) ≡ n) × (playOf l k out .out ≡ blockSamples l k ++ drop n out))
+  unfolding lowestPair
   block-plays k out few room =
       let e = entry-made g F xs rest k few in
+      let f : Found l k = record { opens = image-made g F xs rest; block = rw (total-is g F xs rest, block-is g F xs rest) few } in
       let p : Playable l k (length out) =
       record {
-        found = record { opens = image-made g F xs rest; block = rw (total-is g F xs rest, block-is g F xs rest) few };
-        pairs = rw (coefficients-are g F xs rest) (none-lowest (g .coefficients) (F .within) 8 (omega arith));
+        found = f;
+        pairs = rw (coefficients-are g F xs rest) (none-lowest (g .coefficients) (A .bounded) 8 (omega arith));
         enough = rw (e .nibbles) room;
-      } in
-      let w = sym (play-leaves l k out p) in
-      (ap (λ (v : Effect). v .answer) w ∙ ap (λ (n : ℕ). Played (addressToSample n)) (e .nibbles), ap (λ (v : Effect). v .out) w)
+      } in (
+        ap (λ (v : Effect). v .answer) (sym (play-leaves l k out p)) ∙ ap (λ (n : ℕ). Played (addressToSample n)) (e .nibbles),
+        block-count l k f ∙ ap addressToSample (e .nibbles),
+        play-output l k out p ∙ ap (λ (n : ℕ). blockSamples l k ++ drop (addressToSample n) out) (e .nibbles),
+      )
 
   -- a frame's header byte in the image
-  pub header-heard : (q : ℕ) → q < framesOf (g .total) → getD l (56 + 16 * blocksOf (g .total) (g .block) + 8 * q) 0 ≡ getD (encodedAt g xs q .bytes) 0 0
+  pub header-heard : (q : ℕ) → q < framesOf (g .total) → getD l (placeOf (g .total) (g .block) q) 0 ≡ getD (encodedAt g xs q .bytes) 0 0
   header-heard q h =
       let e : 56 + 16 * blocksOf (g .total) (g .block) + 8 * q ≡ 56 + 16 * blocksOf (g .total) (g .block) + (8 * q + 0) = omega arith in
       ap (λ (i : ℕ). getD l i 0) e ∙ read.body-at g F xs (framesOf (g .total)) rest q 0 h (omega arith) (frame-place (g .total) q h)

@@ -1,6 +1,6 @@
 -- The theorems.
 pub mod Opening
-pub mod Measured
-pub mod Encoded
 pub mod Heard
+pub mod Pieces
 pub mod ClipTheorem
+pub mod Worked

@@ -2,24 +2,20 @@
 use mathlib.Core.Path.{_≡_, refl, sym, ap, ap₂, _∙_, subst}
 use mathlib.Core.Bool.{true}
 use mathlib.Core.List.{List, [], _∷_, _++_}
-use Prim.Native.Nat.{ℕ, zero, suc, _+_, _-_, _*_, _/_, _%_, _≤_, _<_}
+use Prim.Native.Nat.{ℕ, zero, suc, _+_, _-_, _*_, _/_, _≤_, _<_}
 use native.Mathlib.Omega.{arith}
-use borrow.Author.Tests.{leb-true}
-use lib.Dec.{leb}
-use lib.IntN.{ℤ, pos, negsuc, natAbs}
+use lib.IntN.{ℤ, pos}
 use lib.ListN.{length, getD, take, length-append}
 use lib.Seq.{take-suc, take-all}
 use mir.Syntax.{w16}
-use mir.Val.{SFits, ofZ, toZ}
+use mir.Val.{ofZ, toZ}
 use mir.ValLaws.{toZ-ofZ}
-use Rattle.frame.specs.Choice.{c0At, c1At}
-use Rattle.frame.specs.Frame.{pairWithin, within, withinLimits}
-use Rattle.frame.proofs.LawsFrame.{within-pair}
+use Rattle.frame.specs.Frame.{within}
+use Rattle.frame.proofs.LawsFrame.{limits-fit}
 use Rattle.clip.specs.Image.{at16, at32, mark, headOf}
 use Rattle.clip.specs.Sizes.{framesOf, blocksOf, sizeOf, offsetOf}
 use Rattle.clip.specs.Runs.{Start, historyAt, encodedAt}
 use Rattle.clip.proofs.Sizing.{block-first}
-use Rattle.clip.proofs.Sound.{both-true}
 use Rattle.clip.proofs.Built.{Fine, listed, filled, built, built-length}
 use Rattle.clip.proofs.Readback as read
 use Rattle.clip.proofs.Sounding.{block-place, block-parts}
@@ -30,29 +26,6 @@ use Rattle.image.specs.Opened.{markOk, openAnswer}
 use Rattle.image.specs.Facts.{Headed, Entry, Opens}
 use Rattle.image.specs.Samples.{contextIn}
 use Rattle.image.proofs.Accepting.{opens}
-
--- ---- coefficients within the limits are of 16 bits
-
-small : (z : ℤ) → natAbs z ≤ 4096 → SFits w16 z
-small (pos n) h = record { sfits = omega arith }
-small (negsuc n) h = record { sfits = omega arith }
-
-coefficient-fits : (cs : List ℤ) → withinLimits cs ≡ true → (i : ℕ) → i < 16 → SFits w16 (getD cs i (pos 0))
-unfolding withinLimits pairWithin
-coefficient-fits cs ok i h = go (i % 2) refl (omega arith)
-  where
-    t : (leb (natAbs (c0At cs (i / 2))) 4096 ≡ true) × (leb (natAbs (c1At cs (i / 2))) 2048 ≡ true)
-    t = both-true (leb (natAbs (c0At cs (i / 2))) 4096) (leb (natAbs (c1At cs (i / 2))) 2048) (within-pair cs 8 (i / 2) (omega arith) ok)
-
-    go : (r : ℕ) → i % 2 ≡ r → r < 2 → SFits w16 (getD cs i (pos 0))
-    go zero e l =
-        let p : 2 * (i / 2) ≡ i = omega arith in
-        subst (λ (k : ℕ). SFits w16 (getD cs k (pos 0))) p (small (c0At cs (i / 2)) (leb-true (natAbs (c0At cs (i / 2))) 4096 (t .0)))
-    go (suc zero) e l =
-        let p : 2 * (i / 2) + 1 ≡ i = omega arith in
-        let q = leb-true (natAbs (c1At cs (i / 2))) 2048 (t .1) in
-        subst (λ (k : ℕ). SFits w16 (getD cs k (pos 0))) p (small (c1At cs (i / 2)) (omega arith))
-    go (suc (suc r)) e l = absurd (omega arith)
 
 -- ---- the fields of the closed image
 
@@ -101,7 +74,7 @@ module _ (g : Start) (F : Fine g) (xs : List ℤ) (rest : List ℕ) where
       let cs = g .coefficients in
       let x = getD cs k (pos 0) in
       let e : at16 image (16 + 2 * k) ≡ ofZ w16 x = ap (λ (l : List ℕ). at16 l (16 + 2 * k)) parts ∙ read.head-coefficient (g .total) (g .rate) (g .block) cs (g .gain) tail (F .sixteen) k (omega arith) in
-      ap₂ (λ (l : List ℤ) (z : ℤ). l ++ (z ∷ [])) (coefficients-upto k (omega arith)) (ap (toZ w16) e ∙ toZ-ofZ w16 x (coefficient-fits cs (F .within) k (omega arith)))
+      ap₂ (λ (l : List ℤ) (z : ℤ). l ++ (z ∷ [])) (coefficients-upto k (omega arith)) (ap (toZ w16) e ∙ toZ-ofZ w16 x (limits-fit cs (F .within) k (omega arith)))
       ∙ sym (take-suc cs k (pos 0) (omega (arith, F .sixteen)))
 
   pub coefficients-are : coefficientsIn image ≡ g .coefficients

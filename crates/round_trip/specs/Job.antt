@@ -1,33 +1,51 @@
--- The whole job, by the calls' own definitions: measured in pieces, started, fed in pieces, closed. Definitions only.
+-- The whole job as calls: a recording measured in pieces and fed in pieces. Definitions only.
 use mathlib.Core.List.{List, [], _∷_, _++_}
-use lib.Ieee.{Float}
-use lib.IntN.{ℤ}
-use Rattle.coefficients.specs.Measure.{Measuring, measuring, fresh, FinishOut, finishOf}
-use Rattle.coefficients.specs.Runs.{measures, callNext}
-use Rattle.clip.specs.Encoding.{Both, Out}
-use Rattle.clip.specs.Runs.{feeds, closes, callOf, left}
+use Prim.Native.Nat.{ℕ}
+use lib.IntN.{ℤ, pos}
+use lib.ListN.{getD}
+use mir.Syntax.{w16}
+use mir.Val.{SFits}
+use Rattle.frame.specs.declared.History.{History}
+use Rattle.coefficients.specs.declared.Answer as Measure
+use Rattle.coefficients.specs.Runs as measured
+use Rattle.coefficients.specs.Runs.{measures, asks}
+use Rattle.clip.specs.declared.Answer.{Answer}
+use Rattle.clip.specs.Runs as encoded
+use Rattle.clip.specs.Runs.{feeds, closes}
+
+-- "A sample is a signed 16-bit number"
+abbrev pub Sampled : List ℤ → Type 0
+Sampled xs = (i : ℕ) → SFits w16 (getD xs i (pos 0))
+
+abbrev pub Starting : History → Type 0
+Starting h = SFits w16 (h .newest) × SFits w16 (h .older)
 
 -- pieces in turn, joined
 unfoldable pub joined : List (List ℤ) → List ℤ
 joined [] = []
 joined (p ∷ ps) = p ++ joined ps
 
--- each piece measured in turn
-unfoldable pub measureAll : Measuring → List (List ℤ) → Measuring
-measureAll m [] = m
-measureAll m (p ∷ ps) = measureAll (callNext m (measures p)) ps
+-- each piece measured, then coefficients asked for
+unfoldable pub measuringCalls : List (List ℤ) → List measured.Call
+measuringCalls [] = asks ∷ []
+measuringCalls (p ∷ ps) = measures p ∷ measuringCalls ps
 
--- pieces measured from the fresh state on one store, and then coefficients asked for
-unfoldable pub asked : List Float → List (List ℤ) → FinishOut
-unfolding measureAll
-asked store ps = let m = measureAll (measuring fresh store) ps in finishOf (m .calculator) (m .store)
+-- each piece fed, then the clip closed
+unfoldable pub encodingCalls : List (List ℤ) → List encoded.Call
+encodingCalls [] = closes ∷ []
+encodingCalls (p ∷ ps) = feeds p ∷ encodingCalls ps
 
--- each piece fed in turn
-unfoldable pub feedAll : Both → List (List ℤ) → Both
-feedAll s [] = s
-feedAll s (p ∷ ps) = feedAll (left (callOf s (feeds p))) ps
+-- the coefficients that the last call answered
+unfoldable pub lastCoefficients : List measured.Seen → List ℤ
+lastCoefficients [] = []
+lastCoefficients (s ∷ []) = s .coefficients
+lastCoefficients (s ∷ t ∷ ss) = lastCoefficients (t ∷ ss)
 
--- pieces fed after a start, and then the clip closed
-unfoldable pub finished : Out → List (List ℤ) → Out
-unfolding feedAll
-finished start ps = callOf (feedAll (left start) ps) closes
+-- what each call answered
+unfoldable pub measuringAnswers : List measured.Seen → List Measure.Answer
+measuringAnswers [] = []
+measuringAnswers (s ∷ ss) = s .answer ∷ measuringAnswers ss
+
+unfoldable pub encodingAnswers : List encoded.Seen → List Answer
+encodingAnswers [] = []
+encodingAnswers (s ∷ ss) = s .answer ∷ encodingAnswers ss

@@ -1,3 +1,4 @@
 -- What the theorems cite.
 pub mod Job
 pub mod Outcome
+pub mod Numbers

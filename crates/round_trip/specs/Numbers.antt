@@ -1,28 +1,23 @@
--- Document 01's worked numbers: one table, one theorem.
-use mathlib.Core.Path.{_≡_, refl, ap, _∙_}
-use mathlib.Core.Bool.{true}
+-- Document 01's worked numbers, as one table. Definitions only.
+use mathlib.Core.Path.{_≡_}
 use mathlib.Core.List.{List, [], _∷_, _++_}
 use Prim.Native.Nat.{ℕ, _≤_}
-use borrow.Author.Tests.{le-ltb}
-use lib.IntN.{pos, negsuc}
+use lib.IntN.{ℤ, pos, negsuc}
 use lib.ListN.{length, drop, replicate}
-use Rattle.whole.specs.Frames.{frameAt}
 use Rattle.frame.specs.declared.History.{History}
-use Rattle.frame.specs.Frame.{pairWithin, within, withinLimits}
 use Rattle.frame.specs.Quantise.{quantised}
-use Rattle.frame.specs.Worked.{alone, frame, quotients, frames}
+use Rattle.frame.specs.Worked.{alone, frame}
 use Rattle.block.specs.Address.{addressToSample, sampleToAddress}
-use Rattle.block.specs.Context.{predictorOf, scaleOf}
+use Rattle.block.specs.Context.{predictorOf, scaleOf, contextOf}
+use Rattle.block.specs.Play.{play}
 use Rattle.block.specs.Sample.{signedNibble}
-use Rattle.block.proofs.Worked.{to-sample, to-address, header}
-use Rattle.clip.specs.declared.Answer.the-variants.{Accepted}
-use Rattle.clip.specs.Sizes.{framesOf, lastOf, blocksOf, bodyOf, sizeOf, cutDown, offsetOf, lengthOf}
-use Rattle.clip.specs.Image.{coefficientBytes, headOf, entryOf, tableOf}
-use Rattle.clip.specs.Encoding.{Both, startAnswer, startOf}
-use Rattle.clip.specs.Runs.{Start, startWith, historyAt, encodedAt, bodiesOf, contextAt, imageOf, followed, feeds, closes, plainAfter, left, after}
-use Rattle.clip.proofs.WholeRuns.{encoding-states}
+use Rattle.clip.specs.Sizes.{sizeOf}
+use Rattle.clip.specs.Encoding.{startOf}
+use Rattle.clip.specs.Runs.{feeds, closes, left, after}
+use Rattle.image.specs.Sameness.{samplesIn}
 
-abbrev silence : History
+-- the starting history
+abbrev pub silence : History
 silence = record { newest = pos 0; older = pos 0 }
 
 -- "That sample 9 as a clip with gain 0, rate 32,000, size 15"
@@ -30,6 +25,10 @@ abbrev pub nine : List ℕ
 nine =
     0x44 ∷ 0x53 ∷ 0x50 ∷ 0x43 ∷ 0x00 ∷ 0x00 ∷ 0x00 ∷ 0x01 ∷ 0x00 ∷ 0x00 ∷ 0x7D ∷ 0x00 ∷ 0x00 ∷ 0x00 ∷ 0x00 ∷ 0x08 ∷ (replicate 36 0
     ++ (0x00 ∷ 0x00 ∷ 0x00 ∷ 0x01 ∷ 0x00 ∷ 0x00 ∷ 0x00 ∷ 0x48 ∷ 0x00 ∷ 0x00 ∷ 0x00 ∷ 0x03 ∷ 0x00 ∷ 0x01 ∷ 0x00 ∷ 0x00 ∷ 0x00 ∷ 0x00 ∷ 0x00 ∷ 0x00 ∷ 0x01 ∷ 0x40 ∷ []))
+
+-- one sample played from a header and a byte, with zero coefficients and history
+abbrev pub heard : ℕ → ℕ → List ℤ
+heard header byte = play (header ∷ byte ∷ []) (replicate 16 (pos 0)) 3 (contextOf header (pos 0) (pos 0)) .samples
 
 pub record WorkedNumbers : Type 0 where
   -- "Address to sample: 0, 1, 2 → 0; 15 → 13; 16, 17, 18 → 14; 19 → 15"
@@ -42,38 +41,10 @@ pub record WorkedNumbers : Type 0 where
   pub quantising : (quantised (pos 1024) 0 ≡ pos 0) × (quantised (pos 1025) 0 ≡ pos 1) × (quantised (negsuc 1023) 0 ≡ pos 0) × (quantised (negsuc 1024) 0 ≡ negsuc 0) × (quantised (pos 20971521) 12 ≡ pos 2)
   -- "Zero coefficients and history, one sample: 7 → 00 70; 8 → 00 70; −9 → 00 80 (played −8), 8 passes each; 9 → 01 40 (played 8), 16 passes"
   pub encoding : (alone (pos 7) ≡ frame 0x00 0x70 8 (pos 7)) × (alone (pos 8) ≡ frame 0x00 0x70 8 (pos 7)) × (alone (negsuc 8) ≡ frame 0x00 0x80 8 (negsuc 7)) × (alone (pos 9) ≡ frame 0x01 0x40 16 (pos 8))
+  -- "(played −8)", "(played 8)"
+  pub playing : (heard 0x00 0x80 ≡ negsuc 7 ∷ []) × (heard 0x01 0x40 ≡ pos 8 ∷ [])
   -- "S: N = 1, 74; N = 14, 80; N = 15, 98 with B = 8, 82 with B = 16"
   pub sizes : (sizeOf 1 8 ≡ 74) × (sizeOf 14 8 ≡ 80) × (sizeOf 15 8 ≡ 98) × (sizeOf 15 16 ≡ 82)
-  -- the image of that sample 9, in any buffer that has room for it
+  -- the image of that sample 9, in any buffer that has room for it; and what is heard of it
   pub image : (l : List ℕ) → 74 ≤ length l → after (left (startOf 1 32000 15 0 (replicate 16 (pos 0)) silence l)) (feeds (pos 9 ∷ []) ∷ closes ∷ []) .bytes ≡ nine ++ drop 74 l
-
-sizes-are : (sizeOf 1 8 ≡ 74) × (sizeOf 14 8 ≡ 80) × (sizeOf 15 8 ≡ 98) × (sizeOf 15 16 ≡ 82)
-unfolding sizeOf bodyOf blocksOf lastOf framesOf
-sizes-are = (refl, refl, refl, refl)
-
-abbrev start : Start
-start = startWith 1 32000 15 0 (replicate 16 (pos 0)) silence
-
-accepted : (l : List ℕ) → 74 ≤ length l → startOf 1 32000 15 0 (replicate 16 (pos 0)) silence l .answer ≡ Accepted
-unfolding startOf startAnswer withinLimits within pairWithin sizeOf bodyOf blocksOf lastOf framesOf cutDown
-accepted l h = rw (le-ltb (length l) 74 h)
-
-image-is : imageOf start (pos 9 ∷ []) true ≡ nine
-unfolding imageOf headOf coefficientBytes tableOf entryOf contextAt bodiesOf encodedAt historyAt frameAt cutDown offsetOf lengthOf sizeOf bodyOf blocksOf lastOf framesOf
-image-is = rw (frames .3)
-
-pub worked : WorkedNumbers
-unfolding followed plainAfter sizeOf bodyOf blocksOf lastOf framesOf cutDown
-worked =
-    record {
-      to-samples = (to-sample .0, to-sample .1, to-sample .2, to-sample .3, to-sample .4, to-sample .5, to-sample .6, to-sample .7);
-      to-addresses = (to-address .0, to-address .1, to-address .2, to-address .3);
-      headers = header;
-      quantising = quotients;
-      encoding = frames;
-      sizes = sizes-are;
-      image =
-          λ l h.
-          ap (λ (s : Both). s .bytes) (encoding-states 1 32000 15 0 (replicate 16 (pos 0)) silence l refl (accepted l h) (feeds (pos 9 ∷ []) ∷ closes ∷ []))
-          ∙ ap (λ (a : List ℕ). a ++ drop 74 l) image-is;
-    }
+  pub sound : samplesIn nine ≡ pos 8 ∷ []
