@@ -5,9 +5,9 @@ use native.Mathlib.Nat.{mul-comm, mul-assoc}
 use native.Mathlib.Omega.{arith}
 use lib.IntN.{ℤ, pos, _+ℤ_, _*ℤ_}
 use lib.Signed.{shrZ}
-use Rattle.whole.specs.Whole.{clamp16, floored}
+use Rattle.whole.specs.Whole.{clamp16, floored, signedNibble}
 use Rattle.whole.proofs.Differences.{Diff, diff-of, diff-add, diff-times, diff-pos, diff-eq, diff-same, over, under, left, floor-law}
-use Rattle.block.specs.Sample.{signedNibble, sampleOf}
+use Rattle.block.specs.Sample.{sampleOf}
 
 -- a multiple of the divisor comes out of the division
 pub floor-add : (x y : ℤ) → floored (x +ℤ y *ℤ pos 2048) 2048 ≡ floored x 2048 +ℤ y

@@ -11,7 +11,8 @@ use Rattle.whole.proofs.Values.{abs-sub}
 use Rattle.whole.proofs.Laws.{clamp-fits}
 use Rattle.whole.proofs.Differences.{diff-of, diff-pos, diff-sub, diff-eq}
 use borrow.Author.Tests.{lt-ltb, le-ltb}
-use Rattle.block.specs.Sample.{signedNibble, sampleOf}
+use Rattle.block.specs.Sample.{sampleOf}
+use Rattle.whole.specs.Whole.{signedNibble}
 
 abs-cond : (t : Bool) (x y : ℤ) (n : ℕ) → natAbs x ≤ n → natAbs y ≤ n → natAbs (cond t x y) ≤ n
 abs-cond true x y n p q = p

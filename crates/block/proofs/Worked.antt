@@ -3,7 +3,7 @@ use mathlib.Core.Path.{_≡_, refl}
 use lib.IntN.{pos, negsuc}
 use Rattle.block.specs.Address.{addressToSample, sampleToAddress}
 use Rattle.block.specs.Context.{predictorOf, scaleOf}
-use Rattle.block.specs.Sample.{signedNibble}
+use Rattle.whole.specs.Whole.{signedNibble}
 
 -- address to sample: 0, 1, 2 → 0; 15 → 13; 16, 17, 18 → 14; 19 → 15; and the last address
 pub to-sample : (addressToSample 0 ≡ 0) × (addressToSample 1 ≡ 0) × (addressToSample 2 ≡ 0) × (addressToSample 15 ≡ 13) × (addressToSample 16 ≡ 14) × (addressToSample 17 ≡ 14) × (addressToSample 18 ≡ 14) × (addressToSample 19 ≡ 15) × (addressToSample 4294967295 ≡ 3758096383)

@@ -1,7 +1,8 @@
 // One sample of a nibble.
 ghost use mathlib.Core.Path.{_≡_};
 ghost use Prim.Native.Nat.{_<_, _≤_};
-ghost use Rattle.block.specs.Sample.{signedNibble, sampleOf};
+ghost use Rattle.block.specs.Sample.{sampleOf};
+ghost use Rattle.whole.specs.Whole.{signedNibble};
 
 // A nibble of 8 or more counts as itself less 16.
 pub(crate) fn signed_nibble(nibble: u8) -> i64

@@ -13,7 +13,8 @@ use Rattle.clip.specs.declared.Answer.the-variants.{Accepted, Refused}
 use Rattle.clip.specs.declared.Encoder.{Encoder}
 use Rattle.clip.specs.declared.Refusal.{Refusal}
 use Rattle.clip.specs.declared.Refusal.the-variants.{InvalidState, BadSampleCount, RateZero, BadBlockSize, CoefficientOutside, ImageTooShort, AlreadyClosed, PieceTooLong, Unfinished}
-use Rattle.clip.specs.Sizes.{most, sizeOf, cutDown}
+use Rattle.clip.specs.Sizes.{sizeOf, cutDown}
+use Rattle.whole.specs.Frames.{most}
 use Rattle.clip.specs.Encoding.{totalOk, blockOk, numbersOk, validOf, startAnswer, feedAnswer, closeAnswer}
 use Rattle.clip.specs.Facts.{Limits, Going, Whole}
 use Rattle.clip.proofs.Sound.{both-true, rate-some, sound}

@@ -13,7 +13,8 @@ use lib.ListN.{length, take, replicate, getD, length-append, length-replicate}
 use lib.Seq.{sets, take-append-le, take-append-add, take-all, length-take-le}
 use Rattle.whole.proofs.Stores.{sets-right-at, sets-left, fill, fill-set}
 use Rattle.frame.specs.Frame.{withinLimits}
-use Rattle.clip.specs.Sizes.{framesOf, blocksOf, bodyOf, sizeOf}
+use Rattle.clip.specs.Sizes.{blocksOf, bodyOf, sizeOf}
+use Rattle.whole.specs.Frames.{framesOf}
 use Rattle.clip.specs.Image.{mark, noMark, headOf, contextBytes, noContext, tableOf}
 use Rattle.clip.specs.Encoding.{placeOf, contextPlace, storeOf}
 use Rattle.clip.specs.Facts.{Limits}

@@ -13,7 +13,8 @@ use Rattle.frame.specs.Frame.{encodeFrame, historyAfter}
 use Rattle.frame.specs.declared.EncodedFrame.{EncodedFrame}
 use Rattle.frame.specs.declared.History.{History}
 use Rattle.clip.specs.declared.Encoder.{Encoder}
-use Rattle.clip.specs.Sizes.{framesOf, lastOf, bodyOf, sizeOf}
+use Rattle.clip.specs.Sizes.{lastOf, bodyOf, sizeOf}
+use Rattle.whole.specs.Frames.{framesOf}
 use Rattle.clip.specs.Image.{mark}
 use Rattle.clip.specs.Encoding.{both, storeOf, moved, noFrame, endOf}
 use Rattle.clip.specs.Facts.{Room, Whole}

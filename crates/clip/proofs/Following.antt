@@ -10,13 +10,13 @@ use lib.Dec.{eqb}
 use lib.IntN.{ℤ, pos}
 use lib.ListN.{length, take, set, replicate, length-append}
 use lib.Seq.{sets, take-all, append-snoc}
-use Rattle.whole.specs.Frames.{frameAt}
+use Rattle.whole.specs.Frames.{frameAt, framesOf}
 use Rattle.whole.proofs.Framing.{frame-snoc, frame-none, frame-pad}
 use Rattle.frame.specs.Frame.{encodeFrame, historyAfter}
 use Rattle.frame.specs.declared.EncodedFrame.{EncodedFrame}
 use Rattle.frame.specs.declared.History.{History}
 use Rattle.frame.proofs.LawsEncoded.{history-start}
-use Rattle.clip.specs.Sizes.{framesOf, lastOf, bodyOf}
+use Rattle.clip.specs.Sizes.{lastOf, bodyOf}
 use Rattle.clip.specs.Image.{mark, noMark}
 use Rattle.clip.specs.Encoding.{Both, both, storeOf, noFrame, pushOf, pieceOf, endOf}
 use Rattle.clip.specs.Runs.{Start, historyAt, encodedAt, passesOf, imageOf, stateOf, followed}

@@ -1,19 +1,19 @@
 -- An encoded frame, played from the history before it, is the encoder's reconstructed samples.
 use mathlib.Core.Path.{_≡_, refl, sym, ap, _∙_}
-use mathlib.Core.List.{List, [], _∷_, _++_, foldl, foldl-append}
+use mathlib.Core.List.{List, [], foldl, foldl-append}
 use Prim.Native.Nat.{ℕ, zero, suc, _+_, _*_, _/_, _%_, _^_, _≤_, _<_}
 use native.Mathlib.Numerals.{add-one}
 use native.Mathlib.Omega.{arith}
 use lib.IntN.{ℤ, pos, _+ℤ_, _*ℤ_}
-use lib.ListN.{length, getD, take}
+use lib.ListN.{getD, take}
 use lib.Seq.{take-suc}
-use Rattle.whole.specs.Whole.{clamp16, floored}
+use Rattle.whole.specs.Whole.{clamp16, floored, signedNibble}
 use Rattle.frame.specs.Choice.{AllBounded, c0At, c1At}
 use Rattle.frame.specs.Estimate.{weighted}
 use Rattle.frame.specs.Frame as encoded
 use Rattle.frame.specs.Frame.{encodeFrame, historyAfter}
 use Rattle.frame.specs.declared.History.{History}
-use Rattle.frame.proofs.LawsEncoded.{history-start, history-step, frame-lengths, header-parts, index-le, frame-played}
+use Rattle.frame.proofs.LawsEncoded.{history-step, frame-lengths, header-parts, index-le, frame-played}
 use Rattle.frame.proofs.LawsArrays.{Fit}
 use Rattle.frame.proofs.LawsPass.{FitHistory}
 use Rattle.block.specs.declared.FrameContext.{FrameContext}
@@ -30,18 +30,14 @@ nibble-same bytes i =
     let f : (2 + i) / 2 ≡ suc (i / 2) = omega arith in
     rw (e, f)
 
-signed-same : (n : ℕ) → sample.signedNibble n ≡ encoded.signedNibble n
-unfolding sample.signedNibble encoded.signedNibble
-signed-same n = refl
-
 module _ (cs : List ℤ) (header : ℕ) (s0 s1 : ℤ) (n : ℕ) where
   -- the sample that a header's pair and scale give
   named : header / 16 ≤ 7
-      → nextSample cs (contextOf header s0 s1) n ≡ clamp16 (floored (weighted (c0At cs (header / 16)) (c1At cs (header / 16)) s0 s1 +ℤ pos 1024) 2048 +ℤ encoded.signedNibble n *ℤ pos (2 ^ (header % 16)))
+      → nextSample cs (contextOf header s0 s1) n ≡ clamp16 (floored (weighted (c0At cs (header / 16)) (c1At cs (header / 16)) s0 s1 +ℤ pos 1024) 2048 +ℤ signedNibble n *ℤ pos (2 ^ (header % 16)))
   unfolding nextSample sample.sampleOf predictorOf scaleOf weighted
   named l =
       let e : header / 16 % 8 ≡ header / 16 = omega arith in
-      rw (e, signed-same n)
+      rw e
 
 -- where the coefficients are bounded and history and samples are of 16 bits
 module _ (h : History) (xs : List ℤ) (cs : List ℤ) (b : AllBounded cs) (f : FitHistory h) (x : Fit 14 xs) where

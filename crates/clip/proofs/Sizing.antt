@@ -3,7 +3,8 @@ use mathlib.Core.Path.{_≡_, refl, sym, ap, _∙_}
 use Prim.Native.Nat.{ℕ, suc, _+_, _-_, _*_, _/_, _%_, _≤_, _<_}
 use native.Mathlib.Nat.{mul-le-mul, le-refl, div-lt-iff-lt-mul, le-div-iff-mul-le, suc-mul, mul-assoc, div-add-mod'}
 use native.Mathlib.Omega.{arith}
-use Rattle.clip.specs.Sizes.{most, framesOf, lastOf, blocksOf, bodyOf, sizeOf}
+use Rattle.clip.specs.Sizes.{lastOf, blocksOf, bodyOf, sizeOf}
+use Rattle.whole.specs.Frames.{most, framesOf}
 use Rattle.clip.specs.Facts.{Limits}
 
 -- there are at most as many blocks as frames

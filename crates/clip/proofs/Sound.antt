@@ -6,7 +6,7 @@ use borrow.Author.Tests.{leb-true, eqb-true, eqb-false}
 use lib.Dec.{T, leb, ltb, eqb}
 use Rattle.frame.specs.Frame.{withinLimits}
 use Rattle.clip.specs.declared.Encoder.{Encoder}
-use Rattle.clip.specs.Sizes.{most}
+use Rattle.whole.specs.Frames.{most}
 use Rattle.clip.specs.Encoding.{totalOk, blockOk, numbersOk, countsOk, validOf, encodedOf}
 use Rattle.clip.specs.Facts.{Limits, Sound}
 

@@ -12,7 +12,8 @@ use lib.ListN.{length, getD, take, length-append, List·getD-append}
 use lib.Seq.{take-all, getD-append-add, length-take-le, getD-take}
 use Rattle.block.specs.Frame.{playing}
 use Rattle.block.specs.Play.{play}
-use Rattle.clip.specs.Sizes.{framesOf, lastOf, blocksOf, bodyOf, offsetOf, lengthOf}
+use Rattle.clip.specs.Sizes.{lastOf, blocksOf, bodyOf, offsetOf, lengthOf}
+use Rattle.whole.specs.Frames.{framesOf}
 use Rattle.clip.specs.Image.{mark}
 use Rattle.clip.specs.Facts.{Limits}
 use Rattle.clip.specs.Runs.{Start, encodedAt}

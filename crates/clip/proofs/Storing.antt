@@ -13,7 +13,8 @@ use Rattle.frame.specs.declared.EncodedFrame.{EncodedFrame}
 use Rattle.frame.specs.declared.History.{History}
 use Rattle.frame.proofs.LawsEncoded.{frame-lengths, frame-passes}
 use Rattle.clip.specs.declared.Encoder.{Encoder}
-use Rattle.clip.specs.Sizes.{framesOf, lastOf, blocksOf, bodyOf, sizeOf}
+use Rattle.clip.specs.Sizes.{lastOf, blocksOf, bodyOf, sizeOf}
+use Rattle.whole.specs.Frames.{framesOf}
 use Rattle.clip.specs.Image.{contextBytes}
 use Rattle.clip.specs.Encoding.{both, placeOf, contextPlace, storeOf, moved, noFrame, pushOf}
 use Rattle.clip.specs.Facts.{Limits, Room, Ready}

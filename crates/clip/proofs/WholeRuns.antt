@@ -9,13 +9,13 @@ use lib.Dec.{ltb}
 use lib.IntN.{ℤ}
 use lib.ListN.{length, take, drop, getD, length-append}
 use lib.Seq.{sets-eq, take-at}
-use Rattle.whole.specs.Frames.{frameAt}
+use Rattle.whole.specs.Frames.{frameAt, most, framesOf}
 use Rattle.whole.proofs.Stores.{take-replicate}
 use Rattle.frame.specs.declared.History.{History}
 use Rattle.clip.specs.declared.Answer.{Answer}
 use Rattle.clip.specs.declared.Answer.the-variants.{Accepted, Refused}
 use Rattle.clip.specs.declared.Refusal.the-variants.{AlreadyClosed, PieceTooLong, Unfinished}
-use Rattle.clip.specs.Sizes.{most, framesOf, blocksOf, bodyOf, sizeOf, cutDown}
+use Rattle.clip.specs.Sizes.{blocksOf, bodyOf, sizeOf, cutDown}
 use Rattle.clip.specs.Image.{mark, noMark, headOf, contextBytes, noContext, tableOf, freshOf}
 use Rattle.clip.specs.Encoding.{Both, both, Out, outOf, numbersOk, countsOk, validOf, feedAnswer, feedBy, feedOf, closeAnswer, closeBy, closeOf, beginning, startAnswer, startBy, startOf}
 use Rattle.clip.specs.Runs.{Start, startWith, historyAt, encodedAt, bodiesOf, passesOf, contextAt, doneOf, imageOf, stateOf, followed, Call, feeds, closes, Seen, seen, plain, plainAnswer, plainNext, plainAfter, plainRun, callOf, left, after, run}

@@ -14,7 +14,8 @@ use Rattle.clip.specs.declared.Answer.the-variants.{Accepted, Refused}
 use Rattle.clip.specs.declared.Encoder.{Encoder}
 use Rattle.clip.specs.declared.Refusal.{Refusal}
 use Rattle.clip.specs.declared.Refusal.the-variants.{InvalidState, BadSampleCount, RateZero, BadBlockSize, CoefficientOutside, ImageTooShort, AlreadyClosed, PieceTooLong, Unfinished}
-use Rattle.clip.specs.Sizes.{most, framesOf, lastOf, blocksOf, sizeOf, cutDown}
+use Rattle.clip.specs.Sizes.{lastOf, blocksOf, sizeOf, cutDown}
+use Rattle.whole.specs.Frames.{most, framesOf}
 use Rattle.clip.specs.Image.{mark, contextBytes, freshOf}
 
 -- document 01's number of each refusal

@@ -4,7 +4,8 @@ use mathlib.Core.Path.{_≡_}
 use mathlib.Core.Bool.{true}
 use Rattle.frame.specs.Frame.{withinLimits}
 use Rattle.clip.specs.declared.Encoder.{Encoder}
-use Rattle.clip.specs.Sizes.{most, framesOf, bodyOf, sizeOf}
+use Rattle.clip.specs.Sizes.{bodyOf, sizeOf}
+use Rattle.whole.specs.Frames.{most, framesOf}
 use Rattle.clip.specs.Encoding.{encodedOf}
 
 -- the limits of a sample count and a block size

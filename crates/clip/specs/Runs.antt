@@ -12,10 +12,10 @@ use Rattle.frame.specs.declared.History.{History}
 use Rattle.clip.specs.declared.Answer.{Answer}
 use Rattle.clip.specs.declared.Answer.the-variants.{Accepted, Refused}
 use Rattle.clip.specs.declared.Refusal.the-variants.{AlreadyClosed, PieceTooLong, Unfinished}
-use Rattle.clip.specs.Sizes.{framesOf, blocksOf, bodyOf, cutDown}
+use Rattle.clip.specs.Sizes.{blocksOf, bodyOf, cutDown}
 use Rattle.clip.specs.Image.{mark, noMark, headOf, contextBytes, noContext, tableOf}
 use Rattle.clip.specs.declared.Encoder.{Encoder}
-use Rattle.clip.specs.Encoding.{Both, both, Out, noFrame, feedOf, closeOf}
+use Rattle.clip.specs.Encoding.{Both, both, Out, encodedOf, noFrame, feedOf, closeOf}
 
 -- ---- X's image
 
@@ -61,7 +61,7 @@ contextAt g xs k j =
 
 -- "the frames encoded": the full ones, and all of them once the clip is closed
 abbrev pub doneOf : Start → List ℤ → Bool → ℕ
-doneOf g xs closed = cond closed (framesOf (g .total)) (length xs / 14)
+doneOf g xs closed = encodedOf (length xs) (g .total) closed
 
 -- "The first S bytes are X's image": head, contents and bodies; what is not encoded yet, and the mark before closing, are zero
 unfoldable pub imageOf : Start → List ℤ → Bool → List ℕ

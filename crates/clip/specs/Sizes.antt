@@ -2,14 +2,7 @@
 use mathlib.Core.Bool.{cond}
 use Prim.Native.Nat.{ℕ, _+_, _-_, _*_, _/_}
 use lib.Dec.{ltb}
-
--- the most samples of a clip
-abbrev pub most : ℕ
-most = 14680064
-
--- "F = ⌈N/14⌉ its frames"
-unfoldable pub framesOf : ℕ → ℕ
-framesOf n = (n + 13) / 14
+use Rattle.whole.specs.Frames.{framesOf}
 
 -- "m = N − 14(F−1) the samples in its last frame"
 unfoldable pub lastOf : ℕ → ℕ

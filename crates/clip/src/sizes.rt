@@ -3,7 +3,8 @@ ghost use mathlib.Core.Path.{_≡_};
 ghost use Prim.Native.Nat.{_≤_};
 ghost use Rattle.clip.specs.Encoding.{encodedOf};
 ghost use Rattle.clip.specs.Facts.{Limits};
-ghost use Rattle.clip.specs.Sizes.{framesOf, blocksOf, bodyOf, sizeOf, cutDown};
+ghost use Rattle.clip.specs.Sizes.{blocksOf, bodyOf, sizeOf, cutDown};
+ghost use Rattle.whole.specs.Frames.{framesOf};
 
 // Frames of n samples, the last one filled. It is internal: crate image calls it.
 pub fn frames(n: usize) -> usize

@@ -13,7 +13,8 @@ use Rattle.coefficients.specs.declared.Answer.{Answer}
 use Rattle.coefficients.specs.declared.Answer.the-variants.{Accepted, Refused}
 use Rattle.coefficients.specs.declared.CoefficientCalculator.{CoefficientCalculator}
 use Rattle.coefficients.specs.Finish.{analyse, stored, counted}
-use Rattle.coefficients.specs.Measure.{most, neededOf, validOf, Room, Measuring, calculator, measuring, shifted, framed, pushed, processAnswer, ProcessOut, processOut, processBy, processOf}
+use Rattle.coefficients.specs.Measure.{neededOf, validOf, Room, Measuring, calculator, measuring, shifted, framed, pushed, processAnswer, ProcessOut, processOut, processBy, processOf}
+use Rattle.whole.specs.Frames.{most, framesOf}
 use Rattle.coefficients.proofs.Frames.{stored-length}
 use Rattle.coefficients.proofs.Measures.{process-room, pushed-records}
 
@@ -86,6 +87,7 @@ answered c xs s = answer-by (processAnswer (c .samples) (c .records) (length xs)
 -- Measuring a piece cut in two is measuring its parts in turn.
 pub process-cut : (c : CoefficientCalculator) (a b : List ℤ) (s : List Float) → processOf c (a ++ b) s .answer ≡ Accepted
     → processOf c (a ++ b) s ≡ (let o = processOf c a s in processOf (o .calculator) b (o .store))
+unfolding framesOf
 process-cut c a b s e =
     let p = process-room (c .samples) (c .records) (length (a ++ b)) (length s) (sym (answered c (a ++ b) s) ∙ e) in
     let l = length-append a b in

@@ -19,7 +19,8 @@ use Rattle.coefficients.specs.declared.Refusal.the-variants.{InvalidStat
 use Rattle.coefficients.specs.declared.framing.Found.{Found}
 use Rattle.coefficients.specs.declared.framing.Found.the-variants.{Nothing, One}
 use Rattle.coefficients.specs.Finish.{analyse, counted, stored}
-use Rattle.coefficients.specs.Measure.{validOf, most, neededOf, Room, Measuring, calculator, measuring, shifted, framed, pushed, padded, processAnswer, finishAnswer, closedCount}
+use Rattle.coefficients.specs.Measure.{validOf, neededOf, Room, Measuring, calculator, measuring, shifted, framed, pushed, padded, processAnswer, finishAnswer, closedCount}
+use Rattle.whole.specs.Frames.{most, framesOf}
 
 and-left : (a b : Bool) → a && b ≡ true → a ≡ true
 and-left true b e = refl
@@ -84,10 +85,12 @@ step-records n r q h h′ s s′ x l d = let e : q ≡ pushed (measuring (calcul
 
 -- there is room for a record while there are samples left
 pub room-push : (n₀ r₀ len size i n r : ℕ) → Room n₀ r₀ len size → n ≡ n₀ + i → i < len → r ≤ n / 14 → 2 * r + 1 < size
+unfolding framesOf
 room-push n₀ r₀ len size i n r p e l h = omega (arith, p .store)
 
 -- and for the record of a frame that is not full
 pub room-padded : (n r size : ℕ) → Room n r 0 size → (n % 14 ≡ 0 → ⊥) → 2 * r + 1 < size
+unfolding framesOf
 room-padded n r size p k = omega (arith, p .store, p .records)
 
 -- ---- what an accepted call tells
@@ -121,7 +124,7 @@ finish-room n r size p =
 
 -- records with that of the padded frame
 pub closed-le : (c : CoefficientCalculator) (size : ℕ) → Room (c .samples) (c .records) 0 size → (2 * closedCount c ≤ size) × (closedCount c ≤ 1048576)
-unfolding closedCount
+unfolding closedCount framesOf
 closed-le c size p = go (eqb (c .samples % 14) 0) refl
   where
     go : (t : Bool) → eqb (c .samples % 14) 0 ≡ t → let q = cond t (c .records) (counted (c .records) (analyse (padded (c .history) (c .samples % 14)))) in (2 * q ≤ size) × (q ≤ 1048576)

@@ -10,7 +10,7 @@ use lib.Ieee.{Float}
 use lib.IntN.{ℤ, pos}
 use lib.ListN.{length, drop, set, replicate, length-append, length-drop}
 use lib.Seq.{sets, drop-append-le, drop-length, length-sets, take-at}
-use Rattle.whole.specs.Frames.{frameAt}
+use Rattle.whole.specs.Frames.{frameAt, most, framesOf}
 use Rattle.whole.proofs.Stores.{sets-snoc}
 use Rattle.coefficients.specs.declared.Answer.{Answer}
 use Rattle.coefficients.specs.declared.Answer.the-variants.{Accepted, Refused}
@@ -19,7 +19,7 @@ use Rattle.coefficients.specs.declared.Refusal.the-variants.{TooManySamp
 use Rattle.coefficients.specs.declared.framing.Found.{Found}
 use Rattle.coefficients.specs.declared.merging.Record.{Record}
 use Rattle.coefficients.specs.Finish.{analyse, stored, counted, finish}
-use Rattle.coefficients.specs.Measure.{most, framesOf, neededOf, Measuring, calculator, measuring, fresh, validOf, shifted, framed, pushed, padded, closedStore, closedCount, processAnswer, processOf, processBy, finishAnswer, finishOf, finishBy}
+use Rattle.coefficients.specs.Measure.{neededOf, Measuring, calculator, measuring, fresh, validOf, shifted, framed, pushed, padded, closedStore, closedCount, processAnswer, processOf, processBy, finishAnswer, finishOf, finishBy}
 use Rattle.coefficients.specs.Runs.{holding, leftAt, recordOf, recordsOf, coefficientsOf, Call, measures, asks, Seen, seen, plainAnswer, plainSeen, plainNext, plainRun, callSeen, callNext, run}
 use Rattle.coefficients.specs.Store as Store
 use Rattle.coefficients.proofs.Folds.{records-length}
@@ -96,7 +96,7 @@ module _ (ys : List ℤ) (k : ℕ) (e : length ys ≡ 14 * k + 14) where
 
 -- one sample more of X
 pub push-follows : (xs : List ℤ) (x : ℤ) (size : ℕ) (m : Measuring) → Follows xs size m → neededOf (length xs + 1) ≤ size → Follows (xs ++ (x ∷ [])) size (pushed m x)
-unfolding pushed framed
+unfolding pushed framed framesOf
 push-follows xs x size m f room = go (eqb (length xs % 14) 13) refl
   where
     ys : List ℤ
@@ -159,6 +159,7 @@ push-follows xs x size m f room = go (eqb (length xs % 14) 13) refl
 -- ---- a piece
 
 pub piece-follows : (xs p : List ℤ) (size : ℕ) (m : Measuring) → Follows xs size m → neededOf (length xs + length p) ≤ size → Follows (xs ++ p) size (foldl pushed m p)
+unfolding framesOf
 piece-follows xs [] size m f room = subst (λ (l : List ℤ). Follows l size m) (sym (append-nil xs)) f
 piece-follows xs (x ∷ p) size m f room =
     let one = one-more xs x in
@@ -200,10 +201,11 @@ module _ (xs : List ℤ) (size : ℕ) (m : Measuring) (f : Follows xs size m) wh
   found = analyse (padded (c .history) (c .samples % 14))
 
   room-record : neededOf (length xs) ≤ size → (length xs % 14 ≡ 0 → ⊥) → 2 * c .records + 1 < length (m .store)
+  unfolding framesOf
   room-record room q = let few = count-few xs size m f in omega (arith, f .store)
 
   asked : neededOf (length xs) ≤ size → finish (Store.records (closedStore c (m .store)) (closedCount c)) ≡ coefficientsOf xs
-  unfolding closedStore closedCount coefficientsOf
+  unfolding closedStore closedCount coefficientsOf framesOf
   asked room = go (eqb (length xs % 14) 0) refl
     where
       at : eqb (c .samples % 14) 0 ≡ eqb (length xs % 14) 0

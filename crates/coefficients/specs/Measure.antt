@@ -7,6 +7,7 @@ use lib.IntN.{ℤ, pos}
 use lib.Ieee.{Float}
 use lib.ListN.{length, getD, set, replicate}
 use lib.Seq.{sets}
+use Rattle.whole.specs.Frames.{most, framesOf}
 use Rattle.coefficients.specs.declared.Answer.{Answer}
 use Rattle.coefficients.specs.declared.Answer.the-variants.{Accepted, Refused}
 use Rattle.coefficients.specs.declared.CoefficientCalculator.{CoefficientCalculator}
@@ -20,14 +21,6 @@ abbrev pub numberOf : Refusal → ℕ
 numberOf InvalidState = 1
 numberOf TooManySamples = 2
 numberOf StoreTooShort = 3
-
--- the most samples that can be measured
-abbrev pub most : ℕ
-most = 14680064
-
--- frames of n samples, the last one filled
-abbrev pub framesOf : ℕ → ℕ
-framesOf n = (n + 13) / 14
 
 -- numbers that the store must have for n samples
 abbrev pub neededOf : ℕ → ℕ

@@ -5,7 +5,7 @@ use mathlib.Core.Bool.{cond}
 use lib.Dec.{ltb}
 use lib.IntN.{ℤ, pos}
 use lib.ListN.{length, take, drop, replicate}
-use Rattle.whole.specs.Frames.{frameAt}
+use Rattle.whole.specs.Frames.{frameAt, most, framesOf}
 use Rattle.coefficients.specs.declared.Answer.{Answer}
 use Rattle.coefficients.specs.declared.Answer.the-variants.{Accepted, Refused}
 use Rattle.coefficients.specs.declared.Refusal.the-variants.{TooManySamples, StoreTooShort}
@@ -13,7 +13,7 @@ use Rattle.coefficients.specs.declared.framing.Found.{Found}
 use Rattle.coefficients.specs.declared.framing.Found.the-variants.{Nothing, One}
 use Rattle.coefficients.specs.declared.merging.Record.{Record}
 use Rattle.coefficients.specs.Finish.{analyse, finish}
-use Rattle.coefficients.specs.Measure.{most, framesOf, neededOf, Measuring, measuring, processOf, finishOf}
+use Rattle.coefficients.specs.Measure.{neededOf, Measuring, measuring, processOf, finishOf}
 
 -- ---- the coefficients of X
 

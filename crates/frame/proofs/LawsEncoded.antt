@@ -9,7 +9,7 @@ use lib.IntN.{ℤ, pos, natAbs, _+ℤ_, _-ℤ_, _*ℤ_}
 use lib.ListN.{getD, length}
 use mir.Syntax.{w16}
 use mir.Val.{SFits}
-use Rattle.whole.specs.Whole.{clamp16, floored}
+use Rattle.whole.specs.Whole.{clamp16, floored, signedNibble}
 use Rattle.frame.specs.declared.History.{History}
 use Rattle.frame.specs.declared.EncodedFrame.{EncodedFrame}
 use Rattle.frame.specs.declared.search.Candidate.{Candidate}
@@ -18,7 +18,7 @@ use Rattle.frame.specs.Quantise.{scale}
 use Rattle.frame.specs.Pass.{Bounded, reconstruct, stepOf, upto, passOf}
 use Rattle.frame.specs.Search.{finished, tryCoefficients}
 use Rattle.frame.specs.Choice.{c0At, c1At, AllBounded, candidateAt, winner, passesOf}
-use Rattle.frame.specs.Frame.{InNibble, header, low4, nibbleAt, signedNibble, packed, preceded, historyAfter, encodeFrame}
+use Rattle.frame.specs.Frame.{InNibble, header, low4, nibbleAt, packed, preceded, historyAfter, encodeFrame}
 use Rattle.frame.proofs.LawsArrays.{Fit}
 use Rattle.frame.proofs.LawsPass.{reconstruct-played, FitHistory, stepAt, overflow-upto, upto-sample, pass-lengths, pass-sample, pass-fits}
 use Rattle.frame.proofs.LawsSearch.{Shape, Found, try-found, ended}

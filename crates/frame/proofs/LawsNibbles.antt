@@ -14,7 +14,8 @@ use lib.Seq.{take-suc-set, getD-at}
 use lib.Signed.{ltZ}
 use borrow.Author.Tests.{ltb-true, lt-ltb, le-ltb, eqb-true, eqb-false}
 use Rattle.whole.proofs.Differences.{diff-of, diff-pos, diff-sub, diff-eq}
-use Rattle.frame.specs.Frame.{low4, byteOf, packed, InNibble, up, down, nibbleAt, signedNibble}
+use Rattle.frame.specs.Frame.{low4, byteOf, packed, InNibble, up, down, nibbleAt}
+use Rattle.whole.specs.Whole.{signedNibble}
 
 pub nibble-size : {z : ℤ} → InNibble z → natAbs z ≤ 8
 nibble-size (up h) = omega arith

@@ -2,15 +2,14 @@
 use mathlib.Core.Bool.{Bool, true, cond, _&&_}
 use mathlib.Core.List.{List, [], _∷_, _++_}
 use Prim.Native.Nat.{ℕ, zero, suc, _+_, _-_, _*_, _/_, _%_, _<_}
-use lib.Dec.{eqb, leb, ltb}
-use lib.IntN.{ℤ, pos, negsuc, natAbs, _-ℤ_}
+use lib.Dec.{eqb, leb}
+use lib.IntN.{ℤ, pos, negsuc, natAbs}
 use lib.ListN.{getD, replicate}
 use Rattle.frame.specs.declared.History.{History}
 use Rattle.frame.specs.declared.EncodedFrame.{EncodedFrame}
 use Rattle.frame.specs.declared.OneFrame.{OneFrame}
 use Rattle.frame.specs.declared.Refusal.{Refusal}
 use Rattle.frame.specs.declared.Refusal.the-variants.{CoefficientOutside}
-use Rattle.frame.specs.declared.Verdict.{Verdict}
 use Rattle.frame.specs.declared.Verdict.the-variants.{Encoded, Refused}
 use Rattle.frame.specs.Choice.{c0At, c1At, candidateAt, winner, passesOf}
 
@@ -40,10 +39,6 @@ packed b ns (suc k) = packed b ns k ++ (byteOf ns k ∷ [])
 -- the four bits of sample i in a frame's bytes
 unfoldable pub nibbleAt : List ℕ → ℕ → ℕ
 nibbleAt bs i = cond (eqb (i % 2) 0) (getD bs (suc (i / 2)) 0 / 16) (getD bs (suc (i / 2)) 0 % 16)
-
--- "a nibble of 8 or more counts as itself less 16"
-unfoldable pub signedNibble : ℕ → ℤ
-signedNibble n = cond (ltb n 8) (pos n) (pos n -ℤ pos 16)
 
 -- `encode_frame`: bytes, passes and reconstructed samples of the frame xs after the history h
 unfoldable pub encodeFrame : History → List ℤ → List ℤ → EncodedFrame

@@ -9,7 +9,8 @@ use lib.Dec.{eqb, leb}
 use lib.ListN.{length, getD}
 use Rattle.clip.specs.Encoding.{numbersOk, totalOk, blockOk}
 use Rattle.clip.specs.Facts.{Limits}
-use Rattle.clip.specs.Sizes.{most, blocksOf, sizeOf, offsetOf, lengthOf}
+use Rattle.clip.specs.Sizes.{blocksOf, sizeOf, offsetOf, lengthOf}
+use Rattle.whole.specs.Frames.{most}
 use Rattle.clip.proofs.Sound.{both-true, numbers-sound}
 use Rattle.image.specs.declared.Answer.{Answer}
 use Rattle.image.specs.declared.Answer.the-variants.{Accepted, Refused}

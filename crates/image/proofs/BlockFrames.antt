@@ -13,7 +13,8 @@ use Rattle.block.specs.Context.{withHeader}
 use Rattle.block.specs.Frame.{Playing, playing, playFrame}
 use Rattle.block.specs.Play.{takeHeader, play, playFrames}
 use Rattle.block.proofs.LawsPlay.{onto, frame-onto, repeats}
-use Rattle.clip.specs.Sizes.{framesOf, blocksOf, offsetOf, lengthOf}
+use Rattle.clip.specs.Sizes.{blocksOf, offsetOf, lengthOf}
+use Rattle.whole.specs.Frames.{framesOf}
 use Rattle.image.specs.Reading.{totalIn, blockIn, coefficientsIn, offsetIn, lengthIn}
 use Rattle.image.specs.Facts.{Found}
 use Rattle.image.specs.Bodies.{bodyIn}

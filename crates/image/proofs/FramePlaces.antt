@@ -8,7 +8,8 @@ use borrow.Author.Tests.{ltb-true, ltb-false, lt-ltb, le-ltb}
 use lib.Dec.{ltb}
 use lib.ListN.{length}
 use Rattle.clip.specs.Facts.{Limits}
-use Rattle.clip.specs.Sizes.{framesOf, lastOf, blocksOf, bodyOf, sizeOf}
+use Rattle.clip.specs.Sizes.{lastOf, blocksOf, bodyOf, sizeOf}
+use Rattle.whole.specs.Frames.{framesOf}
 use Rattle.clip.proofs.Sizing.{frames-some, frames-le, blocks-most, first-block}
 use Rattle.image.specs.declared.Head.{Head}
 use Rattle.image.specs.Reading.{totalIn, blockIn, headIn}

@@ -8,7 +8,8 @@ use lib.ListN.{length, take}
 use lib.Seq.{take-length, take-append-le}
 use Rattle.block.specs.Frame.{Playing, playing, playFrame}
 use Rattle.block.proofs.LawsPlay.{onto, frame-onto, frame-count}
-use Rattle.clip.specs.Sizes.{framesOf, lastOf, blocksOf}
+use Rattle.clip.specs.Sizes.{lastOf, blocksOf}
+use Rattle.whole.specs.Frames.{framesOf}
 use Rattle.clip.proofs.Sizing.{frames-some, block-first}
 use Rattle.image.specs.Reading.{totalIn, blockIn, blocksIn, coefficientsIn}
 use Rattle.image.specs.Facts.{Opens, Found}

@@ -16,7 +16,8 @@ use Rattle.block.specs.Address.{addressToSample}
 use Rattle.block.specs.Context.{contextOf}
 use Rattle.block.specs.Refusals.{badLength, lowestPair}
 use Rattle.clip.specs.Facts.{Limits}
-use Rattle.clip.specs.Sizes.{framesOf, lastOf, blocksOf, bodyOf, sizeOf, offsetOf, lengthOf}
+use Rattle.clip.specs.Sizes.{lastOf, blocksOf, bodyOf, sizeOf, offsetOf, lengthOf}
+use Rattle.whole.specs.Frames.{framesOf}
 use Rattle.clip.proofs.Sizing.{block-first, frames-some}
 use Rattle.image.specs.declared.Answer.{Answer}
 use Rattle.image.specs.declared.Answer.the-variants.{Accepted, Refused}

@@ -11,7 +11,7 @@ use lib.Seq.{sets, sets-eq, length-sets, take-append-seam, drop-append-seam}
 use Rattle.block.specs.declared.FrameContext.{FrameContext}
 use Rattle.block.specs.Frame.{Playing}
 use Rattle.block.specs.Refusals.{equalUpTo}
-use Rattle.clip.specs.Sizes.{framesOf}
+use Rattle.whole.specs.Frames.{framesOf}
 use Rattle.image.specs.declared.comparing.Frame.{Frame}
 use Rattle.image.specs.Reading.{totalIn}
 use Rattle.image.specs.Facts.{Opens}

@@ -7,7 +7,8 @@ use native.Mathlib.Omega.{arith}
 use borrow.Author.Tests.{ltb-true, ltb-false}
 use lib.Dec.{ltb}
 use Rattle.clip.specs.Facts.{Limits}
-use Rattle.clip.specs.Sizes.{framesOf, lastOf, blocksOf, lengthOf}
+use Rattle.clip.specs.Sizes.{lastOf, blocksOf, lengthOf}
+use Rattle.whole.specs.Frames.{framesOf}
 use Rattle.clip.proofs.Sizing.{block-first}
 use Rattle.image.specs.Frames.{countOf}
 use Rattle.image.proofs.FramePlaces.{count-whole, count-last, last-most}

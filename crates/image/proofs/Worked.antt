@@ -7,10 +7,11 @@ use lib.ListN.{replicate}
 use Rattle.block.specs.Context.{predictorOf, scaleOf, pushSample, withHeader}
 use Rattle.block.specs.Frame.{nibbleAt, nextSample, takeNibble}
 use Rattle.block.specs.Play.{takeHeader, playFrom, play}
-use Rattle.block.specs.Sample.{signedNibble, sampleOf}
+use Rattle.block.specs.Sample.{sampleOf}
+use Rattle.whole.specs.Whole.{signedNibble, clamp16}
 use Rattle.clip.specs.Encoding.{numbersOk}
-use Rattle.clip.specs.Sizes.{framesOf, lastOf, blocksOf, bodyOf, sizeOf, offsetOf, lengthOf}
-use Rattle.whole.specs.Whole.{clamp16}
+use Rattle.clip.specs.Sizes.{lastOf, blocksOf, bodyOf, sizeOf, offsetOf, lengthOf}
+use Rattle.whole.specs.Frames.{framesOf}
 use Rattle.image.specs.declared.Answer.the-variants.{Accepted, Refused}
 use Rattle.image.specs.declared.Refusal.the-variants.{BadHead, BadEntry}
 use Rattle.image.specs.Reading.{totalIn, rateIn, blockIn, zeroIn, blocksIn, signedAt, coefficientsUpTo, coefficientsIn, offsetIn, lengthIn, headerIn, newestIn, olderIn, entryZeroIn}

@@ -5,7 +5,8 @@ use mathlib.Core.Path.{_≡_}
 use Prim.Native.Nat.{ℕ, _≤_, _<_}
 use lib.ListN.{length, getD}
 use Rattle.clip.specs.Facts.{Limits}
-use Rattle.clip.specs.Sizes.{framesOf, blocksOf, sizeOf, offsetOf, lengthOf}
+use Rattle.clip.specs.Sizes.{blocksOf, sizeOf, offsetOf, lengthOf}
+use Rattle.whole.specs.Frames.{framesOf}
 use Rattle.image.specs.declared.Head.{Head}
 use Rattle.image.specs.Frames.{countOf}
 use Rattle.image.specs.Reading.{totalIn, rateIn, blockIn, zeroIn, blocksIn, headIn, offsetIn, lengthIn, headerIn, entryZeroIn}

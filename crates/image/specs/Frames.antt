@@ -1,7 +1,7 @@
 -- An image played a frame at a time. Definitions only.
 use mathlib.Core.Bool.{cond}
 use mathlib.Core.List.{List, []}
-use Prim.Native.Nat.{ℕ, zero, suc, _+_, _*_, _/_, _%_}
+use Prim.Native.Nat.{ℕ, zero, suc, _+_, _/_, _%_}
 use lib.Dec.{eqb, ltb}
 use lib.IntN.{ℤ, pos}
 use lib.ListN.{getD, replicate}
@@ -9,7 +9,9 @@ use lib.Seq.{sets}
 use Rattle.block.specs.declared.FrameContext.{FrameContext}
 use Rattle.block.specs.Context.{contextOf, withHeader}
 use Rattle.block.specs.Frame.{Playing, playing, playFrame}
-use Rattle.clip.specs.Sizes.{framesOf, lastOf, blocksOf}
+use Rattle.clip.specs.Encoding.{placeOf}
+use Rattle.clip.specs.Sizes.{lastOf}
+use Rattle.whole.specs.Frames.{framesOf}
 use Rattle.image.specs.declared.comparing.Frame.{Frame}
 use Rattle.image.specs.Reading.{totalIn, blockIn, coefficientsIn}
 use Rattle.image.specs.Samples.{contextIn}
@@ -20,7 +22,7 @@ countOf n i = cond (ltb (i + 1) (framesOf n)) 14 (lastOf n)
 
 -- where frame i stands: bodies of whole frames stand back to back
 unfoldable pub frameIn : List ℕ → ℕ → ℕ
-frameIn l i = 56 + 16 * blocksOf (totalIn l) (blockIn l) + 8 * i
+frameIn l i = placeOf (totalIn l) (blockIn l) i
 
 -- what frame i is played from: a block's first from its entry's context, another from what the frame before left, under its own header
 unfoldable pub contextBefore : List ℕ → ℕ → FrameContext → FrameContext

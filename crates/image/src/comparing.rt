@@ -3,7 +3,7 @@ ghost use mathlib.Core.Path.{_≡_};
 ghost use Prim.Native.Nat.{_+_, _*_, _≤_, _<_};
 ghost use lib.ListN.{length};
 ghost use Rattle.block.specs.Refusals.{equalUpTo};
-ghost use Rattle.clip.specs.Sizes.{framesOf};
+ghost use Rattle.whole.specs.Frames.{framesOf};
 ghost use Rattle.image.specs.Facts.{Opens, Source, Turn, Pair};
 ghost use Rattle.image.specs.Frames.{countOf, contextBefore, frameAt, nextFrame};
 ghost use Rattle.image.specs.Sameness.{equalSamples, samplesIn, sameSound};

@@ -16,7 +16,8 @@ use Rattle.coefficients.specs.Runs as measured
 use Rattle.coefficients.specs.Runs.{coefficientsOf}
 use Rattle.coefficients.proofs.WholeRuns.{measuring-runs}
 use Rattle.clip.specs.declared.Answer.the-variants as Encoding
-use Rattle.clip.specs.Sizes.{framesOf, blocksOf, sizeOf, cutDown}
+use Rattle.clip.specs.Sizes.{blocksOf, sizeOf, cutDown}
+use Rattle.whole.specs.Frames.{framesOf}
 use Rattle.clip.specs.Image.{mark}
 use Rattle.clip.specs.Encoding.{Both, startOf, placeOf}
 use Rattle.clip.specs.Runs as encoded
@@ -105,6 +106,7 @@ pub clip-theorem : (ps qs : List (List ℤ)) → joined ps ≡ joined qs → Sam
     → (rate size gain : ℕ) (h : History) → Starting h → (l : List ℕ)
     → start ps qs store rate size gain h l .answer ≡ Encoding.Accepted
     → Done ps qs store rate size gain h l
+unfolding framesOf
 clip-theorem ps qs same fits store room rate size gain h hf l ok =
     let xs = joined qs in
     let cs = lastCoefficients (seen ps qs store rate size gain h l) in

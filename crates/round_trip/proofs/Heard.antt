@@ -15,7 +15,8 @@ use Rattle.block.specs.Address.{addressToSample}
 use Rattle.block.specs.Frame.{Playing}
 use Rattle.block.specs.Play.{play}
 use Rattle.block.specs.Refusals.{same, lowestAmong, lowestPair}
-use Rattle.clip.specs.Sizes.{framesOf, blocksOf, lengthOf}
+use Rattle.clip.specs.Sizes.{blocksOf, lengthOf}
+use Rattle.whole.specs.Frames.{framesOf}
 use Rattle.clip.specs.Encoding.{placeOf}
 use Rattle.clip.specs.Runs.{Start, encodedAt}
 use Rattle.clip.proofs.Built.{Fine}

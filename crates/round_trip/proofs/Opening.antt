@@ -13,7 +13,8 @@ use mir.ValLaws.{toZ-ofZ}
 use Rattle.frame.specs.Frame.{within}
 use Rattle.frame.proofs.LawsFrame.{limits-fit}
 use Rattle.clip.specs.Image.{at16, at32, mark, headOf}
-use Rattle.clip.specs.Sizes.{framesOf, blocksOf, sizeOf, offsetOf}
+use Rattle.clip.specs.Sizes.{blocksOf, sizeOf, offsetOf}
+use Rattle.whole.specs.Frames.{framesOf}
 use Rattle.clip.specs.Runs.{Start, historyAt, encodedAt}
 use Rattle.clip.proofs.Sizing.{block-first}
 use Rattle.clip.proofs.Built.{Fine, listed, filled, built, built-length}

@@ -9,7 +9,8 @@ use lib.IntN.{ℤ}
 use lib.ListN.{length, replicate, length-append}
 use Rattle.coefficients.specs.declared.Answer.{Answer}
 use Rattle.coefficients.specs.declared.Answer.the-variants.{Accepted}
-use Rattle.coefficients.specs.Measure.{most, neededOf}
+use Rattle.coefficients.specs.Measure.{neededOf}
+use Rattle.whole.specs.Frames.{most, framesOf}
 use Rattle.coefficients.specs.Runs as measured
 use Rattle.coefficients.specs.Runs.{coefficientsOf, measures, asks, Seen}
 use Rattle.coefficients.proofs.Each.{finish-length}
@@ -44,7 +45,7 @@ module _ (size : ℕ) where
 
   pub measured-answers : (ps : List (List ℤ)) (xs : List ℤ) → length xs + length (joined ps) ≤ most → neededOf (length xs + length (joined ps)) ≤ size
       → measuringAnswers (measured.plainRun size xs (measuringCalls ps)) ≡ replicate (suc (length ps)) Accepted
-  unfolding measuringCalls joined measuringAnswers
+  unfolding measuringCalls joined measuringAnswers framesOf
   measured-answers [] xs h k = ap measuringAnswers (seen-last xs (ask-fits xs (omega arith)))
   measured-answers (p ∷ ps) xs h k =
       let n = length-append p (joined ps) in
@@ -60,7 +61,7 @@ module _ (size : ℕ) where
 
   pub measured-last : (ps : List (List ℤ)) (xs : List ℤ) → length xs + length (joined ps) ≤ most → neededOf (length xs + length (joined ps)) ≤ size
       → lastCoefficients (measured.plainRun size xs (measuringCalls ps)) ≡ coefficientsOf (xs ++ joined ps)
-  unfolding measuringCalls joined lastCoefficients
+  unfolding measuringCalls joined lastCoefficients framesOf
   measured-last [] xs h k = ap lastCoefficients (seen-last xs (ask-fits xs (omega arith))) ∙ ap coefficientsOf (sym (append-nil xs))
   measured-last (p ∷ ps) xs h k =
       let n = length-append p (joined ps) in

@@ -6,17 +6,17 @@ use Prim.Native.Nat.{ℕ, _≤_}
 use borrow.Author.Tests.{le-ltb}
 use lib.IntN.{pos, negsuc}
 use lib.ListN.{length, drop, replicate}
-use Rattle.whole.specs.Frames.{frameAt}
+use Rattle.whole.specs.Frames.{frameAt, framesOf}
 use Rattle.frame.specs.Frame.{pairWithin, within, withinLimits}
 use Rattle.frame.specs.Worked.{quotients, frames}
 use Rattle.block.specs.Context.{predictorOf, scaleOf, pushSample, withHeader}
 use Rattle.block.specs.Frame.{nibbleAt, nextSample, takeNibble}
 use Rattle.block.specs.Play.{takeHeader, playFrom, play}
-use Rattle.block.specs.Sample.{signedNibble, sampleOf}
-use Rattle.whole.specs.Whole.{clamp16}
+use Rattle.block.specs.Sample.{sampleOf}
+use Rattle.whole.specs.Whole.{signedNibble, clamp16}
 use Rattle.block.proofs.Worked.{to-sample, to-address, header}
 use Rattle.clip.specs.declared.Answer.the-variants.{Accepted}
-use Rattle.clip.specs.Sizes.{framesOf, lastOf, blocksOf, bodyOf, sizeOf, cutDown, offsetOf, lengthOf}
+use Rattle.clip.specs.Sizes.{lastOf, blocksOf, bodyOf, sizeOf, cutDown, offsetOf, lengthOf}
 use Rattle.clip.specs.Image.{coefficientBytes, headOf, entryOf, tableOf}
 use Rattle.clip.specs.Encoding.{Both, startAnswer, startOf}
 use Rattle.clip.specs.Runs.{Start, startWith, historyAt, encodedAt, bodiesOf, contextAt, imageOf, followed, feeds, closes, plainAfter}

@@ -10,7 +10,7 @@ use Rattle.frame.specs.Worked.{alone, frame}
 use Rattle.block.specs.Address.{addressToSample, sampleToAddress}
 use Rattle.block.specs.Context.{predictorOf, scaleOf, contextOf}
 use Rattle.block.specs.Play.{play}
-use Rattle.block.specs.Sample.{signedNibble}
+use Rattle.whole.specs.Whole.{signedNibble}
 use Rattle.clip.specs.Sizes.{sizeOf}
 use Rattle.clip.specs.Encoding.{startOf}
 use Rattle.clip.specs.Runs.{feeds, closes, left, after}

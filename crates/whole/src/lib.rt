@@ -22,13 +22,6 @@ pub fn quotient_2048(x: i64) -> i64
     x / 2048
 }
 
-// x / 2, rounded towards zero.
-pub fn half(x: i64) -> i64
-    ensures { λ r. ⌜ r ≡ towardsZero x 2 ⌝ }
-{
-    x / 2
-}
-
 // x / 2048, rounded down: an arithmetic shift by 11.
 pub fn shift_11(x: i64) -> i64
     ensures { λ r. ⌜ r ≡ floored x 2048 ⌝ }

@@ -4,7 +4,7 @@ use borrow.Author.Tests.{lt-ltb, le-ltb}
 use native.Mathlib.Omega.{arith}
 use mir.Syntax.{w64}
 use Rattle.whole.proofs.Values.{is-nat, is-lit, is-sub, chk-sub}
-use Rattle.block.specs.Sample.{signedNibble}
+use Rattle.whole.specs.Whole.{signedNibble}
 use Rattle.block.proofs.sample.signed_nibble.Statement.{statement}
 use Rattle.block.proofs.sample.signed_nibble.Tie as tie
 

@@ -3,7 +3,8 @@ use mathlib.Core.Path.{_≡_, refl, sym, ap, _∙_}
 use Prim.Native.Nat.{ℕ, _+_, _-_, _*_, _/_, _<_, _≤_}
 use native.Mathlib.Omega.{arith}
 use borrow.Author.Tests.{lt-ltb, le-ltb}
-use Rattle.clip.specs.Sizes.{framesOf, lastOf, lengthOf}
+use Rattle.clip.specs.Sizes.{lastOf, lengthOf}
+use Rattle.whole.specs.Frames.{framesOf}
 use Rattle.clip.proofs.Sizing.{block-first, frames-some}
 use borrow.Author.Needs.{needs}
 use Rattle.clip.proofs.contents.block_length.Statement.{statement}

@@ -2,7 +2,8 @@
 use mathlib.Core.Path.{_≡_, refl, ap}
 use Prim.Native.Nat.{ℕ, _+_, _-_, _*_, _/_, _≤_}
 use native.Mathlib.Omega.{arith}
-use Rattle.clip.specs.Sizes.{framesOf, blocksOf}
+use Rattle.clip.specs.Sizes.{blocksOf}
+use Rattle.whole.specs.Frames.{framesOf}
 use Rattle.clip.proofs.Sizing.{blocks-le}
 use borrow.Author.Needs.{needs}
 use Rattle.clip.proofs.sizes.blocks.Statement.{statement}

@@ -2,7 +2,8 @@
 use native.Mathlib.Omega.{arith}
 use mathlib.Core.Path.{_≡_, refl, ap}
 use Prim.Native.Nat.{ℕ, _+_, _-_, _*_, _/_}
-use Rattle.clip.specs.Sizes.{framesOf, lastOf, bodyOf}
+use Rattle.clip.specs.Sizes.{lastOf, bodyOf}
+use Rattle.whole.specs.Frames.{framesOf}
 use borrow.Author.Needs.{needs}
 use Rattle.clip.proofs.sizes.body.Statement.{statement}
 use Rattle.clip.proofs.sizes.body.Tie as tie

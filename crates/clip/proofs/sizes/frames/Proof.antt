@@ -1,7 +1,7 @@
 -- `frames` meets its contract. Assumes nothing.
 use mathlib.Core.Path.{refl}
 use native.Mathlib.Omega.{arith}
-use Rattle.clip.specs.Sizes.{framesOf}
+use Rattle.whole.specs.Frames.{framesOf}
 use borrow.Author.Needs.{needs}
 use Rattle.clip.proofs.sizes.frames.Statement.{statement}
 use Rattle.clip.proofs.sizes.frames.Tie as tie

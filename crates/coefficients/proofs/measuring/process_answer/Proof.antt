@@ -4,7 +4,8 @@ use mathlib.Core.Bool.{true}
 use Prim.Native.Nat.{_+_, _≤_}
 use native.Mathlib.Omega.{arith}
 use borrow.Author.Tests.{lt-ltb, le-ltb, not-false}
-use Rattle.coefficients.specs.Measure.{processAnswer, validOf, most}
+use Rattle.coefficients.specs.Measure.{processAnswer, validOf}
+use Rattle.whole.specs.Frames.{most}
 use Rattle.coefficients.proofs.Measures.{valid-samples}
 use Rattle.coefficients.proofs.measuring.process_answer.Statement.{statement}
 use Rattle.coefficients.proofs.measuring.process_answer.Tie as tie

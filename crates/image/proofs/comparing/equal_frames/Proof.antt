@@ -8,7 +8,7 @@ use borrow.Author.Tests.{not-true, not-false}
 use lib.IntN.{pos}
 use lib.ListN.{replicate}
 use lib.Seq.{sets}
-use Rattle.clip.specs.Sizes.{framesOf}
+use Rattle.whole.specs.Frames.{framesOf}
 use Rattle.image.specs.declared.Head.{Head}
 use Rattle.image.specs.Reading.{totalIn, headIn}
 use Rattle.image.specs.Frames.{countOf, framesIn}
