@@ -1,0 +1,327 @@
+/*
+ * Doilycairn: DSP ADPCM clips, from samples to blocks and back.
+ *
+ * Link with libdoilycairn.a (x86-64 Linux). Works in C11 and C++17.
+ *
+ * Every call is a pure function of its arguments: no global state, no allocation, no I/O, no strings. Calls may run on any
+ * number of threads at once, as long as no buffer that one of them writes is used by another.
+ *
+ * States go in and out by value. The one that a call was given stays valid: undo is keeping it.
+ *
+ * Every answer has a `code`: 0 accepted, or the number of the first test that failed (enum doilycairn_code). A refused call
+ * writes to no buffer; the rest of its answer is as the call's comment says.
+ *
+ * Buffers are lent for the length of the call. A length counts elements (samples, numbers or bytes). Pointers are not NULL, also
+ * where the length is 0, and are aligned for their type. A buffer that a call writes overlaps no other argument.
+ * The library tests lengths and contents, but cannot test that a pointer has that many elements behind it.
+ */
+#ifndef DOILYCAIRN_H
+#define DOILYCAIRN_H
+
+#include <stddef.h>
+#include <stdint.h>
+
+#ifdef __cplusplus
+#define DOILYCAIRN_CHECK(condition) static_assert(condition, #condition)
+extern "C" {
+#else
+#include <stdbool.h>
+#define DOILYCAIRN_CHECK(condition) _Static_assert(condition, #condition)
+#endif
+
+/* Samples in a frame, and its bytes: a header byte, then two nibbles a byte. */
+#define DOILYCAIRN_FRAME_SAMPLES 14
+#define DOILYCAIRN_FRAME_BYTES 8
+/* Coefficients: eight pairs, c0 at even places and c1 at odd ones. */
+#define DOILYCAIRN_COEFFICIENTS 16
+/* The longest clip, in samples. */
+#define DOILYCAIRN_MAX_SAMPLES 14680064
+/* The limits of a block size, in bytes. */
+#define DOILYCAIRN_MIN_BLOCK_SIZE 8
+#define DOILYCAIRN_MAX_BLOCK_SIZE 65536
+
+/* What `code` says. Tests run in the sequence that each call's comment gives. */
+enum doilycairn_code {
+    DOILYCAIRN_ACCEPTED = 0,
+    DOILYCAIRN_INVALID_STATE = 1,       /* a state that no run of calls gives */
+    DOILYCAIRN_TOO_MANY_SAMPLES = 2,    /* measuring: more than 14,680,064 samples in all */
+    DOILYCAIRN_STORE_TOO_SHORT = 3,     /* measuring, coefficients: fewer numbers than doilycairn_store_size says */
+    DOILYCAIRN_BAD_SAMPLE_COUNT = 4,    /* starting: 0 samples, or above 14,680,064 */
+    DOILYCAIRN_RATE_ZERO = 5,           /* starting: rate 0 */
+    DOILYCAIRN_BAD_BLOCK_SIZE = 6,      /* starting: block size below 8 or above 65,536 */
+    DOILYCAIRN_COEFFICIENT_OUTSIDE = 7, /* starting, one frame: a c0 outside +-4,096 or a c1 outside +-2,048 */
+    DOILYCAIRN_IMAGE_TOO_SHORT = 8,     /* starting, feeding, closing: fewer bytes than doilycairn_image_size says */
+    DOILYCAIRN_ALREADY_CLOSED = 9,      /* feeding, closing: the clip is closed */
+    DOILYCAIRN_PIECE_TOO_LONG = 10,     /* feeding: more samples than the clip still lacks */
+    DOILYCAIRN_UNFINISHED = 11,         /* closing: the clip still lacks samples */
+    DOILYCAIRN_LENGTH_OUT_OF_RANGE = 12,/* playing bytes: 0 nibbles, or more than two for each byte */
+    DOILYCAIRN_LOWEST_PAIR = 13,        /* playing, comparing: a pair of coefficients is -32,768 twice */
+    DOILYCAIRN_OUTPUT_TOO_SHORT = 14,   /* playing, joining: the output is too short */
+    DOILYCAIRN_BAD_HEAD = 15,           /* an image: its first 56 bytes are not a clip's, or bytes are missing */
+    DOILYCAIRN_BAD_ENTRY = 16,          /* an image: an entry of its table does not fit the head or the block's body */
+    DOILYCAIRN_NO_SUCH_BLOCK = 17,      /* an image: the block's number is not below the count of blocks */
+    DOILYCAIRN_COEFFICIENTS_DIFFER = 18 /* joining: the two blocks have different coefficients */
+};
+
+/* ---- States and values ---- */
+
+/* The two samples before a frame. */
+typedef struct {
+    int16_t newest;
+    int16_t older;
+} doilycairn_history;
+
+/* The measuring state. The records lie in the store that the caller lends to each call. */
+typedef struct {
+    uint32_t samples;    /* measured so far */
+    uint32_t records;    /* in the store: record i is the numbers 2i and 2i + 1 */
+    int16_t history[28]; /* the frame before, and the frame that is not yet full */
+} doilycairn_calculator;
+
+/* The encoding state. The image lies in the buffer that the caller lends to each call. */
+typedef struct {
+    uint32_t total; /* samples of the whole clip */
+    uint32_t rate;
+    uint32_t block; /* bytes of a block: the block size cut down to a multiple of 8 */
+    uint16_t gain;
+    int16_t coefficients[16];
+    uint32_t fed; /* samples so far */
+    doilycairn_history history;
+    int16_t frame[14]; /* the frame that is not yet full */
+    uint32_t passes;   /* of the scale search, over all frames so far */
+    bool closed;
+} doilycairn_encoder;
+
+/* What playing carries from frame to frame. */
+typedef struct {
+    uint16_t predictor_and_scale; /* a frame's header: the pair's index x 16 + the scale's exponent */
+    int16_t last_samples[2];      /* the newest sample, and the one before it */
+} doilycairn_context;
+
+/* What the head of an image says. */
+typedef struct {
+    uint32_t total;
+    uint32_t rate;
+    uint32_t block;
+    uint16_t gain;
+    int16_t coefficients[16];
+    uint32_t blocks; /* count of blocks */
+} doilycairn_head;
+
+/* ---- Answers ---- */
+
+typedef struct {
+    uint32_t code;
+    doilycairn_calculator calculator; /* refused: the one given */
+} doilycairn_processed;
+
+typedef struct {
+    uint32_t code;
+    int16_t coefficients[16];         /* refused: zeros */
+    doilycairn_calculator calculator; /* the one given */
+} doilycairn_finished;
+
+typedef struct {
+    uint32_t code;
+    uint8_t bytes[8];           /* refused: zeros */
+    uint32_t passes;            /* refused: 0 */
+    doilycairn_history history; /* after the frame; refused: the one given */
+} doilycairn_frame;
+
+typedef struct {
+    uint32_t code;
+    doilycairn_encoder encoder; /* refused: the one given; a refused start: zeros, which every call refuses by 1 */
+} doilycairn_encoding;
+
+typedef struct {
+    uint32_t code;
+    doilycairn_head head; /* refused: zeros */
+} doilycairn_opening;
+
+typedef struct {
+    uint32_t code;
+    uint32_t offset;  /* of the body's first byte in the image; refused: 0 */
+    uint32_t bytes;   /* of the body; refused: 0 */
+    uint32_t nibbles; /* the block's length; refused: 0 */
+} doilycairn_body;
+
+typedef struct {
+    uint32_t code;
+    uint64_t samples;           /* written to the output; refused: 0 */
+    doilycairn_context context; /* after the last sample; refused: see the call */
+} doilycairn_playback;
+
+typedef struct {
+    uint32_t code;
+    bool same; /* refused: false */
+} doilycairn_comparison;
+
+typedef struct {
+    uint32_t code;
+    uint64_t nibbles; /* the sum of the two lengths; refused: 0 */
+} doilycairn_joining;
+
+/* ---- Sizes ---- */
+
+/* Numbers that the store needs for measuring `samples` samples: two for each frame of 14, the last one counted whole. */
+uint64_t doilycairn_store_size(uint32_t samples);
+
+/* Bytes of the image of a clip of `total` samples; 0 where starting would refuse by 4 or 6. */
+uint64_t doilycairn_image_size(uint32_t total, uint32_t block_size);
+
+/* ---- Measuring: from samples to sixteen coefficients ---- */
+
+/* A fresh measuring state: all zeros. */
+doilycairn_calculator doilycairn_new(void);
+
+/*
+ * Measures a piece, of any length: the next samples of the clip. Writes a record for each frame that the piece fills, unless the frame is nearly silent.
+ * `records`: the store, the same for all calls of a run, with at least doilycairn_store_size(samples so far, the piece counted) numbers.
+ * Refused by 1, 2, 3.
+ */
+doilycairn_processed doilycairn_process(doilycairn_calculator calculator, const int16_t *samples, size_t samples_len,
+                                        double *records, size_t records_len);
+
+/*
+ * Works out the coefficients of all that was measured. Fills a frame that is not full with zeros and writes its record after the others; the
+ * state is not altered, so that measuring can go on.
+ * `records`: the store of the run. Refused by 1, 3.
+ */
+doilycairn_finished doilycairn_finish(doilycairn_calculator calculator, double *records, size_t records_len);
+
+/* ---- Encoding: from samples to an image ---- */
+
+/* Encodes one frame after `history`. Refused by 7. */
+doilycairn_frame doilycairn_encode_frame(doilycairn_history history, const int16_t samples[14], const int16_t coefficients[16]);
+
+/*
+ * Starts a clip of `total` samples: writes the doilycairn_image_size(total, block_size) bytes of its image, without the mark, contexts and bodies.
+ * `image`: at least that many bytes, the same buffer for all calls of a run; bytes after them are never touched.
+ * Refused by 4, 5, 6, 7, 8.
+ */
+doilycairn_encoding doilycairn_start(uint32_t total, uint32_t rate, uint32_t block_size, uint16_t gain, const int16_t coefficients[16],
+                                     doilycairn_history history, uint8_t *image, size_t image_len);
+
+/*
+ * Feeds a piece, of any length: the next samples of the clip. Each frame that it fills is encoded to its place.
+ * Refused by 1, 8, 9, 10.
+ */
+doilycairn_encoding doilycairn_feed(doilycairn_encoder encoder, const int16_t *piece, size_t piece_len, uint8_t *image, size_t image_len);
+
+/*
+ * Closes the clip, once all its samples are fed: encodes a short last frame and writes the mark. Then the image opens.
+ * Refused by 1, 8, 9, 11.
+ */
+doilycairn_encoding doilycairn_close(doilycairn_encoder encoder, uint8_t *image, size_t image_len);
+
+/* ---- Reading an image ---- */
+
+/* Each call of this part tests the whole head and table again, so its time grows with the count of blocks. */
+
+/* Opens an image: tests its head and table, and gives what the head says. Bytes after the image are allowed. Refused by 15, 16. */
+doilycairn_opening doilycairn_open(const uint8_t *image, size_t image_len);
+
+/* Where the body of block `k` stands in the image: image + offset. Refused by 15, 16, 17. */
+doilycairn_body doilycairn_block_body(const uint8_t *image, size_t image_len, uint32_t k);
+
+/*
+ * Plays block `k` from its own context. `out`: at least doilycairn_address_to_sample(nibbles) samples, for the block's nibbles; a block
+ * has at most block / 8 * 14 samples. Refused by 15, 16, 17, 13, 14; the context is then zeros.
+ */
+doilycairn_playback doilycairn_play(const uint8_t *image, size_t image_len, uint32_t k, int16_t *out, size_t out_len);
+
+/* Whether two images have equally many samples and play the same ones. Refused by 15, 16, 13 of the first, then of the second. */
+doilycairn_comparison doilycairn_same(const uint8_t *first, size_t first_len, const uint8_t *second, size_t second_len);
+
+/* ---- Blocks without an image ---- */
+
+/*
+ * Plays the first `nibbles` nibbles of a block's bytes, headers counted. `out`: at least doilycairn_address_to_sample(nibbles) samples.
+ * Refused by 12, 13, 14; the context is then the one given.
+ */
+doilycairn_playback doilycairn_play_bytes(const uint8_t *bytes, size_t bytes_len, uint32_t nibbles, const int16_t coefficients[16],
+                                          doilycairn_context context, int16_t *out, size_t out_len);
+
+/* Writes the first block's bytes and then the second's. `out`: at least first_len + second_len bytes. Refused by 14, 18. */
+doilycairn_joining doilycairn_join(const uint8_t *first, size_t first_len, uint32_t first_nibbles, const int16_t first_coefficients[16],
+                                   const uint8_t *second, size_t second_len, uint32_t second_nibbles,
+                                   const int16_t second_coefficients[16], uint8_t *out, size_t out_len);
+
+/* The count of samples before a nibble address. */
+uint64_t doilycairn_address_to_sample(uint32_t address);
+
+/* The nibble address of a sample. */
+uint64_t doilycairn_sample_to_address(uint32_t sample);
+
+/* ---- Layouts that the archive was built with ---- */
+
+DOILYCAIRN_CHECK(sizeof(size_t) == 8 && sizeof(void *) == 8);
+DOILYCAIRN_CHECK(sizeof(bool) == 1);
+DOILYCAIRN_CHECK(sizeof(double) == 8);
+
+DOILYCAIRN_CHECK(sizeof(doilycairn_history) == 4);
+DOILYCAIRN_CHECK(offsetof(doilycairn_history, older) == 2);
+
+DOILYCAIRN_CHECK(sizeof(doilycairn_calculator) == 64);
+DOILYCAIRN_CHECK(offsetof(doilycairn_calculator, records) == 4);
+DOILYCAIRN_CHECK(offsetof(doilycairn_calculator, history) == 8);
+
+DOILYCAIRN_CHECK(sizeof(doilycairn_encoder) == 92);
+DOILYCAIRN_CHECK(offsetof(doilycairn_encoder, rate) == 4);
+DOILYCAIRN_CHECK(offsetof(doilycairn_encoder, block) == 8);
+DOILYCAIRN_CHECK(offsetof(doilycairn_encoder, gain) == 12);
+DOILYCAIRN_CHECK(offsetof(doilycairn_encoder, coefficients) == 14);
+DOILYCAIRN_CHECK(offsetof(doilycairn_encoder, fed) == 48);
+DOILYCAIRN_CHECK(offsetof(doilycairn_encoder, history) == 52);
+DOILYCAIRN_CHECK(offsetof(doilycairn_encoder, frame) == 56);
+DOILYCAIRN_CHECK(offsetof(doilycairn_encoder, passes) == 84);
+DOILYCAIRN_CHECK(offsetof(doilycairn_encoder, closed) == 88);
+
+DOILYCAIRN_CHECK(sizeof(doilycairn_context) == 6);
+DOILYCAIRN_CHECK(offsetof(doilycairn_context, last_samples) == 2);
+
+DOILYCAIRN_CHECK(sizeof(doilycairn_head) == 52);
+DOILYCAIRN_CHECK(offsetof(doilycairn_head, rate) == 4);
+DOILYCAIRN_CHECK(offsetof(doilycairn_head, block) == 8);
+DOILYCAIRN_CHECK(offsetof(doilycairn_head, gain) == 12);
+DOILYCAIRN_CHECK(offsetof(doilycairn_head, coefficients) == 14);
+DOILYCAIRN_CHECK(offsetof(doilycairn_head, blocks) == 48);
+
+DOILYCAIRN_CHECK(sizeof(doilycairn_processed) == 68);
+DOILYCAIRN_CHECK(offsetof(doilycairn_processed, calculator) == 4);
+
+DOILYCAIRN_CHECK(sizeof(doilycairn_finished) == 100);
+DOILYCAIRN_CHECK(offsetof(doilycairn_finished, coefficients) == 4);
+DOILYCAIRN_CHECK(offsetof(doilycairn_finished, calculator) == 36);
+
+DOILYCAIRN_CHECK(sizeof(doilycairn_frame) == 20);
+DOILYCAIRN_CHECK(offsetof(doilycairn_frame, bytes) == 4);
+DOILYCAIRN_CHECK(offsetof(doilycairn_frame, passes) == 12);
+DOILYCAIRN_CHECK(offsetof(doilycairn_frame, history) == 16);
+
+DOILYCAIRN_CHECK(sizeof(doilycairn_encoding) == 96);
+DOILYCAIRN_CHECK(offsetof(doilycairn_encoding, encoder) == 4);
+
+DOILYCAIRN_CHECK(sizeof(doilycairn_opening) == 56);
+DOILYCAIRN_CHECK(offsetof(doilycairn_opening, head) == 4);
+
+DOILYCAIRN_CHECK(sizeof(doilycairn_body) == 16);
+DOILYCAIRN_CHECK(offsetof(doilycairn_body, offset) == 4);
+DOILYCAIRN_CHECK(offsetof(doilycairn_body, bytes) == 8);
+DOILYCAIRN_CHECK(offsetof(doilycairn_body, nibbles) == 12);
+
+DOILYCAIRN_CHECK(sizeof(doilycairn_playback) == 24);
+DOILYCAIRN_CHECK(offsetof(doilycairn_playback, samples) == 8);
+DOILYCAIRN_CHECK(offsetof(doilycairn_playback, context) == 16);
+
+DOILYCAIRN_CHECK(sizeof(doilycairn_comparison) == 8);
+DOILYCAIRN_CHECK(offsetof(doilycairn_comparison, same) == 4);
+
+DOILYCAIRN_CHECK(sizeof(doilycairn_joining) == 16);
+DOILYCAIRN_CHECK(offsetof(doilycairn_joining, nibbles) == 8);
+
+#ifdef __cplusplus
+}
+#endif
+
+#endif
