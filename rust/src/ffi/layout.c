@@ -1,0 +1,27 @@
+/* Prints the size of each struct of doilycairn.h and the offset of each of its fields, as C has them. */
+#include "doilycairn.h"
+#include <stdio.h>
+
+#define SIZE(type) printf(#type " %zu\n", sizeof(doilycairn_##type))
+#define FIELD(type, field) printf(#type "." #field " %zu\n", offsetof(doilycairn_##type, field))
+
+int main(void) {
+    SIZE(history), FIELD(history, newest), FIELD(history, older);
+    SIZE(calculator), FIELD(calculator, samples), FIELD(calculator, records), FIELD(calculator, history);
+    SIZE(encoder), FIELD(encoder, total), FIELD(encoder, rate), FIELD(encoder, block), FIELD(encoder, gain);
+    FIELD(encoder, coefficients), FIELD(encoder, fed), FIELD(encoder, history), FIELD(encoder, frame);
+    FIELD(encoder, passes), FIELD(encoder, closed);
+    SIZE(context), FIELD(context, predictor_and_scale), FIELD(context, last_samples);
+    SIZE(head), FIELD(head, total), FIELD(head, rate), FIELD(head, block), FIELD(head, gain);
+    FIELD(head, coefficients), FIELD(head, blocks);
+    SIZE(processed), FIELD(processed, code), FIELD(processed, calculator);
+    SIZE(finished), FIELD(finished, code), FIELD(finished, coefficients), FIELD(finished, calculator);
+    SIZE(frame), FIELD(frame, code), FIELD(frame, bytes), FIELD(frame, passes), FIELD(frame, history);
+    SIZE(encoding), FIELD(encoding, code), FIELD(encoding, encoder);
+    SIZE(opening), FIELD(opening, code), FIELD(opening, head);
+    SIZE(body), FIELD(body, code), FIELD(body, offset), FIELD(body, bytes), FIELD(body, nibbles);
+    SIZE(playback), FIELD(playback, code), FIELD(playback, samples), FIELD(playback, context);
+    SIZE(comparison), FIELD(comparison, code), FIELD(comparison, same);
+    SIZE(joining), FIELD(joining, code), FIELD(joining, nibbles);
+    return 0;
+}

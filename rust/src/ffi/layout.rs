@@ -1,0 +1,73 @@
+//! The structs are laid out as the C compiler lays out those of include/doilycairn.h.
+
+use super::*;
+use std::env;
+use std::fmt::Write;
+use std::mem::{offset_of, size_of};
+use std::path::Path;
+use std::process::Command;
+
+/// Writes a struct's size and its fields' offsets, as layout.c does.
+macro_rules! layout {
+    ($text:ident, $name:literal, $type:ty, $($field:ident),+) => {
+        writeln!($text, "{} {}", $name, size_of::<$type>()).unwrap();
+        $(writeln!($text, "{}.{} {}", $name, stringify!($field), offset_of!($type, $field)).unwrap();)+
+    };
+}
+
+fn rust_layouts() -> String {
+    let mut text = String::new();
+    layout!(text, "history", History, newest, older);
+    layout!(text, "calculator", Calculator, samples, records, history);
+    layout!(
+        text,
+        "encoder",
+        EncoderState,
+        total,
+        rate,
+        block,
+        gain,
+        coefficients,
+        fed,
+        history,
+        frame,
+        passes,
+        closed
+    );
+    layout!(text, "context", FrameContext, predictor_and_scale, last_samples);
+    layout!(text, "head", Head, total, rate, block, gain, coefficients, blocks);
+    layout!(text, "processed", Processed, code, calculator);
+    layout!(text, "finished", Finished, code, coefficients, calculator);
+    layout!(text, "frame", Frame, code, bytes, passes, history);
+    layout!(text, "encoding", Encoding, code, encoder);
+    layout!(text, "opening", Opening, code, head);
+    layout!(text, "body", Body, code, offset, bytes, nibbles);
+    layout!(text, "playback", Playback, code, samples, context);
+    layout!(text, "comparison", Comparison, code, same);
+    layout!(text, "joining", Joining, code, nibbles);
+    text
+}
+
+/// What layout.c writes, built by the C compiler that CC names, or cc.
+fn c_layouts() -> String {
+    let here = Path::new(env!("CARGO_MANIFEST_DIR"));
+    let program = env::temp_dir().join(format!("doilycairn-layout-{}", std::process::id()));
+    let compiler = env::var_os("CC").unwrap_or("cc".into());
+    let built = Command::new(&compiler)
+        .args(["-std=c11", "-Wall", "-Wextra", "-pedantic", "-Werror", "-I"])
+        .arg(here.join("../include"))
+        .arg(here.join("src/ffi/layout.c"))
+        .arg("-o")
+        .arg(&program)
+        .status()
+        .expect("this test needs a C compiler");
+    assert!(built.success());
+    let output = Command::new(&program).output().unwrap();
+    std::fs::remove_file(&program).unwrap();
+    String::from_utf8(output.stdout).unwrap()
+}
+
+#[test]
+fn layouts_are_those_of_the_header() {
+    assert_eq!(rust_layouts(), c_layouts());
+}

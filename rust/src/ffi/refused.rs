@@ -1,0 +1,115 @@
+//! What stands in a refused answer beside its code, as include/doilycairn.h says.
+
+use super::*;
+
+const COEFFICIENTS: Coefficients = Coefficients([0; 16]);
+const HISTORY: History = History { newest: 3, older: -4 };
+const NO_HISTORY: History = History { newest: 0, older: 0 };
+
+fn started() -> (EncoderState, Vec<u8>) {
+    let clip = Start {
+        total: 20,
+        rate: 1,
+        block_size: 8,
+        gain: 5,
+        coefficients: COEFFICIENTS,
+        history: HISTORY,
+    };
+    let mut image = vec![0; image_size(20, 8) as usize];
+    let encoding = start(&clip, &mut image);
+    assert_eq!(encoding.code, 0);
+    (encoding.encoder, image)
+}
+
+#[test]
+fn measuring_gives_back_the_state() {
+    let given = Calculator { samples: 5, records: 1, history: [9; 28] };
+    let processed = process(given, &[1; 3], &mut [0.0; 2]);
+    assert_eq!((processed.code, processed.calculator), (1, given));
+    let finished = finish(given, &mut [0.0; 2]);
+    assert_eq!((finished.code, finished.calculator), (1, given));
+    assert_eq!(finished.coefficients, COEFFICIENTS);
+}
+
+#[test]
+fn a_frame_is_zeros_and_the_history_given() {
+    let mut coefficients = COEFFICIENTS;
+    coefficients.0[15] = 2049;
+    let frame = encode_frame(HISTORY, &[7; 14], &coefficients);
+    assert_eq!((frame.code, frame.bytes, frame.passes, frame.history), (7, [0; 8], 0, HISTORY));
+}
+
+#[test]
+fn a_start_gives_the_state_of_no_clip() {
+    let (state, mut image) = started();
+    let clip = Start {
+        total: 20,
+        rate: 0,
+        block_size: 8,
+        gain: 5,
+        coefficients: state.coefficients,
+        history: HISTORY,
+    };
+    let encoding = start(&clip, &mut image);
+    let none = EncoderState {
+        total: 0,
+        rate: 0,
+        block: 0,
+        gain: 0,
+        coefficients: COEFFICIENTS,
+        fed: 0,
+        history: NO_HISTORY,
+        frame: [0; 14],
+        passes: 0,
+        closed: false,
+    };
+    assert_eq!((encoding.code, encoding.encoder), (5, none));
+    assert_eq!(feed(none, &[], &mut image).code, 1);
+    assert_eq!(close(none, &mut image).code, 1);
+}
+
+#[test]
+fn encoding_gives_back_the_state() {
+    let (state, mut image) = started();
+    let fed = feed(state, &[100; 17], &mut image).encoder;
+    let encoding = feed(fed, &[1; 4], &mut image);
+    assert_eq!((encoding.code, encoding.encoder), (10, fed));
+    let encoding = close(fed, &mut image);
+    assert_eq!((encoding.code, encoding.encoder), (11, fed));
+}
+
+#[test]
+fn reading_gives_zeros() {
+    let (state, mut image) = started();
+    let opening = open(&image);
+    let none = Head { total: 0, rate: 0, block: 0, gain: 0, coefficients: COEFFICIENTS, blocks: 0 };
+    assert_eq!((opening.code, opening.head), (15, none));
+    let fed = feed(state, &[100; 20], &mut image).encoder;
+    assert_eq!(close(fed, &mut image).code, 0);
+    let body = block_body(&image, 2);
+    assert_eq!((body.code, body.offset, body.bytes, body.nibbles), (17, 0, 0, 0));
+    let playback = play(&image, 0, &mut [0; 13]);
+    assert_eq!((playback.code, playback.samples), (14, 0));
+    assert_eq!(playback.context, FrameContext::default());
+    let comparison = same(&image, &[]);
+    assert_eq!((comparison.code, comparison.same), (15, false));
+}
+
+#[test]
+fn playing_bytes_gives_back_the_context() {
+    let context = FrameContext { predictor_and_scale: 0x23, last_samples: [1, 2] };
+    let playback = play_bytes(&[0; 8], 16, &COEFFICIENTS, context, &mut [0; 13]);
+    assert_eq!((playback.code, playback.samples, playback.context), (14, 0, context));
+}
+
+#[test]
+fn joining_gives_no_length() {
+    let block = Block {
+        bytes: &[1; 8],
+        nibbles: 16,
+        coefficients: COEFFICIENTS,
+        context: FrameContext::default(),
+    };
+    let joining = join(&block, &block, &mut [0; 15]);
+    assert_eq!((joining.code, joining.nibbles), (14, 0));
+}

@@ -1,0 +1,57 @@
+//! DSP ADPCM clips, the sound format of the GameCube and the Wii, from samples to blocks and back: safe calls of `libdoilycairn.a`.
+//!
+//! A clip is measured (for its sixteen coefficients), started, fed in pieces of any length and closed; what that leaves is an image,
+//! which opens, plays and compares. It does not matter how the clip is cut into pieces.
+//!
+//! ```
+//! use doilycairn::{Coefficients, Encoder, History, Image, Start};
+//!
+//! let clip: Vec<i16> = (0..5000).map(|i| (f64::from(i) * 0.05).sin() * 9000.0).map(|s| s as i16).collect();
+//! let start = Start {
+//!     total: 5000,
+//!     rate: 32_000,
+//!     block_size: 0x400,
+//!     gain: 0,
+//!     coefficients: Coefficients::measure(&clip)?,
+//!     history: History::default(),
+//! };
+//! let mut encoder = Encoder::start(&start)?;
+//! encoder.feed(&clip[..1234])?;
+//! encoder.feed(&clip[1234..])?;
+//! encoder.close()?;
+//!
+//! let image = Image::open(encoder.image())?;
+//! assert_eq!(image.play()?.len(), clip.len());
+//! # Ok::<(), doilycairn::Refusal>(())
+//! ```
+//!
+//! Every call is a pure function of its arguments; there is no global state, and all types are `Send` and `Sync`. A refused call
+//! gives a [`Refusal`] and alters neither state nor buffer. States ([`Calculator`], [`EncoderState`]) are plain values: undo is keeping the
+//! older one. What the library's calls do is proved; this crate passes them slices with their lengths and turns codes into [`Refusal`]s.
+
+mod block;
+mod coefficients;
+mod encoder;
+mod ffi;
+mod frame;
+mod image;
+mod measure;
+mod refusal;
+mod samples;
+
+pub use block::{
+    Block, FrameContext, Played, address_to_sample, join, play_bytes, sample_to_address,
+};
+pub use coefficients::Coefficients;
+pub use encoder::{Encoder, EncoderState, Start, image_size};
+pub use frame::{EncodedFrame, History, encode_frame};
+pub use image::{Head, Image, same};
+pub use measure::{Calculator, Measure, Store, store_size};
+pub use refusal::Refusal;
+pub use samples::Samples;
+
+/// The longest clip, in samples.
+pub const MAX_SAMPLES: u32 = 14_680_064;
+
+/// The limits of a block size, in bytes.
+pub const BLOCK_SIZES: std::ops::RangeInclusive<u32> = 8..=65_536;
