@@ -1,0 +1,26 @@
+/* What the examples share: messages of refusals, and files. */
+#ifndef SUPPORT_H
+#define SUPPORT_H
+
+#include <stddef.h>
+#include <stdint.h>
+
+/* What a code says, in words. */
+const char *message_of(uint32_t code);
+
+/* Ends the program with exit status 2 and the refusal's message, unless the call was accepted. */
+void check(const char *call, uint32_t code);
+
+/* Ends the program with exit status 2 and what went wrong with a file. */
+void fail(const char *path);
+
+/* Memory for `count` elements, never NULL, not even for none. */
+void *allocate(size_t count, size_t size);
+
+/* The whole of a file, and its length. */
+uint8_t *read_file(const char *path, size_t *len);
+
+/* Writes a whole file. */
+void write_file(const char *path, const void *bytes, size_t len);
+
+#endif
