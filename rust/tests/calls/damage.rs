@@ -1,0 +1,115 @@
+//! Damaged images: every bit of head and table turned over, every shorter length.
+
+use crate::clips::{encode, noise, tone};
+use doilycairn::{Image, Refusal, same};
+use std::collections::BTreeSet;
+
+/// What turning over a bit of a byte of head or table does, for an image of several blocks.
+#[derive(Debug, PartialEq)]
+enum Effect {
+    /// A field that may have any value: the image opens, and says something else.
+    Other,
+    Head,
+    /// By 15 where the count of blocks or the size becomes wrong, else by 16.
+    HeadOrEntry,
+    Entry,
+}
+
+fn effect(place: usize) -> Effect {
+    match place {
+        0..4 | 50..56 => Effect::Head,
+        4..8 | 12..16 => Effect::HeadOrEntry,
+        8..12 | 16..50 => Effect::Other,
+        _ => match (place - 56) % 16 {
+            10..14 => Effect::Other,
+            _ => Effect::Entry,
+        },
+    }
+}
+
+/// Calls on a damaged image answer alike: all are refused as opening is, or none is.
+fn refused_alike(bytes: &[u8], whole: &[u8], why: Refusal) {
+    assert_eq!(same(bytes, whole), Err(why));
+    assert_eq!(same(whole, bytes), Err(why));
+}
+
+#[test]
+fn every_bit_of_head_and_table() {
+    let clip = tone(200);
+    let whole = encode(&clip, 40);
+    let image = Image::open(&whole).unwrap();
+    let blocks: Vec<_> = image.blocks().collect();
+    let table = 56 + 16 * blocks.len();
+    let mut seen = BTreeSet::new();
+    for (place, bit) in (0..table).flat_map(|place| (0..8).map(move |bit| (place, bit))) {
+        let mut bytes = whole.clone();
+        bytes[place] ^= 1 << bit;
+        match (effect(place), Image::open(&bytes)) {
+            (Effect::Other, Ok(damaged)) => {
+                let is_head_same = damaged.head() == image.head();
+                assert!(!is_head_same || !damaged.blocks().eq(blocks.iter().copied()));
+                assert_eq!(damaged.play().unwrap().len(), clip.len());
+                same(&bytes, &whole).unwrap();
+            }
+            (Effect::Head, Err(Refusal::BadHead)) => {
+                refused_alike(&bytes, &whole, Refusal::BadHead)
+            }
+            (Effect::Entry, Err(Refusal::BadEntry)) => {
+                refused_alike(&bytes, &whole, Refusal::BadEntry)
+            }
+            (Effect::HeadOrEntry, Err(why @ (Refusal::BadHead | Refusal::BadEntry))) => {
+                refused_alike(&bytes, &whole, why);
+                seen.insert(why);
+            }
+            (effect, opened) => panic!("byte {place}, bit {bit}: {effect:?}, {opened:?}"),
+        }
+    }
+    assert_eq!(seen.len(), 2);
+}
+
+#[test]
+fn the_first_byte_of_a_body_is_in_its_entry() {
+    let whole = encode(&noise(200, 9000, 1), 40);
+    let offsets: Vec<usize> = {
+        let image = Image::open(&whole).unwrap();
+        let start = whole.as_ptr() as usize;
+        image.blocks().map(|block| block.bytes.as_ptr() as usize - start).collect()
+    };
+    let table = 56 + 16 * offsets.len();
+    for place in table..whole.len() {
+        let mut bytes = whole.clone();
+        bytes[place] ^= 0x11;
+        let opened = Image::open(&bytes).map(|image| image.play().unwrap().len());
+        let is_first = offsets.contains(&place);
+        assert_eq!(opened, if is_first { Err(Refusal::BadEntry) } else { Ok(200) });
+    }
+}
+
+#[test]
+fn every_shorter_length() {
+    for (count, block_size) in [(1, 8), (14, 8), (15, 8), (200, 40), (200, 65_536)] {
+        let whole = encode(&tone(count), block_size);
+        for length in 0..whole.len() {
+            let opened = Image::open(&whole[..length]).map(|_| ());
+            assert_eq!(opened, Err(Refusal::BadHead));
+            refused_alike(&whole[..length], &whole, Refusal::BadHead);
+        }
+    }
+}
+
+#[test]
+fn limits_of_the_head() {
+    let whole = encode(&tone(200), 40);
+    let with = |place: usize, value: u32| {
+        let mut bytes = whole.clone();
+        bytes[place..place + 4].copy_from_slice(&value.to_be_bytes());
+        Image::open(&bytes).map(|_| ())
+    };
+    for (place, value) in [(4, 0), (4, 14_680_065), (4, u32::MAX), (8, 0), (12, 0), (12, 65_544)] {
+        assert_eq!(with(place, value), Err(Refusal::BadHead));
+    }
+    for (place, value) in [(12, 41), (12, u32::MAX), (52, 0), (52, u32::MAX)] {
+        assert_eq!(with(place, value), Err(Refusal::BadHead));
+    }
+    assert_eq!(with(8, u32::MAX), Ok(()));
+}

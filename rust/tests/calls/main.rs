@@ -1,0 +1,13 @@
+//! The calls of the crate, against the archive that it is linked with.
+
+mod blocks;
+mod clips;
+mod cuts;
+mod damage;
+mod lists;
+mod refusals;
+mod round_trip;
+mod same;
+mod threads;
+mod undo;
+mod worked_numbers;

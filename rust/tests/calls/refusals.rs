@@ -1,0 +1,291 @@
+//! Every refusal by its number, in document 01's sequence, with nothing written.
+
+use crate::clips::{encode, start_of, tone};
+use doilycairn::*;
+
+/// A refused call leaves a buffer as it was: runs it on a buffer that is not blank, and gives its refusal.
+fn untouched<T, U>(len: usize, fill: T, call: impl FnOnce(&mut [T]) -> Result<U, Refusal>) -> u32
+where
+    T: Copy + PartialEq,
+{
+    let mut buffer = vec![fill; len];
+    let why = call(&mut buffer).err().expect("the call is refused");
+    assert!(buffer.iter().all(|item| *item == fill));
+    why.number()
+}
+
+/// A clip of 20 samples in two blocks: its image has 100 bytes.
+fn start() -> Start {
+    Start { coefficients: Coefficients([0; 16]), ..start_of(&tone(20), 8) }
+}
+
+const SIZE: usize = 100;
+
+/// The state and the image after some samples.
+fn fed(count: usize) -> (EncoderState, Vec<u8>) {
+    let mut encoder = Encoder::start(&start()).unwrap();
+    encoder.feed(&tone(20)[..count]).unwrap();
+    encoder.into_parts()
+}
+
+fn closed() -> EncoderState {
+    let (state, mut image) = fed(20);
+    state.close(&mut image).unwrap()
+}
+
+fn outside(place: usize, value: i16) -> Coefficients {
+    let mut coefficients = [0; 16];
+    coefficients[place] = value;
+    Coefficients(coefficients)
+}
+
+fn lowest(pair: usize) -> Coefficients {
+    let mut coefficients = [0; 16];
+    coefficients[2 * pair..2 * pair + 2].fill(i16::MIN);
+    Coefficients(coefficients)
+}
+
+#[test]
+fn number_1_measuring() {
+    let state = |samples, records| Calculator { samples, records, history: [1; 28] };
+    for invalid in
+        [state(0, 1), state(13, 1), state(27, 2), state(MAX_SAMPLES + 1, 0), state(u32::MAX, 9)]
+    {
+        assert_eq!(untouched(64, 2.5, |store| invalid.process(&[1; 14], store)), 1);
+        assert_eq!(untouched(64, 2.5, |store| invalid.process(&[], store)), 1);
+        assert_eq!(untouched(64, 2.5, |store| invalid.finish(store)), 1);
+        assert_eq!(invalid.finish(&mut []), Err(Refusal::InvalidState));
+    }
+    assert!(state(14, 1).process(&[], &mut [0.5; 2]).is_ok());
+}
+
+/// States that differ from a valid one by one field.
+fn invalid_states() -> Vec<EncoderState> {
+    let (state, _) = fed(15);
+    let mut states = vec![
+        EncoderState { fed: 21, ..state },
+        EncoderState { total: 0, fed: 0, passes: 0, ..state },
+        EncoderState { total: MAX_SAMPLES + 1, ..state },
+        EncoderState { block: 0, ..state },
+        EncoderState { block: 12, ..state },
+        EncoderState { block: 65_544, ..state },
+        EncoderState { rate: 0, ..state },
+        EncoderState { closed: true, ..state },
+        EncoderState { passes: 105, ..state },
+        EncoderState { passes: 1, fed: 13, ..state },
+        EncoderState { passes: 2 * 104 + 1, ..closed() },
+    ];
+    for place in 0..16 {
+        let limit = if place % 2 == 0 { 4097 } else { 2049 };
+        states.push(EncoderState { coefficients: outside(place, limit), ..state });
+        states.push(EncoderState { coefficients: outside(place, -limit), ..state });
+    }
+    states
+}
+
+#[test]
+fn number_1_encoding() {
+    for state in invalid_states() {
+        assert_eq!(untouched(SIZE, 0x5a, |image| state.feed(&[1; 3], image)), 1);
+        assert_eq!(untouched(SIZE, 0x5a, |image| state.close(image)), 1);
+        assert_eq!(state.feed(&[0; 100], &mut []), Err(Refusal::InvalidState));
+    }
+    let (state, _) = fed(15);
+    let most = EncoderState { passes: 104, ..state };
+    assert!(most.feed(&[], &mut [0; SIZE]).is_ok());
+}
+
+#[test]
+fn number_2() {
+    let state = |samples| Calculator { samples, records: 0, history: [0; 28] };
+    for (samples, piece) in [(MAX_SAMPLES, 1), (MAX_SAMPLES - 1, 2), (MAX_SAMPLES - 13, 14)] {
+        let piece = vec![9; piece];
+        assert_eq!(untouched(4, 2.5, |store| state(samples).process(&piece, store)), 2);
+        assert_eq!(state(samples).process(&piece, &mut []), Err(Refusal::TooManySamples));
+        let mut measure = Measure::from_parts(state(samples), vec![]);
+        assert_eq!(measure.process(&piece), Err(Refusal::TooManySamples));
+        assert_eq!(measure.into_parts().1, []);
+    }
+    let mut last = Measure::from_parts(state(MAX_SAMPLES - 1), vec![]);
+    assert_eq!(last.process(&[9]), Ok(()));
+    assert_eq!(last.calculator().samples, MAX_SAMPLES);
+    assert_eq!(last.into_parts().1.len(), 1 << 21);
+}
+
+#[test]
+fn number_3() {
+    for (samples, numbers) in [(1, 2), (14, 2), (15, 4), (28, 4), (29, 6)] {
+        let piece = tone(samples);
+        let fresh = Calculator::new();
+        assert_eq!(untouched(numbers - 1, 2.5, |store| fresh.process(&piece, store)), 3);
+        let measured = fresh.process(&piece, &mut vec![0.0; numbers]).unwrap();
+        assert_eq!(untouched(numbers - 1, 2.5, |store| measured.finish(store)), 3);
+        assert!(measured.finish(&mut vec![0.0; numbers]).is_ok());
+    }
+}
+
+#[test]
+fn numbers_4_to_8() {
+    let good = start();
+    let refused = |bad: Start| {
+        let number = untouched(SIZE, 0x5a, |image| EncoderState::start(&bad, image));
+        let own = Encoder::start(&bad).unwrap_err();
+        assert_eq!(own.number(), number);
+        number
+    };
+    for total in [0, MAX_SAMPLES + 1, u32::MAX] {
+        assert_eq!(refused(Start { total, ..good }), 4);
+    }
+    assert_eq!(refused(Start { rate: 0, ..good }), 5);
+    for block_size in [0, 7, 65_537, u32::MAX] {
+        assert_eq!(refused(Start { block_size, ..good }), 6);
+    }
+    for place in 0..16 {
+        let limit = if place % 2 == 0 { 4096 } else { 2048 };
+        for value in [limit + 1, -limit - 1, i16::MIN, i16::MAX] {
+            let coefficients = outside(place, value);
+            assert_eq!(refused(Start { coefficients, ..good }), 7);
+            let frame = encode_frame(History::default(), &[1; 14], &coefficients);
+            assert_eq!(frame, Err(Refusal::CoefficientOutside));
+        }
+        for value in [limit, -limit] {
+            let coefficients = outside(place, value);
+            assert!(Encoder::start(&Start { coefficients, ..good }).is_ok());
+            assert!(encode_frame(History::default(), &[1; 14], &coefficients).is_ok());
+        }
+    }
+    assert_eq!(good.image_size(), Some(SIZE));
+    for room in 0..SIZE {
+        assert_eq!(untouched(room, 0x5a, |image| EncoderState::start(&good, image)), 8);
+    }
+}
+
+#[test]
+fn starting_tests_in_sequence() {
+    let good = start();
+    let mut bad =
+        Start { total: 0, rate: 0, block_size: 7, coefficients: outside(3, 2049), ..good };
+    let number = |bad: &Start| EncoderState::start(bad, &mut [0; 9]).unwrap_err().number();
+    assert_eq!(number(&bad), 4);
+    bad.total = good.total;
+    assert_eq!(number(&bad), 5);
+    bad.rate = good.rate;
+    assert_eq!(number(&bad), 6);
+    bad.block_size = good.block_size;
+    assert_eq!(number(&bad), 7);
+    bad.coefficients = good.coefficients;
+    assert_eq!(number(&bad), 8);
+}
+
+#[test]
+fn number_8_feeding_and_closing() {
+    let (begun, _) = fed(5);
+    let (full, _) = fed(20);
+    for state in [begun, full, closed()] {
+        for room in [0, 4, SIZE - 1] {
+            assert_eq!(untouched(room, 0x5a, |image| state.feed(&[1; 99], image)), 8);
+            assert_eq!(untouched(room, 0x5a, |image| state.close(image)), 8);
+        }
+    }
+}
+
+#[test]
+fn numbers_9_to_11() {
+    let (begun, _) = fed(5);
+    let (full, _) = fed(20);
+    for piece in [0, 1, 99] {
+        let piece = vec![1; piece];
+        assert_eq!(untouched(SIZE, 0x5a, |image| closed().feed(&piece, image)), 9);
+    }
+    assert_eq!(untouched(SIZE, 0x5a, |image| closed().close(image)), 9);
+    assert_eq!(untouched(SIZE, 0x5a, |image| begun.feed(&[1; 16], image)), 10);
+    assert_eq!(untouched(SIZE, 0x5a, |image| full.feed(&[1; 1], image)), 10);
+    assert_eq!(untouched(SIZE, 0x5a, |image| begun.close(image)), 11);
+}
+
+#[test]
+fn number_12() {
+    for (bytes, nibbles) in [(8, 0), (8, 17), (0, 1), (0, 0), (1, 3), (8, u32::MAX)] {
+        let bytes = vec![0x11; bytes];
+        let play =
+            |out: &mut [i16]| play_bytes(&bytes, nibbles, &lowest(0), FrameContext::default(), out);
+        assert_eq!(untouched(20, 0x5a5a, play), 12);
+    }
+}
+
+#[test]
+fn number_13() {
+    for pair in 0..8 {
+        let coefficients = lowest(pair);
+        let play =
+            |out: &mut [i16]| play_bytes(&[0; 8], 16, &coefficients, FrameContext::default(), out);
+        assert_eq!(untouched(14, 0x5a5a, play), 13);
+        assert_eq!(play(&mut []), Err(Refusal::LowestPair));
+        let mut bytes = encode(&tone(50), 16);
+        bytes[16 + 4 * pair..20 + 4 * pair].copy_from_slice(&[0x80, 0, 0x80, 0]);
+        let image = Image::open(&bytes).unwrap();
+        assert_eq!(untouched(28, 0x5a5a, |out| image.play_block(0, out)), 13);
+        assert_eq!(image.play(), Err(Refusal::LowestPair));
+        assert_eq!(image.samples().err(), Some(Refusal::LowestPair));
+        assert_eq!(image.same(&image), Err(Refusal::LowestPair));
+        assert!(image.block(1).is_ok());
+    }
+}
+
+#[test]
+fn number_14() {
+    let bytes = encode(&tone(50), 16);
+    let image = Image::open(&bytes).unwrap();
+    for room in 0..28 {
+        assert_eq!(untouched(room, 0x5a5a, |out| image.play_block(0, out)), 14);
+        let block = image.block(0).unwrap();
+        assert_eq!(untouched(room, 0x5a5a, |out| block.play(out)), 14);
+    }
+    let (first, second) = (image.block(0).unwrap(), image.block(1).unwrap());
+    let differing = Block { coefficients: lowest(0), ..second };
+    for room in 0..first.bytes.len() + second.bytes.len() {
+        assert_eq!(untouched(room, 0x5a, |out| join(&first, &second, out)), 14);
+        assert_eq!(untouched(room, 0x5a, |out| join(&first, &differing, out)), 14);
+    }
+}
+
+#[test]
+fn numbers_15_to_17() {
+    let bytes = encode(&tone(50), 16);
+    assert_eq!(Image::open(&bytes[..55]).unwrap_err().number(), 15);
+    let mut damaged = bytes.clone();
+    damaged[59] ^= 1;
+    assert_eq!(Image::open(&damaged).unwrap_err().number(), 16);
+    let image = Image::open(&bytes).unwrap();
+    assert_eq!(image.head().blocks, 2);
+    for k in [2, 3, u32::MAX] {
+        assert_eq!(image.block(k), Err(Refusal::NoSuchBlock));
+        assert_eq!(untouched(28, 0x5a5a, |out| image.play_block(k, out)), 17);
+        assert_eq!(image.play_block(k, &mut []), Err(Refusal::NoSuchBlock));
+    }
+}
+
+#[test]
+fn number_18() {
+    let bytes = encode(&tone(50), 16);
+    let image = Image::open(&bytes).unwrap();
+    let block = image.block(0).unwrap();
+    for place in 0..16 {
+        let mut coefficients = block.coefficients;
+        coefficients.0[place] ^= 1;
+        let other = Block { coefficients, ..block };
+        assert_eq!(untouched(32, 0x5a, |out| join(&block, &other, out)), 18);
+    }
+}
+
+#[test]
+fn bytes_after_the_image_are_never_touched() {
+    let clip = tone(20);
+    let mut buffer = vec![0x5a; SIZE + 50];
+    let mut encoder = Encoder::start_in(&start(), &mut buffer[..]).unwrap();
+    encoder.feed(&clip).unwrap();
+    encoder.close().unwrap();
+    assert_eq!(encoder.image().len(), SIZE);
+    assert!(buffer[SIZE..].iter().all(|byte| *byte == 0x5a));
+    assert_eq!(Image::open(&buffer).unwrap().head().total, 20);
+}
