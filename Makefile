@@ -1,16 +1,15 @@
 # Builds libdoilycairn.a and the examples in C; installs the header, the archive and the pkg-config file.
 
 VERSION = 0.1.0
-PREFIX = /usr/local
-DESTDIR =
-CFLAGS = -O2 -g
-CXX = c++
+PREFIX ?= /usr/local
+DESTDIR ?=
+CFLAGS ?= -O2 -g
 
 LIB_DIR = target/staticlib
 ARCHIVE = $(LIB_DIR)/libdoilycairn.a
 OUT = target/examples
 EXAMPLES = $(OUT)/encode $(OUT)/play $(OUT)/compare $(OUT)/refusals
-WARNINGS = -Wall -Wextra -Wconversion -pedantic -Werror
+WARNINGS = -Wall -Wextra -Wconversion -pedantic
 PC = target/doilycairn.pc
 
 all: lib
@@ -31,7 +30,7 @@ $(ARCHIVE):
 
 # The examples end to end, and the header as C++.
 test: examples
-	$(CXX) -std=c++17 $(WARNINGS) -x c++ -fsyntax-only include/doilycairn.h
+	$(CXX) -std=c++17 $(WARNINGS) -Werror -x c++ -fsyntax-only include/doilycairn.h
 	examples/test.sh $(OUT)
 
 # Written anew each time, since PREFIX may differ.

@@ -320,6 +320,8 @@ DOILYCAIRN_CHECK(offsetof(doilycairn_comparison, same) == 4);
 DOILYCAIRN_CHECK(sizeof(doilycairn_joining) == 16);
 DOILYCAIRN_CHECK(offsetof(doilycairn_joining, nibbles) == 8);
 
+#undef DOILYCAIRN_CHECK
+
 #ifdef __cplusplus
 }
 #endif

@@ -6,6 +6,9 @@
 
 use crate::{Block, Calculator, Coefficients, EncoderState, FrameContext, Head, History, Start};
 
+#[cfg(not(target_arch = "x86_64"))]
+compile_error!("libdoilycairn.a is built for x86-64");
+
 #[cfg(test)]
 mod layout;
 #[cfg(test)]

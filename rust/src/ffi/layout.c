@@ -1,9 +1,17 @@
-/* Prints the size of each struct of doilycairn.h and the offset of each of its fields, as C has them. */
+/* Prints the size of each struct of doilycairn.h, the offset of each of its fields, the limits and the codes, as C has them. */
 #include "doilycairn.h"
 #include <stdio.h>
 
 #define SIZE(type) printf(#type " %zu\n", sizeof(doilycairn_##type))
 #define FIELD(type, field) printf(#type "." #field " %zu\n", offsetof(doilycairn_##type, field))
+#define NUMBER(name) printf(#name " %d\n", DOILYCAIRN_##name)
+
+static void codes(void) {
+    NUMBER(INVALID_STATE), NUMBER(TOO_MANY_SAMPLES), NUMBER(STORE_TOO_SHORT), NUMBER(BAD_SAMPLE_COUNT), NUMBER(RATE_ZERO);
+    NUMBER(BAD_BLOCK_SIZE), NUMBER(COEFFICIENT_OUTSIDE), NUMBER(IMAGE_TOO_SHORT), NUMBER(ALREADY_CLOSED);
+    NUMBER(PIECE_TOO_LONG), NUMBER(UNFINISHED), NUMBER(LENGTH_OUT_OF_RANGE), NUMBER(LOWEST_PAIR), NUMBER(OUTPUT_TOO_SHORT);
+    NUMBER(BAD_HEAD), NUMBER(BAD_ENTRY), NUMBER(NO_SUCH_BLOCK), NUMBER(COEFFICIENTS_DIFFER);
+}
 
 int main(void) {
     SIZE(history), FIELD(history, newest), FIELD(history, older);
@@ -23,5 +31,7 @@ int main(void) {
     SIZE(playback), FIELD(playback, code), FIELD(playback, samples), FIELD(playback, context);
     SIZE(comparison), FIELD(comparison, code), FIELD(comparison, same);
     SIZE(joining), FIELD(joining, code), FIELD(joining, nibbles);
+    NUMBER(MAX_SAMPLES), NUMBER(MIN_BLOCK_SIZE), NUMBER(MAX_BLOCK_SIZE);
+    codes();
     return 0;
 }

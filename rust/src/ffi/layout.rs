@@ -1,6 +1,7 @@
-//! The structs are laid out as the C compiler lays out those of include/doilycairn.h.
+//! Layouts, limits and codes are those that the C compiler makes of include/doilycairn.h.
 
 use super::*;
+use crate::{BLOCK_SIZES, MAX_SAMPLES, Refusal};
 use std::env;
 use std::fmt::Write;
 use std::mem::{offset_of, size_of};
@@ -48,6 +49,23 @@ fn rust_layouts() -> String {
     text
 }
 
+/// The limits, and the refusals under their names in C.
+fn rust_numbers() -> String {
+    let mut text = format!("MAX_SAMPLES {MAX_SAMPLES}\n");
+    writeln!(text, "MIN_BLOCK_SIZE {}", BLOCK_SIZES.start()).unwrap();
+    writeln!(text, "MAX_BLOCK_SIZE {}", BLOCK_SIZES.end()).unwrap();
+    for refusal in Refusal::ALL {
+        for (i, letter) in format!("{refusal:?}").chars().enumerate() {
+            if i > 0 && letter.is_ascii_uppercase() {
+                text.push('_');
+            }
+            text.push(letter.to_ascii_uppercase());
+        }
+        writeln!(text, " {}", refusal.number()).unwrap();
+    }
+    text
+}
+
 /// What layout.c writes, built by the C compiler that CC names, or cc.
 fn c_layouts() -> String {
     let here = Path::new(env!("CARGO_MANIFEST_DIR"));
@@ -68,6 +86,6 @@ fn c_layouts() -> String {
 }
 
 #[test]
-fn layouts_are_those_of_the_header() {
-    assert_eq!(rust_layouts(), c_layouts());
+fn layouts_limits_and_codes_are_those_of_the_header() {
+    assert_eq!(rust_layouts() + &rust_numbers(), c_layouts());
 }

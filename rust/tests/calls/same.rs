@@ -40,6 +40,16 @@ fn the_last_sample_counts_and_rate_and_gain_do_not() {
 }
 
 #[test]
+fn the_count_of_samples_counts() {
+    let images = [14, 27, 28, 56].map(|count| encode(&vec![0; count], 16));
+    for (i, first) in images.iter().enumerate() {
+        for (j, second) in images.iter().enumerate() {
+            assert_eq!(same(first, second), Ok(i == j));
+        }
+    }
+}
+
+#[test]
 fn the_first_image_is_tested_first() {
     let good = encode(&tone(100), 8);
     let (mut lowest, mut entry) = (good.clone(), good.clone());
