@@ -1,14 +1,15 @@
-# Builds libdoilycairn.a and the examples in C; installs the header, the archive and the pkg-config file.
+# Builds libdoilycairn.a and the examples in C and C++; installs the header, the archive and the pkg-config file.
 
 VERSION = 0.1.0
 PREFIX ?= /usr/local
 DESTDIR ?=
 CFLAGS ?= -O2 -g
+CXXFLAGS ?= -O2 -g
 
 LIB_DIR = target/staticlib
 ARCHIVE = $(LIB_DIR)/libdoilycairn.a
 OUT = target/examples
-EXAMPLES = $(OUT)/encode $(OUT)/play $(OUT)/compare $(OUT)/refusals
+EXAMPLES = $(OUT)/encode $(OUT)/play $(OUT)/compare $(OUT)/refusals $(OUT)/round_trip
 WARNINGS = -Wall -Wextra -Wconversion -pedantic
 PC = target/doilycairn.pc
 
@@ -25,12 +26,15 @@ $(OUT)/%: examples/%.c examples/support.c examples/support.h include/doilycairn.
 	@mkdir -p $(OUT)
 	$(CC) -std=c11 $(WARNINGS) $(CFLAGS) -Iinclude $< examples/support.c $(ARCHIVE) -o $@
 
+$(OUT)/round_trip: examples/round_trip.cpp include/doilycairn.h $(ARCHIVE)
+	@mkdir -p $(OUT)
+	$(CXX) -std=c++17 $(WARNINGS) $(CXXFLAGS) -Iinclude $< $(ARCHIVE) -o $@
+
 $(ARCHIVE):
 	@echo 'There is no $(ARCHIVE): run `make lib`, or name its folder with LIB_DIR=.' >&2; exit 1
 
-# The examples end to end, and the header as C++.
+# The examples end to end.
 test: examples
-	$(CXX) -std=c++17 $(WARNINGS) -Werror -x c++ -fsyntax-only include/doilycairn.h
 	examples/test.sh $(OUT)
 
 # Written anew each time, since PREFIX may differ.
