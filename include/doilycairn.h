@@ -1,7 +1,7 @@
 /*
  * Doilycairn: DSP ADPCM clips, from samples to blocks and back.
  *
- * Link with libdoilycairn.a (x86-64 Linux). Works in C11 and C++17.
+ * Link with libdoilycairn.a (x86-64 Linux), which needs only memcpy and memset of the C library. Works in C11 and C++17.
  *
  * Every call is a pure function of its arguments: no global state, no allocation, no I/O, no strings. Calls may run on any
  * number of threads at once, as long as no buffer that one of them writes is used by another.

@@ -28,6 +28,11 @@
 //! Every call is a pure function of its arguments; there is no global state, and all types are `Send` and `Sync`. A refused call
 //! gives a [`Refusal`] and alters neither state nor buffer. States ([`Calculator`], [`EncoderState`]) are plain values: undo is keeping the
 //! older one. What the library's calls do is proved; this crate passes them slices with their lengths and turns codes into [`Refusal`]s.
+//!
+//! # Linking
+//!
+//! The build looks for `libdoilycairn.a` in the folder that `DOILYCAIRN_LIB_DIR` names (a relative path counts from this crate's folder), else in
+//! `../target/staticlib`, where `rt staticlib doilycairn` puts it. The archive is for x86-64 Linux.
 
 mod block;
 mod coefficients;

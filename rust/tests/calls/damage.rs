@@ -1,6 +1,6 @@
 //! Damaged images: every bit of head and table turned over, every shorter length.
 
-use crate::clips::{encode, noise, tone};
+use crate::clips::{Random, encode, noise, tone};
 use doilycairn::{Image, Refusal, same};
 use std::collections::BTreeSet;
 
@@ -112,4 +112,47 @@ fn limits_of_the_head() {
         assert_eq!(with(place, value), Err(Refusal::BadHead));
     }
     assert_eq!(with(8, u32::MAX), Ok(()));
+}
+
+/// Reads all there is to read of bytes that may be an image, and says whether they opened.
+fn read_all(bytes: &[u8]) -> bool {
+    let Ok(image) = Image::open(bytes) else { return false };
+    let mut out = vec![0; image.head().total as usize];
+    let blocks = image.blocks().enumerate();
+    let counts = blocks.map(|(k, block)| {
+        assert_eq!(image.block(k as u32), Ok(block));
+        image.play_block(k as u32, &mut out).map(|played| played.samples)
+    });
+    let played = counts.sum::<Result<usize, Refusal>>();
+    assert_eq!(played, image.play().map(|samples| samples.len()));
+    true
+}
+
+#[test]
+fn damage_in_many_places() {
+    let mut random = Random(7);
+    let images = [(1, 8), (15, 8), (200, 40), (300, 65_536)].map(|(n, b)| encode(&tone(n), b));
+    let mut opened = 0;
+    for turn in 0..20_000 {
+        let mut bytes = images[turn % images.len()].clone();
+        for _ in 0..1 + random.next() % 4 {
+            let place = random.next() as usize % bytes.len();
+            bytes[place] = random.next() as u8;
+        }
+        opened += usize::from(read_all(&bytes));
+    }
+    assert!(opened > 1000 && opened < 19_000);
+}
+
+#[test]
+fn bytes_that_are_no_image() {
+    let mut random = Random(8);
+    for length in 0..2000 {
+        let mut bytes: Vec<u8> = (0..length).map(|_| random.next() as u8).collect();
+        assert!(!read_all(&bytes));
+        if length >= 4 {
+            bytes[..4].copy_from_slice(b"DSPC");
+            assert!(!read_all(&bytes));
+        }
+    }
 }
