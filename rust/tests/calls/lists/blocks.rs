@@ -51,7 +51,7 @@ fn answer(record: &[u8]) -> String {
 #[test]
 fn blocks() {
     let (lines, answers) = list("block_list");
-    assert_eq!((lines.len(), answers.len()), (608, 608));
+    assert_eq!(lines.len(), answers.len());
     for (line, expected) in lines.iter().zip(answers) {
         assert_eq!(answer(&bytes(line)).trim_end(), expected.trim_end(), "{line}");
     }

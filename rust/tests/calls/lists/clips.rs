@@ -92,7 +92,6 @@ impl Machine {
 #[test]
 fn clips() {
     let (lines, answers) = list("clip_list");
-    assert_eq!(answers.len(), 2528);
     let mut machine = Machine { state: no_clip(), image: vec![0; ROOM], piece: vec![] };
     let mut answers = answers.iter();
     for line in &lines {

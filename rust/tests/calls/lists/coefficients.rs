@@ -37,7 +37,7 @@ fn coefficients() {
     let mut answers = answers.iter();
     let mut store = vec![0.0; STORE];
     let mut calculator = doilycairn::Calculator::new();
-    let (mut piece, mut asked) = (vec![], 0);
+    let mut piece = vec![];
     for line in &lines {
         piece.extend(samples(line));
         match &line[..1] {
@@ -53,11 +53,9 @@ fn coefficients() {
                 let count = expected.split(' ').next().unwrap().parse().unwrap();
                 let measure = Measure::from_parts(calculator, store.clone());
                 assert_eq!(answer(measure, count), *expected);
-                asked += 1;
             }
             _ => {}
         }
     }
     assert_eq!(answers.next(), None);
-    assert!(asked > 777);
 }

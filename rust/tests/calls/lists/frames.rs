@@ -44,7 +44,7 @@ fn history(frame: &Frame) -> String {
 #[test]
 fn frames() {
     let (lines, answers) = list("frame_list");
-    assert_eq!((lines.len(), answers.len()), (2266, 2266));
+    assert_eq!(lines.len(), answers.len());
     for (line, expected) in lines.iter().zip(answers) {
         let frame = parse(line);
         let mut answered = answer(&frame);

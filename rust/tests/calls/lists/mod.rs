@@ -8,14 +8,16 @@ mod frames;
 use std::fs::read_to_string;
 use std::path::Path;
 
-/// The lines of a list, and of its answers.
+/// The lines of a list, and of its answers; there are some of each.
 fn list(name: &str) -> (Vec<String>, Vec<String>) {
     let folder = Path::new(env!("CARGO_MANIFEST_DIR")).join("../crates").join(name);
     let lines = |file| -> Vec<String> {
         let text = read_to_string(folder.join(file)).unwrap();
         text.lines().map(str::to_owned).collect()
     };
-    (lines("stdin"), lines("stdout"))
+    let (list, answers) = (lines("stdin"), lines("stdout"));
+    assert!(!list.is_empty() && !answers.is_empty());
+    (list, answers)
 }
 
 /// The bytes that hexadecimal digits say.
