@@ -1,0 +1,39 @@
+-- `body_at` meets its contract. Assumes nothing.
+use denote.Ref.{now}
+use mathlib.Core.Path.{_≡_}
+use Prim.Native.Nat.{ℕ, _+_, _/_, _%_}
+use native.Mathlib.Omega.{arith}
+use Rattle.image.proofs.LawsBody.{found-within}
+use Rattle.image.specs.Reading.{offsetIn, lengthIn}
+use Rattle.doilycairn.specs.Reading.{bodyAt}
+use borrow.Author.Needs.{needs}
+use Rattle.doilycairn.proofs.reading.body_at.Statement.{statement}
+use Rattle.doilycairn.proofs.reading.body_at.Tie as tie
+
+mul-at : tie.Need-mul-at
+mul-at c = let w = found-within (now (c .before .args .image)) (c .before .args .k) (c .before .pre) in omega (arith, w .entry, w .small)
+
+add-at : tie.Need-add-at
+add-at c = let w = found-within (now (c .before .args .image)) (c .before .args .k) (c .before .pre) in omega (arith, w .entry, w .small)
+
+get32-requires : tie.Need-get32-requires
+get32-requires c κs = let w = found-within (now (c .before .args .image)) (c .before .args .k) (c .before .pre) in omega (arith, w .entry, w .small)
+
+add-get32 : tie.Need-add-get32
+add-get32 c = let w = found-within (now (c .before .before .args .image)) (c .before .before .args .k) (c .before .before .pre) in omega (arith, w .entry, w .small)
+
+get32-requires-2 : tie.Need-get32-requires-2
+get32-requires-2 c κs = let w = found-within (now (c .before .before .args .image)) (c .before .before .args .k) (c .before .before .pre) in omega (arith, w .entry, w .small)
+
+add-t9 : tie.Need-add-t9
+add-t9 c = search needs
+
+returns : tie.Need-returns
+unfolding bodyAt offsetIn lengthIn
+returns c = let n = c .get322 .result in
+    let e : n / 2 + n % 2 ≡ (n + 1) / 2 = omega arith in
+    rw (e, c .before .get32 .ensures, c .get322 .ensures)
+
+pub body-at-spec : {M : Type 1} → statement M
+body-at-spec =
+    tie.close (tie.spec mul-at add-at get32-requires add-get32 get32-requires-2 add-t9 returns)

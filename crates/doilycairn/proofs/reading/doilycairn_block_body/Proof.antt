@@ -1,0 +1,40 @@
+-- `doilycairn_block_body` meets its contract. Assumes nothing.
+use mathlib.Core.Path.{sym, _∙_}
+use Rattle.image.proofs.LawsBody.{block-accepted}
+use Rattle.doilycairn.proofs.Seen.{body-found, body-refused}
+use borrow.Author.Needs.{needs}
+use Rattle.doilycairn.proofs.reading.doilycairn_block_body.Statement.{statement}
+use Rattle.doilycairn.proofs.reading.doilycairn_block_body.Tie as tie
+
+find-requires : tie.Need-find-requires
+find-requires c κs = search needs
+
+enum-told : tie.Need-enum-told
+enum-told c = search needs
+
+body-at-requires : tie.Need-body-at-requires
+body-at-requires c κs = block-accepted _ _ (sym (c .before .before .find .ensures) ∙ c .enum-told .given .1)
+
+enum-known-answer : tie.Need-enum-known-answer
+enum-known-answer c = search needs
+
+code-requires : tie.Need-code-requires
+code-requires c κs = search needs
+
+returns : tie.Need-returns
+returns c = body-found _ _ (c .body-at .ensures) (sym (c .before .before .before .find .ensures) ∙ c .before .enum-told .given .1)
+
+returns-2 : tie.Need-returns-2
+returns-2 c = body-refused _ _ _ (c .code .ensures) (sym (c .before .before .before .before .find .ensures) ∙ c .before .before .answer .given .1)
+
+pub doilycairn-block-body-spec : {M : Type 1} → statement M
+doilycairn-block-body-spec =
+    tie.close
+    (tie.spec
+    find-requires
+    enum-told
+    body-at-requires
+    enum-known-answer
+    code-requires
+    returns
+    returns-2)

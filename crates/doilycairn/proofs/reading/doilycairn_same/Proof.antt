@@ -1,0 +1,19 @@
+-- `doilycairn_same` meets its contract. Assumes nothing.
+use mathlib.Core.Path.{ap, _∙_}
+use Rattle.doilycairn.specs.Reading.{comparisonOf, sameInC}
+use borrow.Author.Needs.{needs}
+use Rattle.doilycairn.proofs.reading.doilycairn_same.Statement.{statement}
+use Rattle.doilycairn.proofs.reading.doilycairn_same.Tie as tie
+
+same-requires : tie.Need-same-requires
+same-requires c κs = search needs
+
+compared-answer-requires : tie.Need-compared-answer-requires
+compared-answer-requires c κs = search needs
+
+returns : tie.Need-returns
+unfolding sameInC
+returns c = c .compared-answer .ensures ∙ ap comparisonOf (c .before .same .ensures)
+
+pub doilycairn-same-spec : {M : Type 1} → statement M
+doilycairn-same-spec = tie.close (tie.spec same-requires compared-answer-requires returns)

@@ -1,0 +1,6 @@
+-- What the contracts cite.
+pub mod Sizes
+pub mod Measuring
+pub mod Writing
+pub mod Blocks
+pub mod Reading

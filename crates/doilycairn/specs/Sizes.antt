@@ -1,0 +1,9 @@
+-- How much room the calls' buffers need. Definitions only.
+use mathlib.Core.Bool.{cond, _&&_}
+use Prim.Native.Nat.{ℕ}
+use Rattle.clip.specs.Encoding.{totalOk, blockOk}
+use Rattle.clip.specs.Sizes.{sizeOf, cutDown}
+
+-- S of a clip; 0 where starting is refused by 4 or 6
+unfoldable pub imageSize : ℕ → ℕ → ℕ
+imageSize n size = cond (totalOk n && blockOk size) (sizeOf n (cutDown size)) 0

@@ -1,0 +1,150 @@
+// Reading an image: opening, the place of a block's body, playing, sameness (sections 4 and 5).
+ghost use mathlib.Core.Path.{_≡_};
+ghost use Rattle.image.specs.Facts.{Found};
+ghost use Rattle.doilycairn.specs.Blocks.{playing};
+ghost use Rattle.doilycairn.specs.Reading.{codeOf, openInC, bodyAt, handed, bodyInC, playbackOf, playInC, comparisonOf, sameInC};
+use crate::blocks::Playback;
+use block::FrameContext;
+use clip::fields::get32;
+use image::Answer;
+use image::Head;
+use image::PlayAnswer;
+use image::SameAnswer;
+
+// What opening returns.
+#[repr(C)]
+pub struct Opening {
+    pub code: u32,
+    pub head: Head,
+}
+
+// Where a block's body stands in the image.
+#[repr(C)]
+pub struct Body {
+    pub code: u32,
+    pub offset: u32,
+    pub bytes: u32,
+    pub nibbles: u32,
+}
+
+// What comparing returns.
+#[repr(C)]
+pub struct Comparison {
+    pub code: u32,
+    pub same: bool,
+}
+
+// The number of an answer.
+fn code_of(answer: Answer) -> u32
+    ensures { λ r. ⌜ r ≡ codeOf answer ⌝ }
+{
+    match answer {
+        Answer::Accepted => 0,
+        Answer::Refused(why) => image::code(why),
+    }
+}
+
+// The sample count of an answer, or its number.
+fn played_answer(answer: PlayAnswer, context: FrameContext) -> Playback
+    ensures { λ r. ⌜ r ≡ playbackOf answer context ⌝ }
+{
+    match answer {
+        PlayAnswer::Played(samples) => Playback {
+            code: 0,
+            samples: samples,
+            context: context,
+        },
+        PlayAnswer::Refused(why) => Playback {
+            code: image::code(why),
+            samples: 0,
+            context: context,
+        },
+    }
+}
+
+// Whether an answer is `Same`, or its number.
+fn compared_answer(answer: SameAnswer) -> Comparison
+    ensures { λ r. ⌜ r ≡ comparisonOf answer ⌝ }
+{
+    match answer {
+        SameAnswer::Same => Comparison {
+            code: 0,
+            same: true,
+        },
+        SameAnswer::Different => Comparison {
+            code: 0,
+            same: false,
+        },
+        SameAnswer::Refused(why) => Comparison {
+            code: image::code(why),
+            same: false,
+        },
+    }
+}
+
+// Where block k's body stands, by its entry.
+fn body_at(image: &[u8], k: usize) -> Body
+    requires { ⌜ Found (now image) k ⌝ }
+    ensures { λ r. ⌜ r ≡ bodyAt (now (image .entry)) k ⌝ }
+{
+    let at = 56 + 16 * k;
+    let offset = get32(image, at);
+    let nibbles = get32(image, at + 4);
+    Body {
+        code: 0,
+        offset: offset,
+        bytes: nibbles / 2 + nibbles % 2,
+        nibbles: nibbles,
+    }
+}
+
+// Opens an image.
+#[no_mangle]
+pub extern "C" fn doilycairn_open(image: &[u8]) -> Opening
+    ensures { λ r. ⌜ r ≡ openInC (now (image .entry)) ⌝ }
+{
+    let done = image::open(image);
+    let answer = done.answer;
+    let head = done.head;
+    Opening {
+        code: code_of(answer),
+        head: head,
+    }
+}
+
+// Finds block k's body.
+#[no_mangle]
+pub extern "C" fn doilycairn_block_body(image: &[u8], k: u32) -> Body
+    ensures { λ r. ⌜ handed r (now (image .entry)) ≡ bodyInC (now (image .entry)) k ⌝ }
+{
+    let answer = image::find(image, k);
+    match answer {
+        Answer::Accepted => body_at(image, k as usize),
+        Answer::Refused(why) => Body {
+            code: image::code(why),
+            offset: 0,
+            bytes: 0,
+            nibbles: 0,
+        },
+    }
+}
+
+// Plays block k.
+#[no_mangle]
+pub extern "C" fn doilycairn_play(image: &[u8], k: u32, out: &mut [i16]) -> Playback
+    ensures { λ r. ⌜ playing r (now (out .exit)) ≡ playInC (now (image .entry)) k (now (out .entry)) ⌝ }
+{
+    let done = image::play(image, k, out);
+    let answer = done.answer;
+    let context = done.context;
+    played_answer(answer, context)
+}
+
+// Compares two images.
+#[no_mangle]
+pub extern "C" fn doilycairn_same(first: &[u8], second: &[u8]) -> Comparison
+    ensures { λ r. ⌜ r ≡ sameInC (now (first .entry)) (now (second .entry)) ⌝ }
+{
+    let answer = image::same(first, second);
+    compared_answer(answer)
+}

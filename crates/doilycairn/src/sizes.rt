@@ -1,0 +1,33 @@
+// How much room the calls' buffers need.
+ghost use mathlib.Core.Path.{_≡_};
+ghost use Rattle.coefficients.specs.Measure.{neededOf};
+ghost use Rattle.doilycairn.specs.Sizes.{imageSize};
+use clip::sizes::size;
+
+// The numbers of the store that measuring so many samples needs.
+#[no_mangle]
+pub extern "C" fn doilycairn_store_size(samples: u32) -> u64
+    ensures { λ r. ⌜ r ≡ neededOf samples ⌝ }
+{
+    2 * ((samples as u64 + 13) / 14)
+}
+
+// The bytes of a clip's image; 0 where starting it is refused by 4 or 6.
+#[no_mangle]
+pub extern "C" fn doilycairn_image_size(total: u32, block_size: u32) -> u64
+    ensures { λ r. ⌜ r ≡ imageSize total «block_size» ⌝ }
+{
+    if total < 1 {
+        return 0;
+    }
+    if total > 14_680_064 {
+        return 0;
+    }
+    if block_size < 8 {
+        return 0;
+    }
+    if block_size > 65_536 {
+        return 0;
+    }
+    size(total as usize, (block_size / 8 * 8) as usize) as u64
+}

@@ -1,0 +1,114 @@
+// Encoding a frame, and starting, feeding and closing a clip (sections 2 and 3).
+ghost use mathlib.Core.Path.{_≡_};
+ghost use Rattle.doilycairn.specs.Writing.{frameCode, codeOf, frameInC, encoded, startInC, feedInC, closeInC};
+use clip::Answer;
+use clip::Encoder;
+use frame::History;
+use frame::Verdict;
+
+// What encoding one frame returns.
+#[repr(C)]
+pub struct Frame {
+    pub code: u32,
+    pub bytes: [u8; 8],
+    pub passes: u32,
+    pub history: History,
+}
+
+// What starting, feeding and closing return.
+#[repr(C)]
+pub struct Encoding {
+    pub code: u32,
+    pub encoder: Encoder,
+}
+
+// The number of a frame's verdict.
+fn frame_code(verdict: Verdict) -> u32
+    ensures { λ r. ⌜ r ≡ frameCode verdict ⌝ }
+{
+    match verdict {
+        Verdict::Encoded => 0,
+        Verdict::Refused(why) => frame::code(why),
+    }
+}
+
+// The number of an answer.
+fn code_of(answer: Answer) -> u32
+    ensures { λ r. ⌜ r ≡ codeOf answer ⌝ }
+{
+    match answer {
+        Answer::Accepted => 0,
+        Answer::Refused(why) => clip::code(why),
+    }
+}
+
+// Encodes one frame.
+#[no_mangle]
+pub extern "C" fn doilycairn_encode_frame(
+    history: History,
+    samples: &[i16; 14],
+    coefficients: &[i16; 16],
+) -> Frame
+    ensures { λ r. ⌜ r ≡ frameInC history (now (samples .entry)) (now (coefficients .entry)) ⌝ }
+{
+    let done = frame::encode_one_frame(history, *samples, *coefficients);
+    let verdict = done.verdict;
+    let bytes = done.bytes;
+    let after = done.history;
+    Frame {
+        code: frame_code(verdict),
+        bytes: bytes,
+        passes: done.passes,
+        history: after,
+    }
+}
+
+// Starts a clip.
+#[no_mangle]
+pub extern "C" fn doilycairn_start(
+    total: u32,
+    rate: u32,
+    block_size: u32,
+    gain: u16,
+    coefficients: &[i16; 16],
+    history: History,
+    image: &mut [u8],
+) -> Encoding
+    ensures { λ r. ⌜ encoded r (now (image .exit)) ≡ startInC total rate «block_size» gain (now (coefficients .entry)) history (now (image .entry)) ⌝ }
+{
+    let done = clip::start(total, rate, block_size, gain, *coefficients, history, image);
+    let answer = done.answer;
+    let encoder = done.encoder;
+    Encoding {
+        code: code_of(answer),
+        encoder: encoder,
+    }
+}
+
+// Feeds a piece.
+#[no_mangle]
+pub extern "C" fn doilycairn_feed(encoder: Encoder, piece: &[i16], image: &mut [u8]) -> Encoding
+    ensures { λ r. ⌜ encoded r (now (image .exit)) ≡ feedInC encoder (now (piece .entry)) (now (image .entry)) ⌝ }
+{
+    let done = clip::feed(encoder, piece, image);
+    let answer = done.answer;
+    let after = done.encoder;
+    Encoding {
+        code: code_of(answer),
+        encoder: after,
+    }
+}
+
+// Closes a clip.
+#[no_mangle]
+pub extern "C" fn doilycairn_close(encoder: Encoder, image: &mut [u8]) -> Encoding
+    ensures { λ r. ⌜ encoded r (now (image .exit)) ≡ closeInC encoder (now (image .entry)) ⌝ }
+{
+    let done = clip::close(encoder, image);
+    let answer = done.answer;
+    let after = done.encoder;
+    Encoding {
+        code: code_of(answer),
+        encoder: after,
+    }
+}
