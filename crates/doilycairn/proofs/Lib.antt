@@ -1,2 +1,4 @@
--- Laws that the proofs cite.
+-- Laws.
 mod Seen
+pub mod Codes
+pub mod Within

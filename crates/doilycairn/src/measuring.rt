@@ -67,10 +67,10 @@ pub extern "C" fn doilycairn_finish(
     let done = calculator.finish(records);
     let answer = done.answer;
     let coefs = done.coefficients;
-    let after = done.calculator;
+    let kept = done.calculator;
     Finished {
         code: code_of(answer),
         coefficients: coefs,
-        calculator: after,
+        calculator: kept,
     }
 }
