@@ -1,5 +1,5 @@
 -- No refusal has the number 0: code 0 is told only where a call is accepted. Assumes nothing.
-use Prim.Native.Nat.{ℕ, _<_}
+use Prim.Native.Nat.{_<_}
 use native.Mathlib.Omega.{arith}
 use Rattle.coefficients.specs.declared.Refusal as Measuring
 use Rattle.coefficients.specs.declared.Refusal.the-variants as OfMeasuring

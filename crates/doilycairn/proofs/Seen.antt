@@ -1,11 +1,11 @@
 -- A call's return, packed from a lower call's answer, is what the definition makes of that answer. Assumes nothing.
 use mathlib.Core.List.{List}
 use mathlib.Core.Path.{_≡_, ap, _∙_}
-use Prim.Native.Nat.{ℕ}
+use Prim.Native.Nat.{ℕ, _+_, _/_}
 use lib.Ieee.{Float}
 use lib.IntN.{ℤ}
 use Rattle.block.specs.declared.FrameContext.{FrameContext}
-use Rattle.block.specs.Frame.{Lent, lent}
+use Rattle.block.specs.Frame.{lent}
 use Rattle.block.specs.Join.{JoinEffect, joinEffect}
 use Rattle.block.specs.Play.{PlayEffect, playEffect}
 use Rattle.block.specs.Refusals.{Outcome}
@@ -22,6 +22,7 @@ use Rattle.image.specs.declared.PlayAnswer.{PlayAnswer}
 use Rattle.image.specs.declared.Refusal.{Refusal}
 use Rattle.image.specs.Bodies.{blockAnswer, bodyIn, blockBody}
 use Rattle.image.specs.Opened.{numberOf}
+use Rattle.image.specs.Reading.{offsetIn, lengthIn}
 use Rattle.image.specs.Samples.{Effect, effectOf}
 use Rattle.doilycairn.specs.declared.blocks.Joining.{Joining}
 use Rattle.doilycairn.specs.declared.blocks.Playback.{Playback}
@@ -66,6 +67,12 @@ open-seen f p q = ap (λ (k : ℕ). record { code = k; head = f .head }) p ∙ a
 pub play-seen : (a : PlayAnswer) (c : FrameContext) (out : List ℤ) {e : Effect} {r : Playback}
     → r ≡ Reading.playbackOf a c → effectOf a (lent c out) ≡ e → playing r out ≡ Reading.playSeen e
 play-seen a c out p q = ap (λ (r : Playback). playing r out) p ∙ ap Reading.playSeen q
+
+-- the entry's numbers, and two nibbles a byte
+pub body-told : (l : List ℕ) (k offset bytes nibbles : ℕ) → offset ≡ offsetIn l k → nibbles ≡ lengthIn l k → bytes ≡ (nibbles + 1) / 2
+    → _≡_ {A = Body} (record { code = 0; offset = offset; bytes = bytes; nibbles = nibbles }) (bodyAt l k)
+unfolding bodyAt
+body-told l k offset bytes nibbles p q e = rw (e, p, q)
 
 -- the entry's place is that of the block's body
 pub body-found : (l : List ℕ) (k : ℕ) {r : Body} → r ≡ bodyAt l k → blockAnswer l k ≡ Accepted → handed r l ≡ bodyInC l k

@@ -1,11 +1,9 @@
 -- `body_at` meets its contract. Assumes nothing.
 use denote.Ref.{now}
-use mathlib.Core.Path.{_≡_}
-use Prim.Native.Nat.{ℕ, _+_, _/_, _%_}
 use native.Mathlib.Omega.{arith}
 use Rattle.image.proofs.LawsBody.{found-within}
 use Rattle.image.specs.Reading.{offsetIn, lengthIn}
-use Rattle.doilycairn.specs.Reading.{bodyAt}
+use Rattle.doilycairn.proofs.Seen.{body-told}
 use borrow.Author.Needs.{needs}
 use Rattle.doilycairn.proofs.reading.body_at.Statement.{statement}
 use Rattle.doilycairn.proofs.reading.body_at.Tie as tie
@@ -29,10 +27,8 @@ add-t9 : tie.Need-add-t9
 add-t9 c = search needs
 
 returns : tie.Need-returns
-unfolding bodyAt offsetIn lengthIn
-returns c = let n = c .get322 .result in
-    let e : n / 2 + n % 2 ≡ (n + 1) / 2 = omega arith in
-    rw (e, c .before .get32 .ensures, c .get322 .ensures)
+unfolding offsetIn lengthIn
+returns c = body-told _ _ _ _ _ (c .before .get32 .ensures) (c .get322 .ensures) (omega arith)
 
 pub body-at-spec : {M : Type 1} → statement M
 body-at-spec =
