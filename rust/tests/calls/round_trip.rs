@@ -1,6 +1,6 @@
 //! What is closed opens and plays, near the original.
 
-use crate::clips::{clips, encode, start_of};
+use crate::clips::{clips, encode, start_of, tone};
 use doilycairn::{Image, image_size};
 
 const BLOCK_SIZES: [u32; 6] = [8, 15, 16, 64, 1000, 65_536];
@@ -48,37 +48,47 @@ fn each_sample_is_near_its_original() {
     assert!(bounded > 10_000);
 }
 
+/// Plays an image in every way there is.
+fn played_alike(bytes: &[u8]) {
+    let image = Image::open(bytes).unwrap();
+    let whole = image.play().unwrap();
+    assert_eq!(whole.len(), image.head().total as usize);
+    let mut at = 0;
+    for (k, block) in image.blocks().enumerate() {
+        assert_eq!(image.block(k as u32), Ok(block));
+        let mut out = vec![0x5a; block.sample_count() + 2];
+        let played = image.play_block(k as u32, &mut out).unwrap();
+        assert_eq!(played.samples, block.sample_count());
+        assert_eq!(out[..played.samples], whole[at..at + played.samples]);
+        assert_eq!(out[played.samples..], [0x5a; 2]);
+        let mut again = vec![0; played.samples];
+        assert_eq!(block.play(&mut again), Ok(played));
+        assert_eq!(again, out[..played.samples]);
+        at += played.samples;
+    }
+    assert_eq!(at, whole.len());
+}
+
 #[test]
 fn all_ways_to_play_agree() {
     for clip in clips() {
         for block_size in BLOCK_SIZES {
-            let bytes = encode(&clip, block_size);
-            let image = Image::open(&bytes).unwrap();
-            let whole = image.play().unwrap();
-            let samples = image.samples().unwrap();
-            assert_eq!(samples.len(), clip.len());
-            assert_eq!(samples.collect::<Vec<_>>(), whole);
-            let mut at = 0;
-            for (k, block) in image.blocks().enumerate() {
-                assert_eq!(image.block(k as u32), Ok(block));
-                let mut out = vec![0x5a; block.sample_count() + 2];
-                let played = image.play_block(k as u32, &mut out).unwrap();
-                assert_eq!(played.samples, block.sample_count());
-                assert_eq!(out[..played.samples], whole[at..at + played.samples]);
-                assert_eq!(out[played.samples..], [0x5a; 2]);
-                let mut again = vec![0; played.samples];
-                assert_eq!(block.play(&mut again), Ok(played));
-                assert_eq!(again, out[..played.samples]);
-                at += played.samples;
-            }
-            assert_eq!(at, clip.len());
+            played_alike(&encode(&clip, block_size));
         }
     }
 }
 
 #[test]
+fn offsets_and_lengths_above_16_bits() {
+    let bytes = encode(&tone(300_000), 65_536);
+    let image = Image::open(&bytes).unwrap();
+    assert_eq!(image.block(0).unwrap().nibbles, 131_072);
+    played_alike(&bytes);
+}
+
+#[test]
 fn the_samples_in_turn_know_how_many_are_left() {
-    let clip = crate::clips::tone(100);
+    let clip = tone(100);
     let bytes = encode(&clip, 16);
     let mut samples = Image::open(&bytes).unwrap().samples().unwrap();
     for left in (0..100).rev() {
@@ -90,7 +100,7 @@ fn the_samples_in_turn_know_how_many_are_left() {
 
 #[test]
 fn bytes_after_the_image_do_not_matter() {
-    let clip = crate::clips::tone(200);
+    let clip = tone(200);
     let bytes = encode(&clip, 64);
     let longer = [&bytes[..], &[0xff; 33]].concat();
     let image = Image::open(&longer).unwrap();
