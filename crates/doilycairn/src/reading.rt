@@ -117,7 +117,7 @@ pub extern "C" fn doilycairn_open(image: &[u8]) -> Opening
 pub extern "C" fn doilycairn_block_body(image: &[u8], k: u32) -> Body
     ensures { λ r. ⌜ handed r (now (image .entry)) ≡ bodyInC (now (image .entry)) k ⌝ }
 {
-    let answer = image::find(image, k);
+    let answer = image::block_answer(image, k);
     match answer {
         Answer::Accepted => body_at(image, k as usize),
         Answer::Refused(why) => Body {

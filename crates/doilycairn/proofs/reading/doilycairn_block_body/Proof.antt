@@ -6,14 +6,14 @@ use borrow.Author.Needs.{needs}
 use Rattle.doilycairn.proofs.reading.doilycairn_block_body.Statement.{statement}
 use Rattle.doilycairn.proofs.reading.doilycairn_block_body.Tie as tie
 
-find-requires : tie.Need-find-requires
+find-requires : tie.Need-block-answer-requires
 find-requires c κs = search needs
 
 enum-told : tie.Need-enum-told
 enum-told c = search needs
 
 body-at-requires : tie.Need-body-at-requires
-body-at-requires c κs = block-accepted _ _ (sym (c .before .before .find .ensures) ∙ c .enum-told .given .1)
+body-at-requires c κs = block-accepted _ _ (sym (c .before .before .block-answer .ensures) ∙ c .enum-told .given .1)
 
 enum-known-answer : tie.Need-enum-known-answer
 enum-known-answer c = search needs
@@ -22,10 +22,10 @@ code-requires : tie.Need-code-requires
 code-requires c κs = search needs
 
 returns : tie.Need-returns
-returns c = body-found _ _ (c .body-at .ensures) (sym (c .before .before .before .find .ensures) ∙ c .before .enum-told .given .1)
+returns c = body-found _ _ (c .body-at .ensures) (sym (c .before .before .before .block-answer .ensures) ∙ c .before .enum-told .given .1)
 
 returns-2 : tie.Need-returns-2
-returns-2 c = body-refused _ _ _ (c .code .ensures) (sym (c .before .before .before .before .find .ensures) ∙ c .before .before .answer .given .1)
+returns-2 c = body-refused _ _ _ (c .code .ensures) (sym (c .before .before .before .before .block-answer .ensures) ∙ c .before .before .answer .given .1)
 
 pub doilycairn-block-body-spec : {M : Type 1} → statement M
 doilycairn-block-body-spec =
