@@ -11,3 +11,5 @@ pub mod Cuts
 pub mod Bounded
 pub mod Each
 pub mod AnyStore
+pub mod Exactly
+pub mod EmptyVector

@@ -2,6 +2,7 @@
 pub mod Kit
 pub mod Constants
 pub mod Sums
+pub mod Summing
 pub mod Analysis
 pub mod Store
 pub mod Clusters

@@ -16,5 +16,5 @@ pub mod Sizes
 mod Special
 mod Stand
 mod Sums
-mod Value
+pub mod Value
 mod Words
