@@ -17,6 +17,7 @@ pub fn cases() -> Vec<Case> {
         short(&mut random),
         equal(&mut random),
         clips(&mut random),
+        rounded(),
         refused(),
     ];
     lists.concat()
@@ -25,6 +26,18 @@ pub fn cases() -> Vec<Case> {
 /// One sample, zero coefficients and history.
 fn worked() -> Vec<Case> {
     [7, 8, -9, 9].map(|sample| Case::new(&[sample], [0, 0], [0; 16])).to_vec()
+}
+
+/// D of 25 bits and more, one beyond a half of a step: only its rounding to 24 bits makes it that half.
+fn rounded() -> Vec<Case> {
+    let mut cases = vec![];
+    for half in [9, 11, 13, 15] {
+        for (sample, newest) in [(half * 1024, -1), (-half * 1024, 1)] {
+            cases.push(Case::new(&[sample], [newest, 0], pairs(1, 0)));
+            cases.push(Case::new(&[sample; 14], [newest, 0], pairs(1, 0)));
+        }
+    }
+    cases
 }
 
 /// Eight times the same pair.
