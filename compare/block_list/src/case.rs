@@ -78,11 +78,10 @@ fn hexadecimal(bytes: &[u8]) -> String {
     bytes.iter().map(|byte| format!("{byte:02x}")).collect()
 }
 
-/// What playing leaves.
-fn played(part: &Part, context: FrameContext, room: usize) -> String {
-    let mut output = vec![0x5a5a_u16; room];
+/// The refusal's number of playing, 0 where it is accepted.
+pub fn play_code(part: &Part, room: usize) -> u8 {
     let len = part.len as usize;
-    let code = if len == 0 || len > 2 * part.bytes.len() {
+    if len == 0 || len > 2 * part.bytes.len() {
         12
     } else if has_lowest_pair(&part.coefficients) {
         13
@@ -90,7 +89,14 @@ fn played(part: &Part, context: FrameContext, room: usize) -> String {
         14
     } else {
         0
-    };
+    }
+}
+
+/// What playing leaves.
+fn played(part: &Part, context: FrameContext, room: usize) -> String {
+    let mut output = vec![0x5a5a_u16; room];
+    let len = part.len as usize;
+    let code = play_code(part, room);
     if code != 0 {
         return format!("{code:02x} {:09x} {} {}", 0, words_of_context(context), words(&output));
     }

@@ -12,6 +12,6 @@ mod case;
 mod cases;
 mod random;
 
-pub use case::{Case, Part};
+pub use case::{Case, Part, has_lowest_pair, play_code};
 pub use cases::cases;
 pub use random::random_call;
