@@ -1,0 +1,69 @@
+//! From the library's types to the Rust's, and back.
+
+use clip_list::{Start, State};
+use doilycairn::{Coefficients, EncoderState, Refusal};
+use oracle::{FrameContext, History};
+
+/// The number of a refusal.
+pub fn number(refusal: Refusal) -> u8 {
+    refusal.number() as u8
+}
+
+pub fn history(history: doilycairn::History) -> History {
+    [history.newest, history.older]
+}
+
+pub fn library_history([newest, older]: History) -> doilycairn::History {
+    doilycairn::History { newest, older }
+}
+
+pub fn context(context: doilycairn::FrameContext) -> FrameContext {
+    let doilycairn::FrameContext { predictor_and_scale, last_samples } = context;
+    FrameContext { predictor_and_scale, last_samples }
+}
+
+pub fn library_context(context: FrameContext) -> doilycairn::FrameContext {
+    let FrameContext { predictor_and_scale, last_samples } = context;
+    doilycairn::FrameContext { predictor_and_scale, last_samples }
+}
+
+pub fn library_start(start: &Start) -> doilycairn::Start {
+    doilycairn::Start {
+        total: start.total,
+        rate: start.rate,
+        block_size: start.size,
+        gain: start.gain,
+        coefficients: Coefficients(start.coefficients),
+        history: library_history(start.history),
+    }
+}
+
+pub fn state(state: &EncoderState) -> State {
+    State {
+        total: state.total,
+        rate: state.rate,
+        block: state.block,
+        gain: state.gain,
+        coefficients: state.coefficients.0,
+        history: history(state.history),
+        fed: state.fed,
+        passes: state.passes,
+        frame: state.frame,
+        closed: state.closed,
+    }
+}
+
+pub fn library_state(state: &State) -> EncoderState {
+    EncoderState {
+        total: state.total,
+        rate: state.rate,
+        block: state.block,
+        gain: state.gain,
+        coefficients: Coefficients(state.coefficients),
+        fed: state.fed,
+        history: library_history(state.history),
+        frame: state.frame,
+        passes: state.passes,
+        closed: state.closed,
+    }
+}

@@ -1,0 +1,53 @@
+//! Drives libdoilycairn.a and the unchanged Rust on the same inputs and compares every result.
+//!
+//! What is encoded, played, joined, converted and measured is the Rust's answer; refusals' numbers, states and how an image is made
+//! and read are document 01's, read plainly.
+
+mod answer;
+mod blocks;
+mod calls;
+mod clips;
+mod convert;
+mod damage;
+mod encoding;
+mod frames;
+mod measuring;
+pub mod reader;
+mod reading;
+mod sameness;
+mod states;
+mod stores;
+mod tally;
+
+pub use tally::Tally;
+
+use oracle::random::Random;
+
+/// A part of the comparison: the fixed list where it has one, and random cases.
+pub struct Part {
+    pub name: &'static str,
+    fixed: fn(&mut Tally),
+    random: fn(&mut Random, &mut Tally),
+}
+
+/// All parts.
+pub const PARTS: [Part; 6] = [
+    Part { name: "frames", fixed: frames::fixed, random: frames::random },
+    Part { name: "blocks", fixed: blocks::fixed, random: blocks::random },
+    Part { name: "stores", fixed: |_| {}, random: stores::random },
+    Part { name: "states", fixed: |_| {}, random: states::random },
+    Part { name: "calls", fixed: calls::fixed, random: calls::random },
+    Part { name: "clips", fixed: |_| {}, random: clips::random },
+];
+
+/// Runs the fixed list and random cases. The comparison named `wrong` is made with altered answers and must fail.
+pub fn run(part: &Part, count: u64, seed: u64, wrong: Option<&str>) -> Tally {
+    let mut random = Random::new(seed);
+    let mut tally = Tally::new(part.name, wrong.map(str::to_owned));
+    (part.fixed)(&mut tally);
+    for _ in 0..count {
+        (part.random)(&mut random, &mut tally);
+        tally.cases += 1;
+    }
+    tally
+}

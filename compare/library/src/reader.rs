@@ -1,0 +1,122 @@
+//! Document 01's image, read plainly; its blocks are played by the Rust.
+
+use block_list::has_lowest_pair;
+use oracle::{Coefficients, FrameContext, address_to_sample, decode};
+
+/// An image that opens.
+pub struct Opened<'i> {
+    pub total: u32,
+    pub rate: u32,
+    pub block: u32,
+    pub gain: u16,
+    pub coefficients: Coefficients,
+    pub entries: Vec<Entry>,
+    bytes: &'i [u8],
+}
+
+/// What an entry says.
+#[derive(Debug, Clone, Copy)]
+pub struct Entry {
+    pub offset: usize,
+    pub nibbles: usize,
+    pub context: FrameContext,
+}
+
+fn word(bytes: &[u8], place: usize) -> u16 {
+    u16::from_be_bytes([bytes[place], bytes[place + 1]])
+}
+
+fn long(bytes: &[u8], place: usize) -> u32 {
+    u32::from(word(bytes, place)) * 65_536 + u32::from(word(bytes, place + 2))
+}
+
+/// The sizes of section 2.
+struct Sizes {
+    frames: usize,
+    last: usize,
+    blocks: usize,
+    whole: usize,
+}
+
+fn sizes(total: u32, block: u32) -> Sizes {
+    let frames = (total as usize).div_ceil(14);
+    let last = total as usize - 14 * (frames - 1);
+    let blocks = (8 * frames).div_ceil(block as usize);
+    let bodies = 8 * (frames - 1) + 1 + last.div_ceil(2);
+    Sizes { frames, last, blocks, whole: 56 + 16 * blocks + bodies }
+}
+
+/// Opens an image, or gives code 15 or 16.
+pub fn open(bytes: &[u8]) -> Result<Opened<'_>, u8> {
+    if bytes.len() < 56 || bytes[..4] != [0x44, 0x53, 0x50, 0x43] {
+        return Err(15);
+    }
+    let (total, rate, block) = (long(bytes, 4), long(bytes, 8), long(bytes, 12));
+    let is_block = (8..=65_536).contains(&block) && block % 8 == 0;
+    if total == 0 || total > 14_680_064 || rate == 0 || !is_block || word(bytes, 50) != 0 {
+        return Err(15);
+    }
+    let sizes = sizes(total, block);
+    if long(bytes, 52) as usize != sizes.blocks || bytes.len() < sizes.whole {
+        return Err(15);
+    }
+    let coefficients = std::array::from_fn(|place| word(bytes, 16 + 2 * place) as i16);
+    let entries = (0..sizes.blocks).map(|k| entry(bytes, &sizes, block as usize, k));
+    let entries = entries.collect::<Option<_>>().ok_or(16)?;
+    Ok(Opened { total, rate, block, gain: word(bytes, 48), coefficients, entries, bytes })
+}
+
+/// The entry of a block, where it is as it should be.
+fn entry(bytes: &[u8], sizes: &Sizes, block: usize, k: usize) -> Option<Entry> {
+    let place = 56 + 16 * k;
+    let offset = 56 + 16 * sizes.blocks + block * k;
+    let frames = (block / 8).min(sizes.frames - block / 8 * k);
+    let is_last = k + 1 == sizes.blocks;
+    let nibbles = if is_last { 16 * (frames - 1) + sizes.last + 2 } else { 16 * frames };
+    let context = FrameContext {
+        predictor_and_scale: word(bytes, place + 8),
+        last_samples: [word(bytes, place + 10) as i16, word(bytes, place + 12) as i16],
+    };
+    let is_good = long(bytes, place) as usize == offset
+        && long(bytes, place + 4) as usize == nibbles
+        && word(bytes, place + 14) == 0
+        && context.predictor_and_scale == u16::from(bytes[offset]);
+    is_good.then_some(Entry { offset, nibbles, context })
+}
+
+impl Opened<'_> {
+    /// The body of a block.
+    pub fn body(&self, entry: &Entry) -> &[u8] {
+        &self.bytes[entry.offset..][..entry.nibbles.div_ceil(2)]
+    }
+
+    /// Plays a block: its samples, and the context after it.
+    pub fn play(&self, k: usize, room: usize) -> Result<(Vec<i16>, FrameContext), u8> {
+        let entry = self.entries.get(k).ok_or(17)?;
+        self.test_pairs()?;
+        if room < address_to_sample(entry.nibbles) {
+            return Err(14);
+        }
+        Ok(decode(self.body(entry), entry.nibbles, &self.coefficients, entry.context))
+    }
+
+    /// Plays all blocks.
+    pub fn play_all(&self) -> Result<Vec<i16>, u8> {
+        let played = (0..self.entries.len()).map(|k| Ok(self.play(k, usize::MAX)?.0));
+        Ok(played.collect::<Result<Vec<_>, u8>>()?.concat())
+    }
+
+    /// Code 13.
+    fn test_pairs(&self) -> Result<(), u8> {
+        if has_lowest_pair(&self.coefficients) { Err(13) } else { Ok(()) }
+    }
+}
+
+/// Whether two images have equally many samples and play the same ones.
+pub fn same(first: &[u8], second: &[u8]) -> Result<bool, u8> {
+    let first = open(first)?;
+    first.test_pairs()?;
+    let second = open(second)?;
+    second.test_pairs()?;
+    Ok(first.total == second.total && first.play_all()? == second.play_all()?)
+}

@@ -1,0 +1,79 @@
+//! Opening, playing and comparing images both ways.
+
+use crate::convert::{context, number};
+use crate::reader;
+use crate::tally::Tally;
+use doilycairn::{Head, Image};
+use oracle::random::Random;
+use oracle::{Coefficients, FrameContext, address_to_sample};
+
+/// N, rate, B, gain and K; and the coefficients.
+type Headed = Result<([u32; 5], Coefficients), u8>;
+
+fn head(head: &Head) -> ([u32; 5], Coefficients) {
+    let Head { total, rate, block, gain, coefficients, blocks } = *head;
+    ([total, rate, block, gain.into(), blocks], coefficients.0)
+}
+
+fn right_head(opened: &reader::Opened) -> ([u32; 5], Coefficients) {
+    let reader::Opened { total, rate, block, gain, coefficients, .. } = *opened;
+    ([total, rate, block, gain.into(), opened.entries.len() as u32], coefficients)
+}
+
+/// Opens an image.
+pub fn compare_open(bytes: &[u8], tally: &mut Tally) {
+    let library: Headed = Image::open(bytes).map(|image| head(image.head())).map_err(number);
+    let right = reader::open(bytes).map(|opened| right_head(&opened));
+    tally.compare("open", &bytes, library, right);
+}
+
+/// Finds and plays a block of an image that opens, with any room.
+pub fn compare_block(random: &mut Random, bytes: &[u8], k: usize, tally: &mut Tally) {
+    let (Ok(image), Ok(opened)) = (Image::open(bytes), reader::open(bytes)) else { return };
+    compare_body(&image, bytes, &opened, k, tally);
+    let needed = opened.entries.get(k).map_or(3, |entry| address_to_sample(entry.nibbles));
+    let room = match random.below(8) {
+        0 => random.below(needed),
+        _ => needed + random.below_one(&[1, 20]),
+    };
+    let pattern: Vec<_> = (0..room).map(|place| (place * 251) as i16).collect();
+    let mut out = pattern.clone();
+    let played = image.play_block(k as u32, &mut out);
+    let library = played.map(|played| (played.samples, context(played.context))).map_err(number);
+    let mut right_out = pattern;
+    let right = opened.play(k, room).map(|(samples, after)| {
+        right_out[..samples.len()].copy_from_slice(&samples);
+        (samples.len(), after)
+    });
+    tally.compare("play_block", &(bytes, k, room), (library, out), (right, right_out));
+}
+
+/// The body's place and length, the length in nibbles, the coefficients and the context.
+type Body = Result<([usize; 3], Coefficients, FrameContext), u8>;
+
+fn compare_body(image: &Image, bytes: &[u8], opened: &reader::Opened, k: usize, tally: &mut Tally) {
+    let start = bytes.as_ptr().addr();
+    let library: Body = image.block(k as u32).map_err(number).map(|block| {
+        let place = block.bytes.as_ptr().addr() - start;
+        let numbers = [place, block.bytes.len(), block.nibbles as usize];
+        (numbers, block.coefficients.0, context(block.context))
+    });
+    let right: Body = opened.entries.get(k).ok_or(17).map(|entry| {
+        let numbers = [entry.offset, opened.body(entry).len(), entry.nibbles];
+        (numbers, opened.coefficients, entry.context)
+    });
+    tally.compare("block", &(bytes, k), library, right);
+}
+
+/// Plays all blocks of an image.
+pub fn compare_play(bytes: &[u8], tally: &mut Tally) {
+    let library = Image::open(bytes).and_then(|image| image.play()).map_err(number);
+    let right = reader::open(bytes).and_then(|opened| opened.play_all());
+    tally.compare("play", &bytes, library, right);
+}
+
+/// Compares two images.
+pub fn compare_same(first: &[u8], second: &[u8], tally: &mut Tally) {
+    let library = doilycairn::same(first, second).map_err(number);
+    tally.compare("same", &(first, second), library, reader::same(first, second));
+}

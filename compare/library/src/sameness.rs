@@ -1,0 +1,36 @@
+//! Images that are compared with others of the same clip.
+
+use crate::convert::number;
+use crate::damage;
+use crate::encoding::size;
+use crate::reading::compare_same;
+use crate::tally::Tally;
+use clip_list::{Start, image_of};
+use oracle::random::Random;
+
+/// The image with itself, at another block size, with one nibble changed, and with a sample less.
+pub fn compare_sameness(
+    random: &mut Random,
+    start: &Start,
+    samples: &[i16],
+    image: &[u8],
+    tally: &mut Tally,
+) {
+    let mut sure = |first: &[u8], second: &[u8], right: bool| {
+        let library = doilycairn::same(first, second).map_err(number);
+        tally.compare("same as known", &(first, second), library, Ok(right));
+    };
+    sure(image, image, true);
+    let other = image_of(&Start { size: size(random), ..start.clone() }, &[samples]);
+    sure(image, &other, true);
+    if let [less @ .., _] = samples
+        && !less.is_empty()
+    {
+        let total = less.len() as u32;
+        sure(image, &image_of(&Start { total, ..start.clone() }, &[less]), false);
+    }
+    compare_same(image, &other, tally);
+    let changed = damage::with_nibble(random, image);
+    compare_same(image, &changed, tally);
+    compare_same(&changed, &other, tally);
+}

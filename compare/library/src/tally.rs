@@ -1,0 +1,65 @@
+//! Compares answers and counts what differs.
+
+use crate::answer::Answer;
+use std::collections::BTreeMap;
+use std::fmt::{self, Debug};
+
+/// The differences that are shown.
+const SHOWN: u64 = 5;
+
+/// The counts of a part.
+pub struct Tally {
+    pub part: &'static str,
+    pub cases: u64,
+    pub differences: u64,
+    /// How often each comparison was made.
+    pub compared: BTreeMap<&'static str, u64>,
+    /// How often each refusal was seen, by its number.
+    pub refused: [u64; 19],
+    /// The comparison that is made with altered answers.
+    wrong: Option<String>,
+}
+
+impl Tally {
+    pub fn new(part: &'static str, wrong: Option<String>) -> Self {
+        let compared = BTreeMap::new();
+        Self { part, cases: 0, differences: 0, compared, refused: [0; 19], wrong }
+    }
+
+    /// Compares the library's answer with the one that it should give.
+    pub fn compare<T: Answer>(
+        &mut self,
+        what: &'static str,
+        input: &dyn Debug,
+        library: T,
+        mut right: T,
+    ) {
+        *self.compared.entry(what).or_default() += 1;
+        self.refused[usize::from(right.code())] += 1;
+        if self.wrong.as_deref() == Some(what) {
+            right.alter();
+        }
+        if library != right {
+            self.differences += 1;
+            if self.differences <= SHOWN {
+                let part = self.part;
+                eprintln!("{part}, {what}: {library:?}\n  should be {right:?}\n  for {input:?}");
+            }
+        }
+    }
+}
+
+impl fmt::Display for Tally {
+    fn fmt(&self, f: &mut fmt::Formatter) -> fmt::Result {
+        let Self { part, cases, differences, .. } = self;
+        write!(f, "{part}: {cases} random cases, {differences} differences; compared")?;
+        for (what, count) in &self.compared {
+            write!(f, ", {what} {count}")?;
+        }
+        write!(f, "; refused")?;
+        for (code, count) in self.refused.iter().enumerate().skip(1).filter(|(_, n)| **n > 0) {
+            write!(f, ", by {code} {count}")?;
+        }
+        Ok(())
+    }
+}
