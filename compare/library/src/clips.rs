@@ -72,7 +72,7 @@ fn coefficients(now: &mut Measuring) -> Result<Coefficients, u8> {
 }
 
 /// Opens an image, plays each block, one beyond the last, and all.
-fn read(random: &mut Random, image: &[u8], tally: &mut Tally) {
+pub fn read(random: &mut Random, image: &[u8], tally: &mut Tally) {
     compare_open(image, tally);
     let blocks = damage::block_count(image);
     for k in (0..=blocks).chain([u32::MAX as usize]) {

@@ -11,6 +11,7 @@ mod convert;
 mod damage;
 mod encoding;
 mod frames;
+mod long;
 mod measuring;
 pub mod reader;
 mod reading;
@@ -30,7 +31,10 @@ pub struct Part {
     random: fn(&mut Random, &mut Tally),
 }
 
-/// All parts.
+/// Long clips, run where they are asked for.
+pub const LONG: Part = Part { name: "long", fixed: |_| {}, random: long::random };
+
+/// All other parts.
 pub const PARTS: [Part; 6] = [
     Part { name: "frames", fixed: frames::fixed, random: frames::random },
     Part { name: "blocks", fixed: blocks::fixed, random: blocks::random },

@@ -1,7 +1,7 @@
 //! Compares the library with the Rust and writes a line for each part; fails where anything differs.
 //! Usage: library COUNT SEED [PART].. [wrong=COMPARISON]
 
-use library::{PARTS, Part, run};
+use library::{LONG, PARTS, Part, run};
 use std::env;
 use std::process::ExitCode;
 
@@ -12,7 +12,9 @@ fn main() -> ExitCode {
         Some(_) => ExitCode::FAILURE,
         None => {
             let names = PARTS.map(|part| part.name).join(", ");
-            eprintln!("usage: library COUNT SEED [PART].. [wrong=COMPARISON]\nparts: {names}");
+            eprintln!(
+                "usage: library COUNT SEED [PART].. [wrong=COMPARISON]\nparts: {names}, and long"
+            );
             ExitCode::from(2)
         }
     }
@@ -25,12 +27,16 @@ fn differences(words: &[String]) -> Option<u64> {
     let (wrong, names): (Vec<&str>, Vec<&str>) =
         rest.iter().map(String::as_str).partition(|word| word.starts_with("wrong="));
     let wrong = wrong.first().map(|word| &word["wrong=".len()..]);
-    if names.iter().any(|name| PARTS.iter().all(|part| part.name != *name)) {
+    let parts = || PARTS.iter().chain([&LONG]);
+    if names.iter().any(|name| parts().all(|part| part.name != *name)) {
         return None;
     }
-    let is_asked = |part: &&Part| names.is_empty() || names.contains(&part.name);
+    let is_asked = |part: &&Part| match names.is_empty() {
+        true => part.name != LONG.name,
+        false => names.contains(&part.name),
+    };
     let (mut differences, mut made) = (0, wrong.is_none());
-    for part in PARTS.iter().filter(is_asked) {
+    for part in parts().filter(is_asked) {
         let tally = run(part, count, seed, wrong);
         println!("{tally}");
         differences += tally.differences;

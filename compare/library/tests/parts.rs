@@ -1,6 +1,6 @@
 //! Nothing differs, every refusal is seen, and each comparison can fail.
 
-use library::{PARTS, run};
+use library::{LONG, PARTS, run};
 use std::process::Command;
 
 const COUNT: u64 = 400;
@@ -17,6 +17,12 @@ fn nothing_differs() {
         }
     }
     assert!(refused.iter().all(|count| *count > 0), "{refused:?}");
+}
+
+#[test]
+fn no_long_clip_differs() {
+    let tally = run(&LONG, 2, 1, None);
+    assert_eq!(tally.differences, 0, "{tally}");
 }
 
 #[test]
