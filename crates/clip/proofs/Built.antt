@@ -187,16 +187,12 @@ module _ (g : Start) (F : Fine g) (first : List ℕ) (four : length first ≡ 4)
   with-context : q % per ≡ 0 → sets (sets image (placeOf (g .total) (g .block) q) v) (contextPlace (q / per)) context ≡ (hd ++ (listed g xs (suc q) ++ filled g xs (suc q))) ++ rest
   with-context z =
       let w : q / per * per ≡ q = omega (arith, div-add-mod' q per, z) in
-      let b : first-block-of = first-block (g .total) (g .block) q (F .limits) lt z in
       ap (λ (l : List ℕ). sets l (contextPlace (q / per)) context) one-body
       ∙ context-store hd (filled g xs (suc q) ++ rest) (contextAt g xs q) (contextAt g xs (suc q)) (context-length g xs q) (q / per) context refl
       (context-here g xs q (q / per) w ∙ ap (λ (a : ℕ). contextBytes a (historyAt g xs q)) (sym (first-byte k (encodedAt g xs q .bytes) one)))
       (λ i ne. context-next g xs q i (λ e. ne (sym (mul-div-cancel i some-per) ∙ ap (λ (a : ℕ). a / per) e)))
-      (g .total) (g .block) (blocksOf (g .total) (g .block)) b (headed-length g F first four)
+      (g .total) (g .block) (blocksOf (g .total) (g .block)) (first-block (g .total) (g .block) q (F .limits) lt z) (headed-length g F first four)
       ∙ sym (regroup hd (listed g xs (suc q)) (filled g xs (suc q)) rest)
-    where
-      first-block-of : Type 0
-      first-block-of = q / (g .block / 8) < blocksOf (g .total) (g .block)
 
   without-context : q % per ≢ 0 → sets image (placeOf (g .total) (g .block) q) v ≡ (hd ++ (listed g xs (suc q) ++ filled g xs (suc q))) ++ rest
   without-context z =

@@ -9,6 +9,7 @@ pub mod Storing
 pub mod Pieces
 pub mod Ending
 pub mod Playback
+pub mod Rows
 pub mod Replay
 pub mod Stable
 pub mod Built

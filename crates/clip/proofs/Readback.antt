@@ -1,12 +1,10 @@
 -- What the bytes of X's image say.
 use mathlib.Core.Path.{_≡_, refl, sym, ap, ap₂, _∙_}
 use mathlib.Core.List.{List, [], _∷_, _++_, append-assoc}
-use mathlib.Core.Bool.{Bool, true, false}
 use Prim.Native.Nat.{ℕ, zero, suc, _+_, _-_, _*_, _/_, _%_, _<_}
 use native.Mathlib.Nat.{add-zero}
 use native.Mathlib.Omega.{arith}
-use borrow.Author.Tests.{ltb-true, ltb-false, lt-ltb}
-use lib.Dec.{ltb}
+use borrow.Author.Tests.{lt-ltb}
 use lib.IntN.{ℤ, pos}
 use lib.ListN.{length, getD, replicate, length-append, List·getD-append}
 use lib.Seq.{getD-append-add, getD-take}
@@ -16,8 +14,9 @@ use Rattle.clip.specs.Sizes.{blocksOf, bodyOf, offsetOf, lengthOf}
 use Rattle.clip.specs.Image.{be16, be32, at16, at32, sample16, mark, coefficientBytes, headOf, contextBytes, entryOf, tableOf}
 use Rattle.clip.specs.Runs.{Start, historyAt, encodedAt, bodiesOf, contextAt}
 use Rattle.clip.proofs.FieldRuns.{coefficient-length}
+use Rattle.clip.proofs.Rows.{row, row-at}
 use Rattle.clip.proofs.Tables.{table-length}
-use Rattle.clip.proofs.Stable.{bodies-length, context-length}
+use Rattle.clip.proofs.Stable.{encoded-length, bodies-length, context-length}
 use Rattle.clip.proofs.Built.{Fine, headed, listed, filled, headed-length, listed-length, filled-length, regroup, built}
 
 -- ---- fields after a known part
@@ -122,20 +121,15 @@ table-split f n b j (suc kk) (suc i) h =
 nested : (a t e r l : List ℕ) → a ++ ((t ++ (e ++ r)) ++ l) ≡ (a ++ t) ++ (e ++ (r ++ l))
 nested a t e r l = simp append-assoc
 
+bodies-row : (g : Start) (xs : List ℤ) (k : ℕ) → bodiesOf g xs k ≡ row (λ i. encodedAt g xs i .bytes) k
+unfolding bodiesOf row
+bodies-row g xs zero = refl
+bodies-row g xs (suc k) = ap (λ (l : List ℕ). l ++ encodedAt g xs k .bytes) (bodies-row g xs k)
+
 bodies-at : (g : Start) (xs : List ℤ) (k i r : ℕ) → i < k → r < 8 → getD (bodiesOf g xs k) (8 * i + r) 0 ≡ getD (encodedAt g xs i .bytes) r 0
-unfolding bodiesOf
-bodies-at g xs zero i r h l = absurd (omega arith)
-bodies-at g xs (suc k) i r h l = go (ltb i k) refl (λ lt. bodies-at g xs k i r lt l)
-  where
-    go : (t : Bool) → ltb i k ≡ t → (i < k → getD (bodiesOf g xs k) (8 * i + r) 0 ≡ getD (encodedAt g xs i .bytes) r 0)
-        → getD (bodiesOf g xs k ++ encodedAt g xs k .bytes) (8 * i + r) 0 ≡ getD (encodedAt g xs i .bytes) r 0
-    go true e rec =
-        let lt = ltb-true i k e in
-        List·getD-append (bodiesOf g xs k) (encodedAt g xs k .bytes) 0 (8 * i + r) (omega (arith, bodies-length g xs k)) ∙ rec lt
-    go false e rec =
-        let ge = ltb-false i k e in
-        let same : k ≡ i = omega arith in
-        shift (bodiesOf g xs k) (encodedAt g xs k .bytes) (8 * i + r) r (omega (arith, bodies-length g xs k)) ∙ ap (λ (n : ℕ). getD (encodedAt g xs n .bytes) r 0) same
+bodies-at g xs k i r h l =
+    let e : 8 * i + r ≡ i * 8 + r = omega arith in
+    ap₂ (λ (bytes : List ℕ) (n : ℕ). getD bytes n 0) (bodies-row g xs k) e ∙ row-at 0 8 (λ i. encodedAt g xs i .bytes) (encoded-length g xs) k i r h l
 
 module _ (g : Start) (F : Fine g) (xs : List ℤ) (k : ℕ) (rest : List ℕ) where
   -- the image with k frames encoded, closed, and what is after it

@@ -1,15 +1,12 @@
 -- X's frames, played from their bytes, are the encoder's reconstructed samples.
 use mathlib.Core.Path.{_≡_, refl, sym, ap, ap₂, _∙_, subst}
 use mathlib.Core.List.{List, [], _∷_, _++_, append-nil, append-assoc, foldl}
-use mathlib.Core.Bool.{Bool, true, false}
 use Prim.Native.Nat.{ℕ, zero, suc, _+_, _-_, _*_, _/_, _%_, _^_, _≤_, _<_}
 use native.Mathlib.Nat.{add-zero, add-suc, add-assoc}
 use native.Mathlib.Omega.{arith}
-use borrow.Author.Tests.{ltb-true, ltb-false}
-use lib.Dec.{ltb}
 use lib.IntN.{ℤ, pos, natAbs, _-ℤ_}
-use lib.ListN.{length, getD, take, length-append, List·getD-append}
-use lib.Seq.{take-all, getD-append-add}
+use lib.ListN.{length, getD, take, length-append}
+use lib.Seq.{take-all}
 use mir.Syntax.{w16}
 use mir.Val.{SFits}
 use Rattle.whole.specs.Frames.{frameAt}
@@ -26,6 +23,7 @@ use Rattle.block.specs.Frame.{Playing, playing, nibbleAt, nibblesFrom, takeNibb
 use Rattle.block.specs.Play.{takeHeader, play, playFrames}
 use Rattle.block.proofs.LawsPlay.{onto, frame-onto, repeats}
 use Rattle.clip.specs.Runs.{Start, historyAt, encodedAt}
+use Rattle.clip.proofs.Rows.{row, row-at}
 use Rattle.clip.proofs.Playback.{frame-replayed}
 
 -- every sample is of 16 bits
@@ -153,23 +151,15 @@ module _ (g : Start) (xs : List ℤ) (bytes : List ℕ) (q size : ℕ) (H : Hold
 -- ---- one sample
 
 module _ (g : Start) (xs : List ℤ) where
+  sound-row : (q k : ℕ) → soundFrom g xs q k ≡ row (λ i. encodedAt g xs (q + i) .samples) k
+  unfolding soundFrom row
+  sound-row q zero = refl
+  sound-row q (suc k) = ap (λ (l : List ℤ). l ++ encodedAt g xs (q + k) .samples) (sound-row q k)
+
   pub sound-at : (q k i r : ℕ) → i < k → r < 14 → getD (soundFrom g xs q k) (14 * i + r) (pos 0) ≡ getD (encodedAt g xs (q + i) .samples) r (pos 0)
-  unfolding soundFrom
-  sound-at q zero i r h l = absurd (omega arith)
-  sound-at q (suc k) i r h l = go (ltb i k) refl (λ lt. sound-at q k i r lt l)
-    where
-      go : (t : Bool) → ltb i k ≡ t → (i < k → getD (soundFrom g xs q k) (14 * i + r) (pos 0) ≡ getD (encodedAt g xs (q + i) .samples) r (pos 0))
-          → getD (soundFrom g xs q k ++ encodedAt g xs (q + k) .samples) (14 * i + r) (pos 0) ≡ getD (encodedAt g xs (q + i) .samples) r (pos 0)
-      go true e rec =
-          let lt = ltb-true i k e in
-          List·getD-append (soundFrom g xs q k) (encodedAt g xs (q + k) .samples) (pos 0) (14 * i + r) (omega (arith, sound-length g xs q k)) ∙ rec lt
-      go false e rec =
-          let ge = ltb-false i k e in
-          let same : k ≡ i = omega arith in
-          let place : 14 * i + r ≡ length (soundFrom g xs q k) + r = omega (arith, sound-length g xs q k) in
-          ap (λ (n : ℕ). getD (soundFrom g xs q k ++ encodedAt g xs (q + k) .samples) n (pos 0)) place
-          ∙ getD-append-add (soundFrom g xs q k) (encodedAt g xs (q + k) .samples) r (pos 0)
-          ∙ ap (λ (n : ℕ). getD (encodedAt g xs (q + n) .samples) r (pos 0)) same
+  sound-at q k i r h l =
+      let e : 14 * i + r ≡ i * 14 + r = omega arith in
+      ap₂ (λ (zs : List ℤ) (n : ℕ). getD zs n (pos 0)) (sound-row q k) e ∙ row-at (pos 0) 14 (λ i. encodedAt g xs (q + i) .samples) (λ i. samples-length g xs (q + i)) k i r h l
 
   -- two runs of frames, one after the other
   pub sound-then : (q k n : ℕ) → soundFrom g xs q (k + n) ≡ soundFrom g xs q k ++ soundFrom g xs (q + k) n

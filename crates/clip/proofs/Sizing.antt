@@ -1,9 +1,9 @@
 -- Laws of the sizes.
-use mathlib.Core.Path.{_≡_, refl, sym, ap, _∙_}
+use mathlib.Core.Path.{_≡_, sym, ap, _∙_}
 use Prim.Native.Nat.{ℕ, suc, _+_, _-_, _*_, _/_, _%_, _≤_, _<_}
-use native.Mathlib.Nat.{mul-le-mul, le-refl, div-lt-iff-lt-mul, le-div-iff-mul-le, suc-mul, mul-assoc, div-add-mod'}
+use native.Mathlib.Nat.{mul-le-mul, le-refl, div-lt-iff-lt-mul, le-div-iff-mul-le, suc-mul, mul-assoc, mul-comm, div-add-mod'}
 use native.Mathlib.Omega.{arith}
-use Rattle.clip.specs.Sizes.{lastOf, blocksOf, bodyOf, sizeOf}
+use Rattle.clip.specs.Sizes.{blocksOf}
 use Rattle.whole.specs.Frames.{most, framesOf}
 use Rattle.clip.specs.Facts.{Limits}
 
@@ -56,3 +56,18 @@ first-block n b q L h e =
     let p : q / (b / 8) * b ≡ q / (b / 8) * (b / 8) * 8 = ap (λ (x : ℕ). q / (b / 8) * x) w ∙ sym (mul-assoc (q / (b / 8)) (b / 8) 8) in
     let z : 0 < b = omega (arith, L .wide) in
     le-div-iff-mul-le {x = suc (q / (b / 8))} {y = 8 * framesOf n + b - 1} z .1 (omega (arith, suc-mul (q / (b / 8)) b, p, d))
+
+-- a block's bytes begin where its first frame's do
+pub block-place : (b j : ℕ) → b % 8 ≡ 0 → j * b ≡ 8 * (j * (b / 8))
+block-place b j e =
+    let w : b ≡ b / 8 * 8 = omega arith in
+    ap (λ (x : ℕ). j * x) w ∙ sym (mul-assoc j (b / 8) 8) ∙ mul-comm (j * (b / 8)) 8
+
+-- all frames are in blocks
+pub blocks-all : (n b : ℕ) → Limits n b → framesOf n ≤ blocksOf n b * (b / 8)
+unfolding blocksOf
+blocks-all n b L =
+    let z : 0 < b = omega (arith, L .wide) in
+    let kk = (8 * framesOf n + b - 1) / b in
+    let h : 8 * framesOf n + b - 1 < suc kk * b = div-lt-iff-lt-mul {x = 8 * framesOf n + b - 1} {y = suc kk} z .0 (omega arith) in
+    omega (arith, suc-mul kk b, block-place b kk (L .eights))

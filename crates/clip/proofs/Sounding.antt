@@ -3,7 +3,7 @@ use mathlib.Core.Path.{_≡_, refl, sym, ap, ap₂, _∙_, subst}
 use mathlib.Core.List.{List, [], _++_, append-assoc}
 use mathlib.Core.Bool.{Bool, true, false, cond}
 use Prim.Native.Nat.{ℕ, zero, suc, _+_, _-_, _*_, _/_, _%_, _^_, _≤_, _<_}
-use native.Mathlib.Nat.{div-lt-iff-lt-mul, mul-assoc, mul-comm, suc-mul, zero-mul, zero-add}
+use native.Mathlib.Nat.{suc-mul, zero-mul, zero-add}
 use native.Mathlib.Omega.{arith}
 use borrow.Author.Tests.{ltb-true, ltb-false, lt-ltb, le-ltb}
 use lib.Dec.{ltb}
@@ -17,27 +17,12 @@ use Rattle.whole.specs.Frames.{framesOf}
 use Rattle.clip.specs.Image.{mark}
 use Rattle.clip.specs.Facts.{Limits}
 use Rattle.clip.specs.Runs.{Start, encodedAt}
-use Rattle.clip.proofs.Sizing.{block-first, frames-some}
+use Rattle.clip.proofs.Sizing.{block-first, block-place, blocks-all, frames-some}
 use Rattle.clip.proofs.Built.{Fine, built}
 use Rattle.clip.proofs.Readback.{body-at}
 use Rattle.clip.proofs.Replay.{Audible, Holding, soundFrom, contextBefore, contextWithin, samples-length, sound-length, sound-at, sound-then, sample-near, block-held}
 
 -- ---- the frames of a block
-
--- a block's bytes begin where its first frame's do
-pub block-place : (b j : ℕ) → b % 8 ≡ 0 → j * b ≡ 8 * (j * (b / 8))
-block-place b j e =
-    let w : b ≡ b / 8 * 8 = omega arith in
-    ap (λ (x : ℕ). j * x) w ∙ sym (mul-assoc j (b / 8) 8) ∙ mul-comm (j * (b / 8)) 8
-
--- all frames are in blocks
-pub blocks-all : (n b : ℕ) → Limits n b → framesOf n ≤ blocksOf n b * (b / 8)
-unfolding blocksOf
-blocks-all n b L =
-    let z : 0 < b = omega (arith, L .wide) in
-    let kk = (8 * framesOf n + b - 1) / b in
-    let h : 8 * framesOf n + b - 1 < suc kk * b = div-lt-iff-lt-mul {x = 8 * framesOf n + b - 1} {y = suc kk} z .0 (omega arith) in
-    omega (arith, suc-mul kk b, block-place b kk (L .eights))
 
 -- a frame's first byte is among the bodies
 pub frame-place : (n q : ℕ) → q < framesOf n → 8 * q + 0 < bodyOf n

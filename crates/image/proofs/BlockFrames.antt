@@ -1,20 +1,17 @@
 -- A block's frames, played in turn from the image, are the block played from its entry.
-use mathlib.Core.Bool.{Bool, true, false, cond}
-use mathlib.Core.List.{List, [], _∷_, _++_, append-nil}
+use mathlib.Core.List.{List, [], _++_, append-nil}
 use mathlib.Core.Path.{_≡_, refl, sym, ap, ap₂, _∙_}
 use Prim.Native.Nat.{ℕ, zero, suc, _+_, _-_, _*_, _/_, _%_, _≤_, _<_}
 use native.Mathlib.Nat.{add-zero, add-suc, mul-div-cancel, mul-mod-left, mul-add-mod-self-right, mod-eq-of-lt}
 use native.Mathlib.Omega.{arith}
 use borrow.Author.Tests.{eq-eqb, ne-eqb}
-use lib.IntN.{ℤ}
 use lib.ListN.{getD}
-use Rattle.block.specs.declared.FrameContext.{FrameContext}
 use Rattle.block.specs.Context.{withHeader}
 use Rattle.block.specs.Frame.{Playing, playing, playFrame}
 use Rattle.block.specs.Play.{takeHeader, play, playFrames}
 use Rattle.block.proofs.LawsPlay.{onto, frame-onto, repeats}
-use Rattle.clip.specs.Sizes.{blocksOf, offsetOf, lengthOf}
-use Rattle.whole.specs.Frames.{framesOf}
+use Rattle.clip.specs.Sizes.{offsetOf}
+use Rattle.clip.proofs.Sizing.{block-place}
 use Rattle.image.specs.Reading.{totalIn, blockIn, coefficientsIn, offsetIn, lengthIn}
 use Rattle.image.specs.Facts.{Found}
 use Rattle.image.specs.Bodies.{bodyIn}
@@ -24,7 +21,6 @@ use Rattle.image.specs.Sameness.{blockSamples}
 use Rattle.image.proofs.FramePlaces.{count-whole}
 use Rattle.image.proofs.LawsBody.{found-offset, found-length}
 use Rattle.image.proofs.Parts.{part-at, frame-part}
-use Rattle.image.proofs.Places.{whole-frames}
 use Rattle.image.proofs.Shapes.{Shape, shape}
 
 -- the turn of a frame
@@ -52,7 +48,7 @@ module _ (l : List ℕ) (j : ℕ) (f : Found l j) where
   unfolding frameIn offsetOf
   place s =
       let e = found-offset l j f in
-      let p = whole-frames (totalIn l) (blockIn l) j (f .opens .head .limits) in
+      let p = block-place (blockIn l) j (f .opens .head .limits .eights) in
       omega (arith, e, p)
 
   split : lengthIn l j ≡ 16 * S .wholes + S .rest

@@ -1,5 +1,5 @@
 -- An image's frames in turn are its blocks in turn; the samples of an image are N.
-use mathlib.Core.List.{List, [], _∷_, _++_, append-assoc, append-nil}
+use mathlib.Core.List.{List, [], _++_, append-assoc, append-nil}
 use mathlib.Core.Path.{_≡_, refl, sym, ap, _∙_}
 use Prim.Native.Nat.{ℕ, zero, suc, _+_, _-_, _*_, _/_, _≤_, _<_, min}
 use native.Mathlib.Omega.{arith}
@@ -10,14 +10,14 @@ use Rattle.block.specs.Frame.{Playing, playing, playFrame}
 use Rattle.block.proofs.LawsPlay.{onto, frame-onto, frame-count}
 use Rattle.clip.specs.Sizes.{lastOf, blocksOf}
 use Rattle.whole.specs.Frames.{framesOf}
-use Rattle.clip.proofs.Sizing.{frames-some, block-first}
-use Rattle.image.specs.Reading.{totalIn, blockIn, blocksIn, coefficientsIn}
+use Rattle.clip.proofs.Sizing.{blocks-all, frames-some, block-first}
+use Rattle.image.specs.Reading.{totalIn, blockIn, coefficientsIn}
 use Rattle.image.specs.Facts.{Opens, Found}
 use Rattle.image.specs.Frames.{countOf, frameIn, contextBefore, framesIn}
 use Rattle.image.specs.Sameness.{blockSamples, samplesFrom, samplesIn}
 use Rattle.image.proofs.BlockFrames.{frames-next, block-frames}
 use Rattle.image.proofs.FramePlaces.{count-whole, count-last}
-use Rattle.image.proofs.Shapes.{shape, blocks-cover}
+use Rattle.image.proofs.Shapes.{shape}
 
 -- ---- blocks in turn
 
@@ -51,7 +51,7 @@ module _ (l : List ℕ) (o : Opens l) where
   pub frames-all : framesIn l (framesOf (totalIn l)) .samples ≡ samplesIn l
   unfolding samplesIn
   frames-all =
-      let c = blocks-cover (totalIn l) (blockIn l) (o .head .limits) in
+      let c = blocks-all (totalIn l) (blockIn l) (o .head .limits) in
       let e : framesOf (totalIn l) ≡ min (blocksOf (totalIn l) (blockIn l) * (blockIn l / 8)) (framesOf (totalIn l)) = omega arith in
       ap (λ (x : ℕ). framesIn l x .samples) e
       ∙ frames-blocks (blocksOf (totalIn l) (blockIn l)) (omega arith)

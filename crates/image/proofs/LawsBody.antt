@@ -1,13 +1,13 @@
 -- Bodies within an image that opens.
-use mathlib.Core.Bool.{Bool, true, false, cond, _||_}
+use mathlib.Core.Bool.{Bool, true, false, cond}
 use mathlib.Core.List.{List, []}
-use mathlib.Core.Path.{_≡_, refl, sym, ap, ap₂, _∙_, subst}
+use mathlib.Core.Path.{_≡_, refl, sym, ap₂, subst}
 use Prim.Native.Nat.{ℕ, _+_, _-_, _*_, _/_, _≤_, _<_}
 use native.Mathlib.Omega.{arith}
-use borrow.Author.Tests.{leb-true, leb-false, lt-leb, le-ltb, ltb-true, ltb-false, ne-eqb}
-use lib.Dec.{eqb, leb, ltb}
+use borrow.Author.Tests.{leb-false, lt-leb, le-ltb, ltb-true, ltb-false, ne-eqb}
+use lib.Dec.{leb, ltb}
 use lib.IntN.{ℤ}
-use lib.ListN.{length, take, drop, length-drop}
+use lib.ListN.{length, drop, length-drop}
 use lib.Seq.{length-take-le}
 use mir.Facts.{toZ-ofZ}
 use mir.Syntax.{w16}
@@ -18,18 +18,18 @@ use Rattle.block.specs.Refusals.{badLength, lowestPair}
 use Rattle.clip.specs.Facts.{Limits}
 use Rattle.clip.specs.Sizes.{lastOf, blocksOf, bodyOf, sizeOf, offsetOf, lengthOf}
 use Rattle.whole.specs.Frames.{framesOf}
-use Rattle.clip.proofs.Sizing.{block-first, frames-some}
+use Rattle.clip.proofs.Sizing.{block-place, block-first}
 use Rattle.image.specs.declared.Answer.{Answer}
 use Rattle.image.specs.declared.Answer.the-variants.{Accepted, Refused}
 use Rattle.image.specs.declared.Refusal.{Refusal}
 use Rattle.image.specs.declared.Refusal.the-variants.{NoSuchBlock, LowestPair, OutputTooShort}
 use Rattle.image.specs.Reading.{totalIn, blockIn, blocksIn, coefficientsIn, offsetIn, lengthIn, headerIn, newestIn, olderIn}
 use Rattle.image.specs.Opened.{openAnswer}
-use Rattle.image.specs.Facts.{Opens, Found}
+use Rattle.image.specs.Facts.{Found}
 use Rattle.image.specs.Bodies.{andThen, blockAnswer, bodyIn, blockBody}
 use Rattle.image.specs.Samples.{contextIn, playAnswer}
 use Rattle.image.proofs.Accepting.{opened, opens, failed}
-use Rattle.image.proofs.Places.{Within, within, whole-frames}
+use Rattle.image.proofs.Places.{Within, within}
 
 -- ---- where a body ends
 
@@ -51,11 +51,11 @@ module _ (n b k : ℕ) (L : Limits n b) (h : k < blocksOf n b) where
           → 56 + 16 * blocksOf n b + k * b + (cond t (16 * (b / 8)) (16 * (framesOf n - 1 - first) + (lastOf n + 2)) + 1) / 2
           ≤ 56 + 16 * blocksOf n b + (8 * (framesOf n - 1) + 1 + (lastOf n + 1) / 2)
       go true e =
-          let p = whole-frames n b k L in
+          let p = block-place b k (L .eights) in
           let q = ltb-true (first + b / 8) (framesOf n) e in
           omega arith
       go false e =
-          let p = whole-frames n b k L in
+          let p = block-place b k (L .eights) in
           let f = block-first n b k L h in
           omega arith
 

@@ -1,8 +1,8 @@
 -- The frames of a block.
-use mathlib.Core.Bool.{Bool, true, false, cond}
+use mathlib.Core.Bool.{Bool, true, false}
 use mathlib.Core.Path.{_≡_, refl, sym, _∙_}
-use Prim.Native.Nat.{ℕ, suc, _+_, _-_, _*_, _/_, _%_, _≤_, _<_, min}
-use native.Mathlib.Nat.{suc-mul, mul-assoc, div-add-mod', mod-lt}
+use Prim.Native.Nat.{ℕ, suc, _+_, _-_, _*_, _/_, _≤_, _<_, min}
+use native.Mathlib.Nat.{suc-mul}
 use native.Mathlib.Omega.{arith}
 use borrow.Author.Tests.{ltb-true, ltb-false}
 use lib.Dec.{ltb}
@@ -12,7 +12,6 @@ use Rattle.whole.specs.Frames.{framesOf}
 use Rattle.clip.proofs.Sizing.{block-first}
 use Rattle.image.specs.Frames.{countOf}
 use Rattle.image.proofs.FramePlaces.{count-whole, count-last, last-most}
-use Rattle.image.proofs.Places.{whole-frames}
 
 -- block j's frames: those before its last, and the nibbles of its last
 pub record Shape (n b j : ℕ) : Type 0 where
@@ -67,14 +66,3 @@ module _ (n b : ℕ) (L : Limits n b) where
             last = count-last n (j * (b / 8) + (framesOf n - 1 - j * (b / 8))) (omega arith) ∙ sym z;
             ends = omega arith;
           }
-
-  -- the blocks hold all the frames
-  pub blocks-cover : framesOf n ≤ blocksOf n b * (b / 8)
-  unfolding blocksOf
-  blocks-cover =
-      let w = L .wide in
-      let z : 0 < b = omega arith in
-      let d = div-add-mod' (8 * framesOf n + b - 1) b in
-      let r = mod-lt (8 * framesOf n + b - 1) z in
-      let p = whole-frames n b ((8 * framesOf n + b - 1) / b) L in
-      omega (arith, d, r, p)
