@@ -14,6 +14,9 @@ use timing::Times;
 /// Lengths of the clips: 100 frames to the most that the library takes.
 const COUNTS: [usize; 5] = [1_400, 14_000, 140_000, 1_400_000, 14_680_064];
 
+/// Longer clips have three rounds at most: each takes seconds.
+const LONG: usize = 2_000_000;
+
 /// A number of the command line.
 fn argument(place: usize, otherwise: usize) -> usize {
     match std::env::args().nth(place) {
@@ -25,6 +28,7 @@ fn argument(place: usize, otherwise: usize) -> usize {
 /// The times of every part of a clip.
 fn times(sound: Sound, count: usize, rounds: usize) -> Vec<Times> {
     eprintln!("{} {count}", sound.name());
+    let rounds = if count > LONG { rounds.min(3) } else { rounds };
     let mut case = Case::new(sound.clip(count));
     Part::ALL.into_iter().map(|part| case.times(part, rounds)).collect()
 }
@@ -58,7 +62,7 @@ fn main() {
         .map(|sound| counts.iter().map(|count| times(sound, *count, rounds)).collect())
         .collect();
     println!(
-        "Times the Rust's speed (nanoseconds a sample, Rust : library), medians of {rounds} rounds.\n"
+        "Times the Rust's speed (nanoseconds a sample, Rust : library), medians of {rounds} rounds, of 3 at most for the longest clip.\n"
     );
     for part in 0..Part::ALL.len() {
         print_table(part, &counts, &all);
