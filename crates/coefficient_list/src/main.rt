@@ -92,7 +92,7 @@ fn pattern(x: i16) -> u64 {
 // Writes the number of a refusal.
 fn write_refusal(why: Refusal) -> bool {
     io::write_all(1, b"refused ");
-    io::print_decimal(1, coefficients::refusal_number(why) as u64);
+    io::print_decimal(1, coefficients::code(why) as u64);
     io::write_all(1, b"\n")
 }
 

@@ -48,10 +48,10 @@ pub struct Finished {
 }
 
 // Document 01's number of a refusal.
-pub fn refusal_number(r: Refusal) -> u32
-    ensures { λ n. ⌜ n ≡ Measure.numberOf r ⌝ }
+pub fn code(refusal: Refusal) -> u32
+    ensures { λ r. ⌜ r ≡ Measure.numberOf refusal ⌝ }
 {
-    match r {
+    match refusal {
         Refusal::InvalidState => 1,
         Refusal::TooManySamples => 2,
         Refusal::StoreTooShort => 3,

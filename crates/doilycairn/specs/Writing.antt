@@ -10,7 +10,8 @@ use Rattle.frame.specs.declared.History.{History}
 use Rattle.frame.specs.declared.OneFrame.{OneFrame}
 use Rattle.frame.specs.declared.Verdict.{Verdict}
 use Rattle.frame.specs.declared.Verdict.the-variants as Frames
-use Rattle.frame.specs.Frame.{refusalNumber, encodeOneFrame}
+use Rattle.frame.specs.Frame as OneFrames
+use Rattle.frame.specs.Frame.{encodeOneFrame}
 use Rattle.doilycairn.specs.declared.writing.Frame.{Frame}
 use Rattle.doilycairn.specs.declared.writing.Encoding.{Encoding}
 
@@ -19,7 +20,7 @@ use Rattle.doilycairn.specs.declared.writing.Encoding.{Encoding}
 -- 0 where the frame is encoded, else document 01's number
 abbrev pub frameCode : Verdict → ℕ
 frameCode Frames.Encoded = 0
-frameCode (Frames.Refused r) = refusalNumber r
+frameCode (Frames.Refused r) = OneFrames.numberOf r
 
 abbrev pub frameSeen : OneFrame → Frame
 frameSeen o = record { code = frameCode (o .verdict); bytes = o .bytes; passes = o .passes; history = o .history }

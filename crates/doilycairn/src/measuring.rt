@@ -26,7 +26,7 @@ fn code_of(answer: Answer) -> u32
 {
     match answer {
         Answer::Accepted => 0,
-        Answer::Refused(why) => coefficients::refusal_number(why),
+        Answer::Refused(why) => coefficients::code(why),
     }
 }
 

@@ -68,8 +68,8 @@ unfoldable pub withinLimits : List ℤ → Bool
 withinLimits cs = within cs 8
 
 -- document 01's number
-abbrev pub refusalNumber : Refusal → ℕ
-refusalNumber CoefficientOutside = 7
+abbrev pub numberOf : Refusal → ℕ
+numberOf CoefficientOutside = 7
 
 -- "answers the eight bytes, the passes and the new history"; a refusal answers no bytes, no passes and the history given
 unfoldable pub encodeOneFrame : History → List ℤ → List ℤ → OneFrame

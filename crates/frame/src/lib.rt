@@ -3,7 +3,7 @@ ghost use mathlib.Core.Path.{_≡_};
 ghost use Prim.Native.Nat.{_≤_};
 ghost use lib.IntN.{natAbs};
 ghost use Rattle.frame.specs.Choice.{AllBounded};
-ghost use Rattle.frame.specs.Frame.{encodeFrame, encodeOneFrame, historyAfter, pairWithin, refusalNumber, withinLimits};
+ghost use Rattle.frame.specs.Frame.{encodeFrame, encodeOneFrame, historyAfter, pairWithin, numberOf, withinLimits};
 
 mod choice;
 mod estimate;
@@ -137,7 +137,7 @@ pub fn encode_one_frame(history: History, samples: [i16; 14], coefs: [i16; 16]) 
 
 // Document 01's number of a refusal.
 pub fn code(refusal: Refusal) -> u32
-    ensures { λ r. ⌜ r ≡ refusalNumber refusal ⌝ }
+    ensures { λ r. ⌜ r ≡ numberOf refusal ⌝ }
 {
     match refusal {
         Refusal::CoefficientOutside => 7,
