@@ -60,3 +60,8 @@ pub const MAX_SAMPLES: u32 = 14_680_064;
 
 /// The limits of a block size, in bytes.
 pub const BLOCK_SIZES: std::ops::RangeInclusive<u32> = 8..=65_536;
+
+/// The code in docs/EDITOR.md, run as tests.
+#[cfg(doctest)]
+#[doc = include_str!("../../docs/EDITOR.md")]
+struct Editor;

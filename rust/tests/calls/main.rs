@@ -4,6 +4,7 @@ mod blocks;
 mod clips;
 mod cuts;
 mod damage;
+mod editor;
 mod lists;
 mod refusals;
 mod round_trip;

@@ -1,0 +1,150 @@
+//! What docs/EDITOR.md says of a sound editor's screens.
+
+use crate::clips::{encode, encode_from, noise, start_of, tone};
+use doilycairn::{Block, Encoder, Image, Start, address_to_sample, image_size, join, same};
+
+#[path = "../../examples/undo.rs"]
+mod undo_example;
+
+#[test]
+fn the_worked_example_of_undo_runs() {
+    undo_example::main().unwrap();
+}
+
+#[test]
+fn the_worked_example_in_the_document_is_the_file() {
+    let document = include_str!("../../../docs/EDITOR.md");
+    let quoted = document.split("```").nth(1).unwrap();
+    assert_eq!(quoted.strip_prefix("rust\n"), Some(include_str!("../../examples/undo.rs")));
+}
+
+/// The bytes of all bodies.
+fn bodies(bytes: &[u8]) -> &[u8] {
+    &bytes[56 + 16 * Image::open(bytes).unwrap().head().blocks as usize..]
+}
+
+#[test]
+fn trimming_the_end_keeps_every_full_frame_before_it() {
+    let clip = noise(600, 9000, 5);
+    let start = start_of(&clip, 64);
+    let whole = encode_from(&start, &clip);
+    for end in [1, 13, 14, 15, 223, 224, 225, 599] {
+        let part = encode_from(&Start { total: end as u32, ..start }, &clip[..end]);
+        let frames = end / 14 * 8;
+        assert_eq!(bodies(&part)[..frames], bodies(&whole)[..frames]);
+        let samples = end / 14 * 14;
+        let play = |bytes| Image::open(bytes).unwrap().play().unwrap();
+        assert_eq!(play(&part)[..samples], play(&whole)[..samples]);
+    }
+}
+
+#[test]
+fn trimming_to_a_frames_edge_with_the_history_there_keeps_the_frames() {
+    let clip = noise(600, 9000, 5);
+    let start = start_of(&clip, 64);
+    let whole = encode_from(&start, &clip);
+    for at in [14, 28, 112, 224, 588] {
+        let mut encoder = Encoder::start(&start).unwrap();
+        encoder.feed(&clip[..at]).unwrap();
+        let history = encoder.state().history;
+        let rest = Start { total: 600 - at as u32, history, ..start };
+        let part = encode_from(&rest, &clip[at..]);
+        assert_eq!(bodies(&part), &bodies(&whole)[at / 14 * 8..]);
+        let play = |bytes| Image::open(bytes).unwrap().play().unwrap();
+        assert_eq!(play(&part), play(&whole)[at..]);
+    }
+}
+
+#[test]
+fn the_history_at_a_blocks_edge_stands_in_its_entry() {
+    let clip = noise(600, 9000, 5);
+    let start = start_of(&clip, 64);
+    let whole = encode_from(&start, &clip);
+    let mut encoder = Encoder::start(&start).unwrap();
+    for (block, piece) in Image::open(&whole).unwrap().blocks().zip(clip.chunks(112)) {
+        let history = encoder.state().history;
+        assert_eq!(block.context.last_samples, [history.newest, history.older]);
+        encoder.feed(piece).unwrap();
+    }
+}
+
+#[test]
+fn a_trim_elsewhere_may_play_other_samples() {
+    let clip = noise(600, 9000, 5);
+    let start = start_of(&clip, 64);
+    let play = |bytes: &[u8]| Image::open(bytes).unwrap().play().unwrap();
+    let whole = play(&encode_from(&start, &clip));
+    let part = play(&encode_from(&Start { total: 593, ..start }, &clip[7..]));
+    assert_ne!(part, whole[7..]);
+    // A last frame cut short is encoded with zeros after it.
+    let part = play(&encode_from(&Start { total: 15, ..start }, &clip[..15]));
+    assert_eq!(part[..14], whole[..14]);
+    assert_ne!(part[14], whole[14]);
+}
+
+/// A loop from the last whole block back to the first, as joined bytes.
+fn looped(image: &Image) -> (Vec<i16>, usize) {
+    let (first, last) = (image.block(0).unwrap(), image.block(2).unwrap());
+    let mut out = vec![0; first.bytes.len() + last.bytes.len()];
+    let nibbles = join(&last, &first, &mut out).unwrap() as u32;
+    let mut samples = vec![0; address_to_sample(nibbles) as usize];
+    Block { bytes: &out, nibbles, ..last }.play(&mut samples).unwrap();
+    (samples, last.sample_count())
+}
+
+#[test]
+fn joined_bytes_go_on_from_where_the_first_block_ends_and_not_from_the_entry() {
+    let bytes = encode(&tone(500), 64);
+    let image = Image::open(&bytes).unwrap();
+    let whole = image.play().unwrap();
+    let (samples, seam) = looped(&image);
+    assert_eq!(samples[..seam], whole[2 * 112..3 * 112]);
+    assert_ne!(samples[seam..], whole[..112]);
+    let first = image.block(0).unwrap();
+    let mut ended = image.play_block(2, &mut [0; 112]).unwrap().context;
+    ended.predictor_and_scale = first.context.predictor_and_scale;
+    let mut out = [0; 112];
+    Block { context: ended, ..first }.play(&mut out).unwrap();
+    assert_eq!(samples[seam..], out);
+}
+
+#[test]
+fn images_stand_one_after_the_other_in_a_bank() {
+    let clips = [tone(100), noise(333, 9000, 1), tone(14), noise(2000, 30_000, 2)];
+    let sizes = clips.each_ref().map(|clip| image_size(clip.len() as u32, 64).unwrap());
+    let mut bank = vec![0x5a; sizes.iter().sum::<usize>() + 9];
+    let mut at = 0;
+    for (clip, size) in clips.iter().zip(sizes) {
+        let mut encoder = Encoder::start_in(&start_of(clip, 64), &mut bank[at..]).unwrap();
+        encoder.feed(clip).unwrap();
+        encoder.close().unwrap();
+        at += size;
+        assert!(bank[at..].iter().all(|byte| *byte == 0x5a));
+    }
+    at = 0;
+    for (clip, size) in clips.iter().zip(sizes) {
+        assert_eq!(bank[at..at + size], encode(clip, 64));
+        assert_eq!(same(&bank[at..], &encode(clip, 4096)), Ok(true));
+        for (j, block) in Image::open(&bank[at..]).unwrap().blocks().enumerate() {
+            let place = block.bytes.as_ptr() as usize - bank[at..].as_ptr() as usize;
+            assert_eq!(place, size - bodies(&bank[at..at + size]).len() + 64 * j);
+        }
+        at += size;
+    }
+}
+
+#[test]
+fn the_originals_peak_is_near_the_peak_played() {
+    let clip = tone(1000);
+    let bytes = encode(&clip, 64);
+    let image = Image::open(&bytes).unwrap();
+    let loudest = |samples: &[i16]| samples.iter().map(|s| i32::from(*s).abs()).max().unwrap();
+    let headers = image.blocks().flat_map(|block| block.bytes.iter().step_by(8));
+    let played = image.play().unwrap();
+    for ((header, original), played) in headers.zip(clip.chunks(14)).zip(played.chunks(14)) {
+        let exponent = header & 15;
+        assert!(exponent < 12);
+        let most = (3 * (1 << exponent) + 1) / 2;
+        assert!((loudest(original) - loudest(played)).abs() <= most);
+    }
+}
