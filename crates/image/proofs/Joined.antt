@@ -22,7 +22,7 @@ use Rattle.image.proofs.Shapes.{shape}
 -- ---- blocks in turn
 
 -- a block more
-samples-snoc : (l : List ℕ) (j k t : ℕ) → t ≡ j + k → samplesFrom l j (suc k) ≡ samplesFrom l j k ++ blockSamples l t
+pub samples-snoc : (l : List ℕ) (j k t : ℕ) → t ≡ j + k → samplesFrom l j (suc k) ≡ samplesFrom l j k ++ blockSamples l t
 unfolding samplesFrom
 samples-snoc l j zero t e = let z : j ≡ t = omega arith in append-nil (blockSamples l j) ∙ ap (blockSamples l) z
 samples-snoc l j (suc k) t e =

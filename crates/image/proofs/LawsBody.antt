@@ -25,7 +25,7 @@ use Rattle.image.specs.declared.Refusal.{Refusal}
 use Rattle.image.specs.declared.Refusal.the-variants.{NoSuchBlock, LowestPair, OutputTooShort}
 use Rattle.image.specs.Reading.{totalIn, blockIn, blocksIn, coefficientsIn, offsetIn, lengthIn, headerIn, newestIn, olderIn}
 use Rattle.image.specs.Opened.{openAnswer}
-use Rattle.image.specs.Facts.{Found}
+use Rattle.image.specs.Facts.{Found, Playable}
 use Rattle.image.specs.Bodies.{andThen, blockAnswer, bodyIn, blockBody}
 use Rattle.image.specs.Samples.{contextIn, playAnswer}
 use Rattle.image.proofs.Accepting.{opened, opens, failed}
@@ -90,12 +90,6 @@ unfolding blockAnswer
 block-accepts l k f =
     let lt : k < blocksIn l = subst (λ (x : ℕ). k < x) (sym (f .opens .head .blocks)) (f .block) in
     rw (opens l (f .opens), lt-leb (blocksIn l) k lt)
-
--- what playing was accepted with
-pub record Playable (l : List ℕ) (k room : ℕ) : Type 0 where
-  pub found : Found l k
-  pub pairs : lowestPair (coefficientsIn l) ≡ false
-  pub enough : addressToSample (lengthIn l k) ≤ room
 
 pub play-accepted : (l : List ℕ) (k room : ℕ) → playAnswer l k room ≡ Accepted → Playable l k room
 unfolding playAnswer

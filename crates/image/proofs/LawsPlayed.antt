@@ -15,11 +15,11 @@ use Rattle.block.proofs.LawsPlay.{play-count}
 use Rattle.image.specs.declared.Answer.the-variants.{Accepted}
 use Rattle.image.specs.declared.PlayAnswer.the-variants as Played
 use Rattle.image.specs.Reading.{coefficientsIn, lengthIn}
-use Rattle.image.specs.Facts.{Found}
+use Rattle.image.specs.Facts.{Found, Playable}
 use Rattle.image.specs.Bodies.{bodyIn}
 use Rattle.image.specs.Samples.{contextIn, playAnswer, Effect, effectOf, playOf}
 use Rattle.image.specs.Sameness.{blockSamples}
-use Rattle.image.proofs.LawsBody.{Playable, play-accepts, found-good, found-some}
+use Rattle.image.proofs.LawsBody.{play-accepts, found-good, found-some}
 
 module _ (l : List ℕ) (k : ℕ) (out : List ℤ) (p : Playable l k (length out)) where
   abbrev pub leaves : Lent
@@ -31,15 +31,18 @@ module _ (l : List ℕ) (k : ℕ) (out : List ℤ) (p : Playable l k (length out
   play-leaves = rw (play-accepts l k (length out) p)
 
   -- what the call of playing bytes left, with what was read for it
-  pub play-made : (n s : ℕ) (cs : List ℤ) (c after : FrameContext) (body : List ℕ) (o : Outcome) (left : List ℤ)
+  pub bytes-made : (n : ℕ) (cs : List ℤ) (c after : FrameContext) (body : List ℕ) (o : Outcome) (left : List ℤ)
       → n ≡ lengthIn l k → cs ≡ coefficientsIn l → c ≡ contextIn l k → body ≡ bodyIn l k
-      → playEffect o (lent after left) ≡ playBytes body n cs c out → s ≡ addressToSample n
-      → effectOf (Played.Played s) (lent after left) ≡ playOf l k out
-  play-made n s cs c after body o left en ec ex eb e es =
+      → playEffect o (lent after left) ≡ playBytes body n cs c out → lent after left ≡ leaves
+  bytes-made n cs c after body o left en ec ex eb e =
       let d : playEffect (accepted (addressToSample (lengthIn l k))) leaves ≡ playBytes (bodyIn l k) (lengthIn l k) (coefficientsIn l) (contextIn l k) out =
       play-done (bodyIn l k) (lengthIn l k) (coefficientsIn l) (contextIn l k) out (addressToSample (lengthIn l k)) leaves (found-good l k (p .found)) (p .pairs) (p .enough) refl refl in
       let q : playEffect o (lent after left) ≡ playEffect (accepted (addressToSample (lengthIn l k))) leaves = (rw (en, ec, ex, eb) at e) ∙ sym d in
-      rw (es, en) (ap (λ (x : PlayEffect). effectOf (Played.Played (addressToSample (lengthIn l k))) (lent (x .context) (x .out))) q) ∙ play-leaves
+      ap (λ (x : PlayEffect). lent (x .context) (x .out)) q
+
+  -- the call's effect, with the count that was worked out
+  pub play-made : (n s : ℕ) (x : Lent) → n ≡ lengthIn l k → s ≡ addressToSample n → x ≡ leaves → effectOf (Played.Played s) x ≡ playOf l k out
+  play-made n s x en es e = rw (es, en, e) play-leaves
 
   -- the output after an accepted call: the block's samples, and what stood beyond them
   pub play-output : playOf l k out .out ≡ blockSamples l k ++ drop (addressToSample (lengthIn l k)) out

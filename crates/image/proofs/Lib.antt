@@ -13,5 +13,7 @@ pub mod BlockFrames
 pub mod Joined
 pub mod LawsSame
 pub mod Worked
+pub mod LawsAll
+pub mod InTurn
 mod LawsTurn
 mod EntryTurns

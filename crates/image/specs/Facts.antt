@@ -1,15 +1,17 @@
 -- What an image that opens satisfies.
-use mathlib.Core.Bool.{true}
+use mathlib.Core.Bool.{true, false}
 use mathlib.Core.List.{List}
 use mathlib.Core.Path.{_≡_}
 use Prim.Native.Nat.{ℕ, _≤_, _<_}
 use lib.ListN.{length, getD}
+use Rattle.block.specs.Address.{addressToSample}
+use Rattle.block.specs.Refusals.{lowestPair}
 use Rattle.clip.specs.Facts.{Limits}
 use Rattle.clip.specs.Sizes.{blocksOf, sizeOf, offsetOf, lengthOf}
 use Rattle.whole.specs.Frames.{framesOf}
 use Rattle.image.specs.declared.Head.{Head}
 use Rattle.image.specs.Frames.{countOf}
-use Rattle.image.specs.Reading.{totalIn, rateIn, blockIn, zeroIn, blocksIn, headIn, offsetIn, lengthIn, headerIn, entryZeroIn}
+use Rattle.image.specs.Reading.{totalIn, rateIn, blockIn, zeroIn, blocksIn, coefficientsIn, headIn, offsetIn, lengthIn, headerIn, entryZeroIn}
 use Rattle.image.specs.Opened.{markOk}
 
 -- a head that 15 does not refuse
@@ -37,6 +39,18 @@ pub record Opens (l : List ℕ) : Type 0 where
 pub record Found (l : List ℕ) (k : ℕ) : Type 0 where
   pub opens : Opens l
   pub block : k < blocksOf (totalIn l) (blockIn l)
+
+-- what playing block k was accepted with
+pub record Playable (l : List ℕ) (k room : ℕ) : Type 0 where
+  pub found : Found l k
+  pub pairs : lowestPair (coefficientsIn l) ≡ false
+  pub enough : addressToSample (lengthIn l k) ≤ room
+
+-- what playing the whole image was accepted with
+pub record AllPlayable (l : List ℕ) (room : ℕ) : Type 0 where
+  pub opens : Opens l
+  pub pairs : lowestPair (coefficientsIn l) ≡ false
+  pub enough : totalIn l ≤ room
 
 -- the image opens, B and K are as they were read, and there is a frame i
 pub record Source (l : List ℕ) (block kk i : ℕ) : Type 0 where

@@ -5,4 +5,5 @@ pub mod Bodies
 pub mod Samples
 pub mod Frames
 pub mod Sameness
+pub mod AllBlocks
 pub mod Facts

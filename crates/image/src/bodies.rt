@@ -4,6 +4,7 @@ ghost use Prim.Native.Nat.{_+_, _*_, _≤_, _<_};
 ghost use lib.ListN.{length};
 ghost use Rattle.image.specs.Bodies.{bodyIn};
 ghost use Rattle.image.specs.Facts.{Found};
+ghost use Rattle.image.specs.Reading.{lengthIn};
 ghost use Rattle.image.specs.Samples.{contextIn};
 use crate::heading::signed_at;
 use crate::heading::word_at;
@@ -22,8 +23,16 @@ pub(crate) fn find_body<'a>(image: &'a [u8], k: usize) -> &'a [u8]
     &image[start..end]
 }
 
-// Block k's context.
-pub(crate) fn read_context(image: &[u8], k: usize) -> FrameContext
+// Block k's length in nibbles.
+pub(crate) fn read_length(image: &[u8], k: usize) -> u32
+    requires { ⌜ Found (now image) k ⌝ }
+    ensures { λ r. ⌜ r ≡ lengthIn (now (image .entry)) k ⌝ }
+{
+    get32(image, 56 + 16 * k + 4)
+}
+
+// Block k's context. It is internal: crate doilycairn calls it.
+pub fn read_context(image: &[u8], k: usize) -> FrameContext
     requires { ⌜ Found (now image) k ⌝ }
     ensures { λ r. ⌜ r ≡ contextIn (now (image .entry)) k ⌝ }
 {

@@ -3,6 +3,7 @@ ghost use mathlib.Core.Path.{_≡_};
 ghost use Rattle.image.specs.Opened.{openAnswer};
 ghost use Rattle.image.specs.Samples.{playAnswer};
 ghost use Rattle.image.specs.Sameness.{compareAnswer, bothAnswer};
+ghost use Rattle.image.specs.AllBlocks.{allAnswer};
 use crate::Answer;
 use crate::Refusal;
 use crate::block_answer;
@@ -75,6 +76,22 @@ pub(crate) fn both_answer(a: &[u8], b: &[u8]) -> Answer
     let answer = compare_answer(a);
     match answer {
         Answer::Accepted => compare_answer(b),
+        Answer::Refused(why) => Answer::Refused(why),
+    }
+}
+
+// Codes 15, 16, 13 and 14 of a whole image, for an output of some room.
+pub(crate) fn all_answer(image: &[u8], room: usize) -> Answer
+    ensures { λ r. ⌜ r ≡ allAnswer (now (image .entry)) room ⌝ }
+{
+    let answer = compare_answer(image);
+    match answer {
+        Answer::Accepted => {
+            if room < get32(image, 4) as usize {
+                return Answer::Refused(Refusal::OutputTooShort);
+            }
+            Answer::Accepted
+        }
         Answer::Refused(why) => Answer::Refused(why),
     }
 }

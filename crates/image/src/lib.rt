@@ -5,18 +5,20 @@ ghost use Rattle.image.specs.Opened.{numberOf, noHead, openOf};
 ghost use Rattle.image.specs.Bodies.{blockAnswer, blockBody};
 ghost use Rattle.image.specs.Samples.{effectOf, playOf};
 ghost use Rattle.image.specs.Sameness.{sameOf};
+ghost use Rattle.image.specs.AllBlocks.{playAllOf};
 
-mod bodies;
+pub mod bodies;
 mod checks;
 mod comparing;
 mod entries;
 mod heading;
+mod playing;
 
 use block::FrameContext;
 use block::address_to_sample;
-use block::play_bytes;
 use bodies::find_body;
-use bodies::read_context;
+use bodies::read_length;
+use checks::all_answer;
 use checks::both_answer;
 use checks::open_answer;
 use checks::play_answer;
@@ -24,6 +26,8 @@ use clip::fields::get32;
 use comparing::same_sound;
 use heading::read_coefficients;
 use heading::read_head;
+use playing::play_block;
+use playing::play_blocks;
 
 // Why a call is refused.
 pub enum Refusal {
@@ -159,14 +163,35 @@ pub fn play(image: &[u8], k: u32, out: &mut [i16]) -> Playback
     let answer = play_answer(image, k, out.len());
     match answer {
         Answer::Accepted => {
-            let nibbles = get32(image, 56 + 16 * (k as usize) + 4);
+            let nibbles = read_length(image, k as usize);
             let cs = read_coefficients(image);
-            let context = read_context(image, k as usize);
-            let body = find_body(image, k as usize);
-            let played = play_bytes(body, nibbles, cs, context, out);
-            let after = played.context;
+            let after = play_block(image, k as usize, nibbles, cs, out);
             Playback {
                 answer: PlayAnswer::Played(address_to_sample(nibbles)),
+                context: after,
+            }
+        }
+        Answer::Refused(why) => {
+            let context = FrameContext::new();
+            Playback {
+                answer: PlayAnswer::Refused(why),
+                context: context,
+            }
+        }
+    }
+}
+
+// Plays a whole image to the output: blocks 0 to K-1 in turn, joined. The table is tested once.
+pub fn play_all(image: &[u8], out: &mut [i16]) -> Playback
+    ensures { λ r. ⌜ effectOf (r .answer) (lent (r .context) (now (out .exit))) ≡ playAllOf (now (image .entry)) (now (out .entry)) ⌝ }
+{
+    let answer = all_answer(image, out.len());
+    match answer {
+        Answer::Accepted => {
+            let total = get32(image, 4);
+            let after = play_blocks(image, out);
+            Playback {
+                answer: PlayAnswer::Played(total as u64),
                 context: after,
             }
         }

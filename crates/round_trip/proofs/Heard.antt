@@ -26,10 +26,9 @@ use Rattle.clip.proofs.Sounding.{blockSound, blocksSound, soundOf, block-played
 use Rattle.image.specs.declared.PlayAnswer.the-variants.{Played}
 use Rattle.image.specs.Reading.{offsetIn, lengthIn}
 use Rattle.image.specs.Bodies.{bodyIn}
-use Rattle.image.specs.Facts.{Found}
+use Rattle.image.specs.Facts.{Found, Playable}
 use Rattle.image.specs.Samples.{Effect, contextIn, playOf}
 use Rattle.image.specs.Sameness.{blockSamples, samplesFrom, samplesIn}
-use Rattle.image.proofs.LawsBody.{Playable}
 use Rattle.image.proofs.LawsPlayed.{play-leaves, play-output, block-count}
 use Rattle.image.proofs.Parts.{part-at}
 use Rattle.round_trip.proofs.Opening.{image, total-is, block-is, blocks-are, coefficients-are, entry-made, context-is, image-made}
