@@ -1,18 +1,8 @@
-/* play IMAGE RAW: plays all blocks of an image and writes the samples to a file, 16 bits each, low byte first. */
+/* play IMAGE RAW: plays an image and writes the samples to a file, 16 bits each, low byte first. */
 #include "doilycairn.h"
 #include "support.h"
 #include <stdio.h>
 #include <stdlib.h>
-
-/* Plays the blocks in turn, each from its own context. */
-static void play_all(const uint8_t *image, size_t image_len, const doilycairn_head *head, int16_t *out) {
-    size_t at = 0;
-    for (uint32_t k = 0; k < head->blocks; k++) {
-        doilycairn_playback played = doilycairn_play(image, image_len, k, out + at, head->total - at);
-        check("play", played.code);
-        at += played.samples;
-    }
-}
 
 /* The samples' bytes, low byte first. */
 static uint8_t *to_bytes(const int16_t *samples, size_t count) {
@@ -37,7 +27,7 @@ int main(int argc, char **argv) {
 
     size_t count = opened.head.total;
     int16_t *samples = allocate(count, sizeof *samples);
-    play_all(image, image_len, &opened.head, samples);
+    check("play all", doilycairn_play_all(image, image_len, samples, count).code);
     uint8_t *bytes = to_bytes(samples, count);
     write_file(argv[2], bytes, 2 * count);
     printf("%s: %zu samples at %u, %u blocks\n", argv[2], count, (unsigned)opened.head.rate, (unsigned)opened.head.blocks);

@@ -63,6 +63,10 @@ static void reading(const uint8_t *image) {
     expect(DOILYCAIRN_BAD_HEAD, doilycairn_open(image, 55).code);
     expect(DOILYCAIRN_BAD_ENTRY, doilycairn_open(damaged, IMAGE).code);
     expect(DOILYCAIRN_NO_SUCH_BLOCK, doilycairn_block_body(image, IMAGE, 2).code);
+    int16_t out[SAMPLES];
+    expect(DOILYCAIRN_BAD_ENTRY, doilycairn_play_all(damaged, IMAGE, out, SAMPLES).code);
+    expect(DOILYCAIRN_OUTPUT_TOO_SHORT, doilycairn_play_all(image, IMAGE, out, SAMPLES - 1).code);
+    expect(DOILYCAIRN_ACCEPTED, doilycairn_play_all(image, IMAGE, out, SAMPLES).code);
 }
 
 static void joining(void) {

@@ -34,12 +34,7 @@ static std::vector<std::int16_t> play(const std::vector<std::uint8_t> &image) {
     const auto opened = doilycairn_open(image.data(), image.size());
     check(opened.code);
     std::vector<std::int16_t> out(opened.head.total);
-    std::size_t at = 0;
-    for (std::uint32_t k = 0; k < opened.head.blocks; k++) {
-        const auto played = doilycairn_play(image.data(), image.size(), k, out.data() + at, out.size() - at);
-        check(played.code);
-        at += played.samples;
-    }
+    check(doilycairn_play_all(image.data(), image.size(), out.data(), out.size()).code);
     return out;
 }
 

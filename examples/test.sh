@@ -35,6 +35,11 @@ for samples in 1 14 15 1000 48000; do
     cmp clip.raw fine.raw
     expect 0 "$bin/compare" clip fine
 done
+# Many blocks: one call tests the table once.
+expect 0 "$bin/encode" long 1000000 8
+expect 0 "$bin/play" long long.raw
+bytes long.raw 2000000
+
 expect 0 "$bin/encode" other 48000 4096 555
 expect 1 "$bin/compare" clip other
 

@@ -143,6 +143,7 @@ typedef struct {
     uint32_t offset;  /* of the body's first byte in the image; refused: 0 */
     uint32_t bytes;   /* of the body; refused: 0 */
     uint32_t nibbles; /* the block's length; refused: 0 */
+    doilycairn_context context; /* what the block is played from; refused: zeros */
 } doilycairn_body;
 
 typedef struct {
@@ -216,12 +217,18 @@ doilycairn_encoding doilycairn_close(doilycairn_encoder encoder, uint8_t *image,
 
 /* ---- Reading an image ---- */
 
-/* Each call of this part tests the whole head and table again, so its time grows with the count of blocks. */
+/*
+ * Each call of this part tests the whole head and table of the image that it is given, so its time grows with the count of blocks: a call of
+ * doilycairn_play or doilycairn_block_body for each of K blocks looks at K x K entries. To play a whole clip, call doilycairn_play_all once.
+ */
 
 /* Opens an image: tests its head and table, and gives what the head says. Bytes after the image are allowed. Refused by 15, 16. */
 doilycairn_opening doilycairn_open(const uint8_t *image, size_t image_len);
 
-/* Where the body of block `k` stands in the image: image + offset. Refused by 15, 16, 17. */
+/*
+ * Where the body of block `k` stands in the image, at image + offset, and what it is played from: doilycairn_play_bytes plays it with its bytes, its
+ * nibbles, its context and the head's coefficients, and tests no table. Refused by 15, 16, 17.
+ */
 doilycairn_body doilycairn_block_body(const uint8_t *image, size_t image_len, uint32_t k);
 
 /*
@@ -229,6 +236,13 @@ doilycairn_body doilycairn_block_body(const uint8_t *image, size_t image_len, ui
  * has at most block / 8 * 14 samples. Refused by 15, 16, 17, 13, 14; the context is then zeros.
  */
 doilycairn_playback doilycairn_play(const uint8_t *image, size_t image_len, uint32_t k, int16_t *out, size_t out_len);
+
+/*
+ * Plays the whole clip: blocks 0 to K - 1, each from its own context, one after the other. The head and the table are tested once.
+ * `out`: at least as many samples as the clip has (`total` of its head); later ones are kept. The context is the one after the last sample.
+ * Refused by 15, 16, 13, 14; the context is then zeros.
+ */
+doilycairn_playback doilycairn_play_all(const uint8_t *image, size_t image_len, int16_t *out, size_t out_len);
 
 /* Whether two images have equally many samples and play the same ones. Refused by 15, 16, 13 of the first, then of the second. */
 doilycairn_comparison doilycairn_same(const uint8_t *first, size_t first_len, const uint8_t *second, size_t second_len);
@@ -305,10 +319,11 @@ DOILYCAIRN_CHECK(offsetof(doilycairn_encoding, encoder) == 4);
 DOILYCAIRN_CHECK(sizeof(doilycairn_opening) == 56);
 DOILYCAIRN_CHECK(offsetof(doilycairn_opening, head) == 4);
 
-DOILYCAIRN_CHECK(sizeof(doilycairn_body) == 16);
+DOILYCAIRN_CHECK(sizeof(doilycairn_body) == 24);
 DOILYCAIRN_CHECK(offsetof(doilycairn_body, offset) == 4);
 DOILYCAIRN_CHECK(offsetof(doilycairn_body, bytes) == 8);
 DOILYCAIRN_CHECK(offsetof(doilycairn_body, nibbles) == 12);
+DOILYCAIRN_CHECK(offsetof(doilycairn_body, context) == 16);
 
 DOILYCAIRN_CHECK(sizeof(doilycairn_playback) == 24);
 DOILYCAIRN_CHECK(offsetof(doilycairn_playback, samples) == 8);

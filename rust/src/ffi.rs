@@ -59,6 +59,7 @@ pub(crate) struct Body {
     pub offset: u32,
     pub bytes: u32,
     pub nibbles: u32,
+    pub context: FrameContext,
 }
 
 #[repr(C)]
@@ -140,6 +141,12 @@ mod raw {
             image: *const u8,
             image_len: usize,
             k: u32,
+            out: *mut i16,
+            out_len: usize,
+        ) -> Playback;
+        pub fn doilycairn_play_all(
+            image: *const u8,
+            image_len: usize,
             out: *mut i16,
             out_len: usize,
         ) -> Playback;
@@ -232,6 +239,13 @@ pub(crate) fn play(image: &[u8], k: u32, out: &mut [i16]) -> Playback {
     let (bytes, samples) = (image.as_ptr(), out.as_mut_ptr());
     // SAFETY: both slices are passed with their own lengths; only `out` is written.
     unsafe { raw::doilycairn_play(bytes, image.len(), k, samples, out.len()) }
+}
+
+#[allow(unsafe_code)]
+pub(crate) fn play_all(image: &[u8], out: &mut [i16]) -> Playback {
+    let (bytes, samples) = (image.as_ptr(), out.as_mut_ptr());
+    // SAFETY: both slices are passed with their own lengths; only `out` is written.
+    unsafe { raw::doilycairn_play_all(bytes, image.len(), samples, out.len()) }
 }
 
 #[allow(unsafe_code)]

@@ -66,7 +66,8 @@ impl<'a> Image<'a> {
         let body = ffi::block_body(self.bytes, k);
         Refusal::check(body.code)?;
         let bytes = &self.bytes[body.offset as usize..][..body.bytes as usize];
-        Ok(Block { bytes, nibbles: body.nibbles, ..self.entry(k) })
+        let coefficients = self.head.coefficients;
+        Ok(Block { bytes, nibbles: body.nibbles, coefficients, context: body.context })
     }
 
     /// The blocks in turn. Opening has tested the table, so this takes no more than a look at each entry.
@@ -85,9 +86,16 @@ impl<'a> Image<'a> {
         Samples::new(*self)
     }
 
+    /// Plays the whole clip, whose samples are `total` of the head. Later ones of the output are kept.
+    pub fn play_into(&self, out: &mut [i16]) -> Result<Played, Refusal> {
+        Played::answer(ffi::play_all(self.bytes, out))
+    }
+
     /// The clip's samples.
     pub fn play(&self) -> Result<Vec<i16>, Refusal> {
-        Ok(self.samples()?.collect())
+        let mut out = vec![0; self.head.total as usize];
+        self.play_into(&mut out)?;
+        Ok(out)
     }
 
     /// Whether the other image has equally many samples and plays the same ones.

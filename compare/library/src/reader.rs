@@ -100,10 +100,21 @@ impl Opened<'_> {
         Ok(decode(self.body(entry), entry.nibbles, &self.coefficients, entry.context))
     }
 
-    /// Plays all blocks.
-    pub fn play_all(&self) -> Result<Vec<i16>, u8> {
-        let played = (0..self.entries.len()).map(|k| Ok(self.play(k, usize::MAX)?.0));
-        Ok(played.collect::<Result<Vec<_>, u8>>()?.concat())
+    /// Plays all blocks: their samples, joined, and the context after the last.
+    pub fn play_all(&self, room: usize) -> Result<(Vec<i16>, FrameContext), u8> {
+        self.test_pairs()?;
+        if room < self.total as usize {
+            return Err(14);
+        }
+        let played = (0..self.entries.len()).map(|k| self.play(k, usize::MAX));
+        let (samples, contexts): (Vec<_>, Vec<_>) =
+            played.collect::<Result<Vec<_>, u8>>()?.into_iter().unzip();
+        Ok((samples.concat(), *contexts.last().unwrap()))
+    }
+
+    /// The samples of all blocks.
+    fn samples(&self) -> Result<Vec<i16>, u8> {
+        Ok(self.play_all(usize::MAX)?.0)
     }
 
     /// Code 13.
@@ -118,5 +129,5 @@ pub fn same(first: &[u8], second: &[u8]) -> Result<bool, u8> {
     first.test_pairs()?;
     let second = open(second)?;
     second.test_pairs()?;
-    Ok(first.total == second.total && first.play_all()? == second.play_all()?)
+    Ok(first.total == second.total && first.samples()? == second.samples()?)
 }

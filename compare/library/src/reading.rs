@@ -3,7 +3,7 @@
 use crate::convert::{context, number};
 use crate::reader;
 use crate::tally::Tally;
-use doilycairn::{Head, Image};
+use doilycairn::{Head, Image, Played, Refusal};
 use oracle::random::Random;
 use oracle::{Coefficients, FrameContext, address_to_sample};
 
@@ -36,16 +36,32 @@ pub fn compare_block(random: &mut Random, bytes: &[u8], k: usize, tally: &mut Ta
         0 => random.below(needed),
         _ => needed + random.below_one(&[1, 20]),
     };
-    let pattern: Vec<_> = (0..room).map(|place| (place * 251) as i16).collect();
-    let mut out = pattern.clone();
-    let played = image.play_block(k as u32, &mut out);
-    let library = played.map(|played| (played.samples, context(played.context))).map_err(number);
-    let mut right_out = pattern;
-    let right = opened.play(k, room).map(|(samples, after)| {
-        right_out[..samples.len()].copy_from_slice(&samples);
+    let library = played_to(room, |out| image.play_block(k as u32, out));
+    let right = right_played_to(room, opened.play(k, room));
+    tally.compare("play_block", &(bytes, k, room), library, right);
+}
+
+/// The count of samples and the context after them, and the output.
+type Output = (Result<(usize, FrameContext), u8>, Vec<i16>);
+
+/// What an output holds before a call.
+fn pattern(room: usize) -> Vec<i16> {
+    (0..room).map(|place| (place * 251) as i16).collect()
+}
+
+fn played_to(room: usize, play: impl FnOnce(&mut [i16]) -> Result<Played, Refusal>) -> Output {
+    let mut out = pattern(room);
+    let played = play(&mut out);
+    (played.map(|played| (played.samples, context(played.context))).map_err(number), out)
+}
+
+fn right_played_to(room: usize, played: Result<(Vec<i16>, FrameContext), u8>) -> Output {
+    let mut out = pattern(room);
+    let right = played.map(|(samples, after)| {
+        out[..samples.len()].copy_from_slice(&samples);
         (samples.len(), after)
     });
-    tally.compare("play_block", &(bytes, k, room), (library, out), (right, right_out));
+    (right, out)
 }
 
 /// The body's place and length, the length in nibbles, the coefficients and the context.
@@ -65,11 +81,19 @@ fn compare_body(image: &Image, bytes: &[u8], opened: &reader::Opened, k: usize, 
     tally.compare("block", &(bytes, k), library, right);
 }
 
-/// Plays all blocks of an image.
+/// Plays all blocks of an image by one call, with too little room and with room to spare, and one after the other.
 pub fn compare_play(bytes: &[u8], tally: &mut Tally) {
-    let library = Image::open(bytes).and_then(|image| image.play()).map_err(number);
-    let right = reader::open(bytes).and_then(|opened| opened.play_all());
-    tally.compare("play", &bytes, library, right);
+    let (Ok(image), Ok(opened)) = (Image::open(bytes), reader::open(bytes)) else { return };
+    let total = opened.total as usize;
+    for room in [total - 1, total, total + 3] {
+        let library = played_to(room, |out| image.play_into(out));
+        let right = right_played_to(room, opened.play_all(room));
+        tally.compare("play_into", &(bytes, room), library, right);
+    }
+    let right = opened.play_all(total).map(|(samples, _)| samples);
+    tally.compare("play", &bytes, image.play().map_err(number), right.clone());
+    let in_turn = image.samples().map(Iterator::collect).map_err(number);
+    tally.compare("samples", &bytes, in_turn, right);
 }
 
 /// Compares two images.

@@ -24,7 +24,8 @@ fn the_worked_image() {
     assert_eq!((opened.total, opened.rate, opened.block, opened.gain), (1, 32_000, 8, 0));
     assert_eq!(opened.entries.len(), 1);
     assert_eq!(opened.body(&opened.entries[0]), [0x01, 0x40]);
-    assert_eq!(opened.play_all(), Ok(vec![8]));
+    assert_eq!(opened.play_all(1).map(|(samples, _)| samples), Ok(vec![8]));
+    assert_eq!(opened.play_all(0).err(), Some(14));
     assert_eq!(opened.play(0, 0).err(), Some(14));
     assert_eq!(opened.play(1, 9).err(), Some(17));
     assert_eq!(same(&image, &image), Ok(true));

@@ -3,8 +3,9 @@ use mathlib.Core.List.{List}
 use mathlib.Core.Path.{_≡_, ap, _∙_}
 use Prim.Native.Nat.{ℕ, _+_, _/_}
 use lib.Ieee.{Float}
-use lib.IntN.{ℤ}
+use lib.IntN.{ℤ, pos}
 use Rattle.block.specs.declared.FrameContext.{FrameContext}
+use Rattle.block.specs.Context.{contextOf}
 use Rattle.block.specs.Frame.{lent}
 use Rattle.block.specs.Join.{JoinEffect, joinEffect}
 use Rattle.block.specs.Play.{PlayEffect, playEffect}
@@ -23,7 +24,7 @@ use Rattle.image.specs.declared.Refusal.{Refusal}
 use Rattle.image.specs.Bodies.{blockAnswer, bodyIn, blockBody}
 use Rattle.image.specs.Opened.{numberOf}
 use Rattle.image.specs.Reading.{offsetIn, lengthIn}
-use Rattle.image.specs.Samples.{Effect, effectOf}
+use Rattle.image.specs.Samples.{contextIn, Effect, effectOf}
 use Rattle.doilycairn.specs.declared.blocks.Joining.{Joining}
 use Rattle.doilycairn.specs.declared.blocks.Playback.{Playback}
 use Rattle.doilycairn.specs.declared.reading.Body.{Body}
@@ -69,10 +70,10 @@ pub play-seen : (a : PlayAnswer) (c : FrameContext) (out : List ℤ) {e : Effect
 play-seen a c out p q = ap (λ (r : Playback). playing r out) p ∙ ap Reading.playSeen q
 
 -- the entry's numbers, and two nibbles a byte
-pub body-told : (l : List ℕ) (k offset bytes nibbles : ℕ) → offset ≡ offsetIn l k → nibbles ≡ lengthIn l k → bytes ≡ (nibbles + 1) / 2
-    → _≡_ {A = Body} (record { code = 0; offset = offset; bytes = bytes; nibbles = nibbles }) (bodyAt l k)
+pub body-told : (l : List ℕ) (k offset bytes nibbles : ℕ) (c : FrameContext) → offset ≡ offsetIn l k → nibbles ≡ lengthIn l k → bytes ≡ (nibbles + 1) / 2 → c ≡ contextIn l k
+    → _≡_ {A = Body} (record { code = 0; offset = offset; bytes = bytes; nibbles = nibbles; context = c }) (bodyAt l k)
 unfolding bodyAt
-body-told l k offset bytes nibbles p q e = rw (e, p, q)
+body-told l k offset bytes nibbles c p q e r = rw (e, p, q, r)
 
 -- the entry's place is that of the block's body
 pub body-found : (l : List ℕ) (k : ℕ) {r : Body} → r ≡ bodyAt l k → blockAnswer l k ≡ Accepted → handed r l ≡ bodyInC l k
@@ -80,10 +81,10 @@ unfolding bodyAt bodyInC blockBody bodyIn
 body-found l k p q = rw (p, q)
 
 -- refused, it is nowhere and has no bytes
-pub body-refused : (l : List ℕ) (k : ℕ) (why : Refusal) {code : ℕ}
-    → code ≡ numberOf why → blockAnswer l k ≡ Refused why → handed (record { code = code; offset = 0; bytes = 0; nibbles = 0 }) l ≡ bodyInC l k
+pub body-refused : (l : List ℕ) (k : ℕ) (why : Refusal) {code : ℕ} {c : FrameContext}
+    → code ≡ numberOf why → c ≡ contextOf 0 (pos 0) (pos 0) → blockAnswer l k ≡ Refused why → handed (record { code = code; offset = 0; bytes = 0; nibbles = 0; context = c }) l ≡ bodyInC l k
 unfolding bodyInC blockBody
-body-refused l k why p q = rw (p, q)
+body-refused l k why p z q = rw (p, z, q)
 
 -- ---- blocks
 

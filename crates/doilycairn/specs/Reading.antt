@@ -2,9 +2,10 @@
 use mathlib.Core.Bool.{true, false}
 use mathlib.Core.List.{List}
 use Prim.Native.Nat.{ℕ, _+_, _/_}
-use lib.IntN.{ℤ}
+use lib.IntN.{ℤ, pos}
 use lib.ListN.{take, drop}
 use Rattle.block.specs.declared.FrameContext.{FrameContext}
+use Rattle.block.specs.Context.{contextOf}
 use Rattle.image.specs.declared.Answer.{Answer}
 use Rattle.image.specs.declared.Answer.the-variants.{Accepted, Refused}
 use Rattle.image.specs.declared.Opening as Image
@@ -15,8 +16,9 @@ use Rattle.image.specs.declared.SameAnswer.the-variants as Compared
 use Rattle.image.specs.Bodies.{blockAnswer, blockBody}
 use Rattle.image.specs.Opened.{numberOf, openOf}
 use Rattle.image.specs.Reading.{offsetIn, lengthIn}
-use Rattle.image.specs.Samples.{Effect, playOf}
+use Rattle.image.specs.Samples.{contextIn, Effect, playOf}
 use Rattle.image.specs.Sameness.{sameOf}
+use Rattle.image.specs.AllBlocks.{playAllOf}
 use Rattle.doilycairn.specs.declared.blocks.Playback.{Playback}
 use Rattle.doilycairn.specs.declared.reading.Body.{Body}
 use Rattle.doilycairn.specs.declared.reading.Comparison.{Comparison}
@@ -46,14 +48,14 @@ pub record Handed : Type 0 where
 abbrev pub handed : Body → List ℕ → Handed
 handed r l = record { returned = r; body = take (r .bytes) (drop (r .offset) l) }
 
--- where block k's entry says that its body stands: two nibbles a byte
+-- where block k's entry says that its body stands, two nibbles a byte, and the entry's context
 unfoldable pub bodyAt : List ℕ → ℕ → Body
-bodyAt l k = record { code = 0; offset = offsetIn l k; bytes = (lengthIn l k + 1) / 2; nibbles = lengthIn l k }
+bodyAt l k = record { code = 0; offset = offsetIn l k; bytes = (lengthIn l k + 1) / 2; nibbles = lengthIn l k; context = contextIn l k }
 
 -- the refusal's number, and zeros
 abbrev pub placeBy : Answer → Body → Body
 placeBy Accepted place = place
-placeBy (Refused r) place = record { code = numberOf r; offset = 0; bytes = 0; nibbles = 0 }
+placeBy (Refused r) place = record { code = numberOf r; offset = 0; bytes = 0; nibbles = 0; context = contextOf 0 (pos 0) (pos 0) }
 
 -- the bytes that it points to are the block's body; refused, none
 unfoldable pub bodyInC : List ℕ → ℕ → Handed
@@ -71,6 +73,9 @@ playSeen e = playing (playbackOf (e .answer) (e .context)) (e .out)
 
 unfoldable pub playInC : List ℕ → ℕ → List ℤ → Playing
 playInC l k out = playSeen (playOf l k out)
+
+unfoldable pub playAllInC : List ℕ → List ℤ → Playing
+playAllInC l out = playSeen (playAllOf l out)
 
 -- ---- sameness
 

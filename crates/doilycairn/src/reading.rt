@@ -1,8 +1,8 @@
-// Reading an image: opening, the place of a block's body, playing, sameness (sections 4 and 5).
+// Reading an image: opening, the place of a block's body, playing a block or the whole, sameness (sections 4 and 5).
 ghost use mathlib.Core.Path.{_≡_};
 ghost use Rattle.image.specs.Facts.{Found};
 ghost use Rattle.doilycairn.specs.Blocks.{playing};
-ghost use Rattle.doilycairn.specs.Reading.{codeOf, openInC, bodyAt, handed, bodyInC, playbackOf, playInC, comparisonOf, sameInC};
+ghost use Rattle.doilycairn.specs.Reading.{codeOf, openInC, bodyAt, handed, bodyInC, playbackOf, playInC, playAllInC, comparisonOf, sameInC};
 use crate::blocks::Playback;
 use block::FrameContext;
 use clip::fields::get32;
@@ -10,6 +10,7 @@ use image::Answer;
 use image::Head;
 use image::PlayAnswer;
 use image::SameAnswer;
+use image::bodies::read_context;
 
 // What opening returns.
 #[repr(C)]
@@ -18,13 +19,14 @@ pub struct Opening {
     pub head: Head,
 }
 
-// Where a block's body stands in the image.
+// Where a block's body stands in the image, and its entry's length and context.
 #[repr(C)]
 pub struct Body {
     pub code: u32,
     pub offset: u32,
     pub bytes: u32,
     pub nibbles: u32,
+    pub context: FrameContext,
 }
 
 // What comparing returns.
@@ -82,7 +84,7 @@ fn compared_answer(answer: SameAnswer) -> Comparison
     }
 }
 
-// Where block k's body stands, by its entry.
+// Where block k's body stands and what it is played from, by its entry.
 fn body_at(image: &[u8], k: usize) -> Body
     requires { ⌜ Found (now image) k ⌝ }
     ensures { λ r. ⌜ r ≡ bodyAt (now (image .entry)) k ⌝ }
@@ -90,11 +92,13 @@ fn body_at(image: &[u8], k: usize) -> Body
     let at = 56 + 16 * k;
     let offset = get32(image, at);
     let nibbles = get32(image, at + 4);
+    let context = read_context(image, k);
     Body {
         code: 0,
         offset: offset,
         bytes: nibbles / 2 + nibbles % 2,
         nibbles: nibbles,
+        context: context,
     }
 }
 
@@ -120,12 +124,16 @@ pub extern "C" fn doilycairn_block_body(image: &[u8], k: u32) -> Body
     let answer = image::block_answer(image, k);
     match answer {
         Answer::Accepted => body_at(image, k as usize),
-        Answer::Refused(why) => Body {
-            code: image::code(why),
-            offset: 0,
-            bytes: 0,
-            nibbles: 0,
-        },
+        Answer::Refused(why) => {
+            let context = FrameContext::new();
+            Body {
+                code: image::code(why),
+                offset: 0,
+                bytes: 0,
+                nibbles: 0,
+                context: context,
+            }
+        }
     }
 }
 
@@ -135,6 +143,17 @@ pub extern "C" fn doilycairn_play(image: &[u8], k: u32, out: &mut [i16]) -> Play
     ensures { λ r. ⌜ playing r (now (out .exit)) ≡ playInC (now (image .entry)) k (now (out .entry)) ⌝ }
 {
     let done = image::play(image, k, out);
+    let answer = done.answer;
+    let context = done.context;
+    played_answer(answer, context)
+}
+
+// Plays the whole image.
+#[no_mangle]
+pub extern "C" fn doilycairn_play_all(image: &[u8], out: &mut [i16]) -> Playback
+    ensures { λ r. ⌜ playing r (now (out .exit)) ≡ playAllInC (now (image .entry)) (now (out .entry)) ⌝ }
+{
+    let done = image::play_all(image, out);
     let answer = done.answer;
     let context = done.context;
     played_answer(answer, context)

@@ -27,7 +27,7 @@ int main(void) {
     SIZE(frame), FIELD(frame, code), FIELD(frame, bytes), FIELD(frame, passes), FIELD(frame, history);
     SIZE(encoding), FIELD(encoding, code), FIELD(encoding, encoder);
     SIZE(opening), FIELD(opening, code), FIELD(opening, head);
-    SIZE(body), FIELD(body, code), FIELD(body, offset), FIELD(body, bytes), FIELD(body, nibbles);
+    SIZE(body), FIELD(body, code), FIELD(body, offset), FIELD(body, bytes), FIELD(body, nibbles), FIELD(body, context);
     SIZE(playback), FIELD(playback, code), FIELD(playback, samples), FIELD(playback, context);
     SIZE(comparison), FIELD(comparison, code), FIELD(comparison, same);
     SIZE(joining), FIELD(joining, code), FIELD(joining, nibbles);

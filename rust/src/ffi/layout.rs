@@ -42,7 +42,7 @@ fn rust_layouts() -> String {
     layout!(text, "frame", Frame, code, bytes, passes, history);
     layout!(text, "encoding", Encoding, code, encoder);
     layout!(text, "opening", Opening, code, head);
-    layout!(text, "body", Body, code, offset, bytes, nibbles);
+    layout!(text, "body", Body, code, offset, bytes, nibbles, context);
     layout!(text, "playback", Playback, code, samples, context);
     layout!(text, "comparison", Comparison, code, same);
     layout!(text, "joining", Joining, code, nibbles);

@@ -88,9 +88,11 @@ fn reading_gives_zeros() {
     assert_eq!(close(fed, &mut image).code, 0);
     let body = block_body(&image, 2);
     assert_eq!((body.code, body.offset, body.bytes, body.nibbles), (17, 0, 0, 0));
-    let playback = play(&image, 0, &mut [0; 13]);
-    assert_eq!((playback.code, playback.samples), (14, 0));
-    assert_eq!(playback.context, FrameContext::default());
+    assert_eq!(body.context, FrameContext::default());
+    for playback in [play(&image, 0, &mut [0; 13]), play_all(&image, &mut [0; 19])] {
+        assert_eq!((playback.code, playback.samples), (14, 0));
+        assert_eq!(playback.context, FrameContext::default());
+    }
     let comparison = same(&image, &[]);
     assert_eq!((comparison.code, comparison.same), (15, false));
 }

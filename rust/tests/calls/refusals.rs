@@ -225,6 +225,8 @@ fn number_13() {
         bytes[16 + 4 * pair..20 + 4 * pair].copy_from_slice(&[0x80, 0, 0x80, 0]);
         let image = Image::open(&bytes).unwrap();
         assert_eq!(untouched(28, 0x5a5a, |out| image.play_block(0, out)), 13);
+        assert_eq!(untouched(50, 0x5a5a, |out| image.play_into(out)), 13);
+        assert_eq!(image.play_into(&mut []), Err(Refusal::LowestPair));
         assert_eq!(image.play(), Err(Refusal::LowestPair));
         assert_eq!(image.samples().err(), Some(Refusal::LowestPair));
         assert_eq!(image.same(&image), Err(Refusal::LowestPair));
@@ -240,6 +242,9 @@ fn number_14() {
         assert_eq!(untouched(room, 0x5a5a, |out| image.play_block(0, out)), 14);
         let block = image.block(0).unwrap();
         assert_eq!(untouched(room, 0x5a5a, |out| block.play(out)), 14);
+    }
+    for room in 0..50 {
+        assert_eq!(untouched(room, 0x5a5a, |out| image.play_into(out)), 14);
     }
     let (first, second) = (image.block(0).unwrap(), image.block(1).unwrap());
     let differing = Block { coefficients: lowest(0), ..second };

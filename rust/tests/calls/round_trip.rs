@@ -53,7 +53,13 @@ fn played_alike(bytes: &[u8]) {
     let image = Image::open(bytes).unwrap();
     let whole = image.play().unwrap();
     assert_eq!(whole.len(), image.head().total as usize);
+    assert_eq!(image.samples().unwrap().collect::<Vec<_>>(), whole);
+    let mut longer = vec![0x5a; whole.len() + 2];
+    let all = image.play_into(&mut longer).unwrap();
+    assert_eq!((all.samples, &longer[..whole.len()]), (whole.len(), &whole[..]));
+    assert_eq!(longer[whole.len()..], [0x5a; 2]);
     let mut at = 0;
+    let mut last = None;
     for (k, block) in image.blocks().enumerate() {
         assert_eq!(image.block(k as u32), Ok(block));
         let mut out = vec![0x5a; block.sample_count() + 2];
@@ -65,8 +71,9 @@ fn played_alike(bytes: &[u8]) {
         assert_eq!(block.play(&mut again), Ok(played));
         assert_eq!(again, out[..played.samples]);
         at += played.samples;
+        last = Some(played.context);
     }
-    assert_eq!(at, whole.len());
+    assert_eq!((at, last), (whole.len(), Some(all.context)));
 }
 
 #[test]

@@ -23,13 +23,25 @@ add-get32 c = let w = found-within (now (c .before .before .args .image)) (c .be
 get32-requires-2 : tie.Need-get32-requires-2
 get32-requires-2 c κs = let w = found-within (now (c .before .before .args .image)) (c .before .before .args .k) (c .before .before .pre) in omega (arith, w .entry, w .small)
 
-add-t9 : tie.Need-add-t9
-add-t9 c = search needs
+read-context-requires : tie.Need-read-context-requires
+read-context-requires c κs = search needs
+
+add-t10 : tie.Need-add-t10
+add-t10 c = search needs
 
 returns : tie.Need-returns
 unfolding offsetIn lengthIn
-returns c = body-told _ _ _ _ _ (c .before .get32 .ensures) (c .get322 .ensures) (omega arith)
+returns c = body-told _ _ _ _ _ _ (c .before .before .get32 .ensures) (c .before .get322 .ensures) (omega arith) (c .read-context .ensures)
 
 pub body-at-spec : {M : Type 1} → statement M
 body-at-spec =
-    tie.close (tie.spec mul-at add-at get32-requires add-get32 get32-requires-2 add-t9 returns)
+    tie.close
+    (tie.spec
+    mul-at
+    add-at
+    get32-requires
+    add-get32
+    get32-requires-2
+    read-context-requires
+    add-t10
+    returns)

@@ -18,6 +18,9 @@ body-at-requires c κs = block-accepted _ _ (sym (c .before .before .block-answe
 enum-known-answer : tie.Need-enum-known-answer
 enum-known-answer c = search needs
 
+new-requires : tie.Need-new-requires
+new-requires c κs = search needs
+
 code-requires : tie.Need-code-requires
 code-requires c κs = search needs
 
@@ -25,7 +28,7 @@ returns : tie.Need-returns
 returns c = body-found _ _ (c .body-at .ensures) (sym (c .before .before .before .block-answer .ensures) ∙ c .before .enum-told .given .1)
 
 returns-2 : tie.Need-returns-2
-returns-2 c = body-refused _ _ _ (c .code .ensures) (sym (c .before .before .before .before .block-answer .ensures) ∙ c .before .before .answer .given .1)
+returns-2 c = body-refused _ _ _ (c .code .ensures) (c .before .new .ensures) (sym (c .before .before .before .before .before .block-answer .ensures) ∙ c .before .before .before .answer .given .1)
 
 pub doilycairn-block-body-spec : {M : Type 1} → statement M
 doilycairn-block-body-spec =
@@ -35,6 +38,7 @@ doilycairn-block-body-spec =
     enum-told
     body-at-requires
     enum-known-answer
+    new-requires
     code-requires
     returns
     returns-2)
