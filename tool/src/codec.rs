@@ -1,0 +1,97 @@
+//! Encoding a clip that is in memory, a piece at a time.
+
+use crate::console::Console;
+use crate::failure::Failure;
+use crate::progress::Progress;
+use crate::text::count;
+use doilycairn::{Coefficients, Encoder, History, Measure, Refusal, Start};
+
+/// Samples of a piece.
+const PIECE: usize = 1 << 15;
+
+/// The default block size: a block is a third of a second at 44,100 Hz, and the table of blocks adds 0.2 % to the image.
+pub const BLOCK_SIZE: u32 = 8192;
+
+/// What to encode with.
+#[derive(Clone, Copy)]
+pub struct Wanted {
+    pub rate: u32,
+    pub block_size: u32,
+    pub gain: u16,
+    /// None to measure them.
+    pub coefficients: Option<Coefficients>,
+    pub history: History,
+}
+
+/// Encodes a clip.
+pub fn encode(
+    name: &str,
+    clip: &[i16],
+    wanted: &Wanted,
+    console: &Console,
+) -> Result<Encoder, Failure> {
+    let total = u32::try_from(clip.len()).unwrap_or(u32::MAX);
+    let Wanted { rate, block_size, gain, history, .. } = *wanted;
+    let coefficients = wanted.coefficients.unwrap_or_default();
+    let start = Start { total, rate, block_size, gain, coefficients, history };
+    run(clip, start, wanted.coefficients.is_none(), console)
+        .map_err(|refusal| refused(name, refusal, &start))
+}
+
+fn run(
+    clip: &[i16],
+    mut start: Start,
+    measured: bool,
+    console: &Console,
+) -> Result<Encoder, Refusal> {
+    if measured {
+        // What would be refused after measuring is refused before it.
+        Encoder::start(&start)?;
+        start.coefficients = measure(clip, console)?;
+    }
+    let mut encoder = Encoder::start(&start)?;
+    feed(&mut encoder, clip, console)?;
+    Ok(encoder)
+}
+
+fn measure(clip: &[i16], console: &Console) -> Result<Coefficients, Refusal> {
+    let mut progress = Progress::new(console, "measuring", clip.len());
+    let mut measure = Measure::new();
+    for (i, piece) in clip.chunks(PIECE).enumerate() {
+        measure.process(piece)?;
+        progress.at(i * PIECE + piece.len());
+    }
+    progress.last_step("choosing coefficients");
+    measure.coefficients()
+}
+
+fn feed(encoder: &mut Encoder, clip: &[i16], console: &Console) -> Result<(), Refusal> {
+    let mut progress = Progress::new(console, "encoding", clip.len());
+    for (i, piece) in clip.chunks(PIECE).enumerate() {
+        encoder.feed(piece)?;
+        progress.at(i * PIECE + piece.len());
+    }
+    encoder.close()
+}
+
+/// A refusal, with what was asked for.
+fn refused(name: &str, refusal: Refusal, start: &Start) -> Failure {
+    let failure = Failure::refused(name, refusal);
+    match refusal {
+        Refusal::BadSampleCount => failure.with(format!("; it has {}", count(start.total))),
+        Refusal::BadBlockSize => failure.with(format!("; --block-size is {}", start.block_size)),
+        Refusal::CoefficientOutside => failure.with(outside(&start.coefficients)),
+        _ => failure,
+    }
+}
+
+/// The first pair with a coefficient outside the limits.
+fn outside(coefficients: &Coefficients) -> String {
+    let is_out = |&(_, (c0, c1)): &(usize, (i16, i16))| {
+        !(-4096..=4096).contains(&c0) || !(-2048..=2048).contains(&c1)
+    };
+    let words = |(pair, (c0, c1))| {
+        format!("; pair {pair} is {c0}, {c1}, and the limits are ±4,096 and ±2,048")
+    };
+    coefficients.pairs().into_iter().enumerate().find(is_out).map(words).unwrap_or_default()
+}

@@ -1,0 +1,144 @@
+//! What looks wrong in an image that does not open: a help for people, worked out beside the library, which alone decides.
+
+use crate::text::{count, counted};
+use doilycairn::{BLOCK_SIZES, MAX_SAMPLES, image_size};
+use std::fmt;
+
+const HEAD: usize = 56;
+const ENTRY: usize = 16;
+
+/// Something that looks wrong.
+#[derive(Debug, PartialEq, Eq)]
+pub struct Finding {
+    /// Its first byte.
+    pub byte: usize,
+    /// The block, where it is an entry's.
+    pub block: Option<usize>,
+    pub words: String,
+}
+
+impl fmt::Display for Finding {
+    fn fmt(&self, f: &mut fmt::Formatter) -> fmt::Result {
+        match self.block {
+            Some(block) => write!(f, "byte {}, block {block}: {}", self.byte, self.words),
+            None => write!(f, "byte {}: {}", self.byte, self.words),
+        }
+    }
+}
+
+/// All that looks wrong: in the head, or else in the table of blocks.
+pub fn findings(bytes: &[u8]) -> Vec<Finding> {
+    let in_head = head_findings(bytes);
+    if in_head.is_empty() { entry_findings(bytes) } else { in_head }
+}
+
+fn be32(bytes: &[u8], at: usize) -> u32 {
+    u32::from_be_bytes([bytes[at], bytes[at + 1], bytes[at + 2], bytes[at + 3]])
+}
+
+fn head_findings(bytes: &[u8]) -> Vec<Finding> {
+    let mut found: Vec<Finding> = vec![];
+    let mut add = |byte, words| found.push(Finding { byte, block: None, words });
+    if bytes.len() < HEAD {
+        let has = counted(bytes.len() as u64, "byte", "bytes");
+        add(bytes.len(), format!("the file ends after {has}; a head has 56"));
+    }
+    if let Some(words) = bytes.first_chunk().and_then(mark) {
+        add(0, words);
+    }
+    if bytes.len() < HEAD {
+        return found;
+    }
+    let [total, rate, block, blocks] = [4, 8, 12, 52].map(|at| be32(bytes, at));
+    if total == 0 || total > MAX_SAMPLES {
+        add(4, format!("{} samples; a clip has 1 to {}", count(total), count(MAX_SAMPLES)));
+    }
+    if rate == 0 {
+        add(8, "the rate is 0".into());
+    }
+    if !BLOCK_SIZES.contains(&block) || block % 8 != 0 {
+        add(
+            12,
+            format!("blocks of {} bytes; they have 8 to 65,536, a multiple of 8", count(block)),
+        );
+    }
+    if bytes[50..52] != [0, 0] {
+        add(50, format!("two bytes that are zero are {:02x} {:02x}", bytes[50], bytes[51]));
+    }
+    if let Some(size) = image_size(total, block).filter(|_| block % 8 == 0) {
+        found.extend(sizes(bytes.len(), blocks, total, block, size));
+    }
+    found
+}
+
+/// What is wrong with a mark.
+fn mark(mark: &[u8; 4]) -> Option<String> {
+    let what = match mark {
+        b"DSPC" => return None,
+        [0, 0, 0, 0] => "four zeros: a clip that was started and never closed",
+        b"RIFF" => "that of a WAV file, which `encode` reads",
+        _ => "not an image's",
+    };
+    let [a, b, c, d] = mark;
+    Some(format!("the mark is {a:02x} {b:02x} {c:02x} {d:02x} and not 44 53 50 43 (DSPC): {what}"))
+}
+
+/// The count of blocks and the length of the file, against what samples and block size ask for.
+fn sizes(len: usize, blocks: u32, total: u32, block: u32, size: usize) -> Vec<Finding> {
+    let mut found = vec![];
+    let mut add = |byte, words| found.push(Finding { byte, block: None, words });
+    let clip = format!("{} samples in blocks of {} bytes", count(total), count(block));
+    let wanted = (8 * total.div_ceil(14)).div_ceil(block);
+    if blocks != wanted {
+        add(52, format!("{} blocks; {clip} make {}", count(blocks), count(wanted)));
+    }
+    if len < size {
+        let missing = counted((size - len) as u64, "byte is", "bytes are");
+        add(
+            len,
+            format!("the file ends; {clip} take {} bytes: {missing} missing", count(size as u64)),
+        );
+    }
+    found
+}
+
+/// Entries that do not fit a head that is as it should be.
+fn entry_findings(bytes: &[u8]) -> Vec<Finding> {
+    let [total, block, blocks] = [4, 12, 52].map(|at| be32(bytes, at) as usize);
+    let mut found = vec![];
+    for k in 0..blocks {
+        let frames = total.div_ceil(14).saturating_sub(k * block / 8).min(block / 8);
+        let samples = (total - 14 * k * (block / 8)).min(14 * frames);
+        let offset = HEAD + ENTRY * blocks + block * k;
+        let nibbles = samples + 2 * frames;
+        found.extend(entry(bytes, k, offset, nibbles));
+    }
+    found
+}
+
+/// What is wrong with the entry of block `k`.
+fn entry(bytes: &[u8], k: usize, offset: usize, nibbles: usize) -> Vec<Finding> {
+    let at = HEAD + ENTRY * k;
+    let mut found = vec![];
+    let mut add = |byte, words| found.push(Finding { byte, block: Some(k), words });
+    let fields = [("offset", at, offset), ("length in nibbles", at + 4, nibbles)];
+    for (name, byte, wanted) in fields {
+        let has = be32(bytes, byte);
+        if has as usize != wanted {
+            add(byte, format!("its {name} is {} and not {}", count(has), count(wanted as u64)));
+        }
+    }
+    let (header, first) = (&bytes[at + 8..at + 10], bytes[offset]);
+    if header != [0, first] {
+        let [high, low] = [header[0], header[1]];
+        let words = format!(
+            "its header is {high:02x} {low:02x} and its body at byte {offset} begins with {first:02x}"
+        );
+        add(at + 8, words);
+    }
+    let zeros = &bytes[at + 14..at + 16];
+    if zeros != [0, 0] {
+        add(at + 14, format!("two bytes that are zero are {:02x} {:02x}", zeros[0], zeros[1]));
+    }
+    found
+}

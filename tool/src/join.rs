@@ -1,0 +1,147 @@
+//! `join`: one image of two.
+
+use crate::args::{Args, flag, value};
+use crate::codec::{self, Wanted};
+use crate::command::Command;
+use crate::console::{Console, Words};
+use crate::encode::{state_fields, summary};
+use crate::failure::{Failure, Status};
+use crate::info;
+use crate::input::{ImageFile, one_standard_input};
+use crate::json::{Fields, Json, path_fields};
+use crate::output::{self, Output};
+use crate::splice;
+use crate::text::{count, counted};
+use doilycairn::{FrameContext, History, Image, Refusal};
+
+pub const COMMAND: Command = Command {
+    name: "join",
+    operands: &["A.dspc", "B.dspc", "OUT.dspc"],
+    options: &[flag("--reencode"), value("--block-size"), value("--gain"), flag("--force")],
+    help: include_str!("help/join.txt"),
+    run,
+};
+
+/// An image and the name of its file.
+pub struct Part<'a> {
+    pub name: &'a str,
+    pub image: Image<'a>,
+    bytes: &'a [u8],
+    /// The context after its last sample.
+    pub end: FrameContext,
+}
+
+impl<'a> Part<'a> {
+    fn open(file: &'a ImageFile) -> Result<Self, Failure> {
+        let image = file.open()?;
+        crate::decode::plays(&image).map_err(|refusal| file.refused(refusal))?;
+        let end = info::end(&image).unwrap_or_default();
+        Ok(Self { name: &file.name, image, bytes: &file.bytes, end })
+    }
+
+    /// The bodies of its blocks, which stand back to back.
+    pub fn bodies(&self) -> &'a [u8] {
+        let bytes: usize = self.image.blocks().map(|block| block.bytes.len()).sum();
+        &self.bytes[56 + 16 * self.image.head().blocks as usize..][..bytes]
+    }
+}
+
+fn run(args: &Args, console: &Console) -> Result<Status, Failure> {
+    let [a, b, output] = [0, 1, 2].map(|i| args.operands[i].as_os_str());
+    one_standard_input([a, b])?;
+    let gain = args.number("--gain", 0..=0xffff)?.map(|gain| gain as u16);
+    let block_size = args.number("--block-size", 0..=u64::MAX)?;
+    let block_size = block_size.map(|size| size.try_into().unwrap_or(u32::MAX));
+    if block_size.is_some() && !args.has("--reencode") {
+        return Err(Failure::usage("--block-size goes with --reencode"));
+    }
+    let place = Output::at(output, &args.operands[..2], args.has("--force"), console)?;
+    let files = [ImageFile::read(a)?, ImageFile::read(b)?];
+    let parts = [Part::open(&files[0])?, Part::open(&files[1])?];
+    fits(&parts)?;
+    let mut fields = path_fields("first", "first_hex", a);
+    fields.extend(path_fields("second", "second_hex", b));
+    fields.extend(path_fields("output", "output_hex", output));
+    let (image, words, more) = match args.has("--reencode") {
+        true => encoded_again(&parts, block_size, gain, console)?,
+        false => spliced(&parts, gain)?,
+    };
+    place.write(|out| out.write_all(&image))?;
+    fields.push(("reencoded", Json::Bool(args.has("--reencode"))));
+    fields.extend(more);
+    console.answer(Status::Done, fields, Words::Summary, |out| {
+        writeln!(out, "{}: {words}", output::name(output))
+    })
+}
+
+/// What no way of joining gets around: two rates, too many samples.
+fn fits([first, second]: &[Part; 2]) -> Result<(), Failure> {
+    let [a, b] = [first, second].map(|part| part.image.head());
+    if a.rate != b.rate {
+        let words = format!("rate {}, and {} has {}", count(b.rate), first.name, count(a.rate));
+        return Err(Failure::input(second.name, words));
+    }
+    match a.total + b.total {
+        total if total > doilycairn::MAX_SAMPLES => {
+            let words = format!("; joined with {} it has {}", first.name, count(total));
+            Err(Failure::refused(second.name, Refusal::BadSampleCount).with(words))
+        }
+        _ => Ok(()),
+    }
+}
+
+type Joined = (Vec<u8>, String, Fields<'static>);
+
+/// Joined without loss.
+fn spliced(parts: &[Part; 2], gain: Option<u16>) -> Result<Joined, Failure> {
+    let bytes = splice::join(parts, gain)?;
+    let refused = |refusal| Failure::refused("the joined image", refusal);
+    let image = Image::open(&bytes).map_err(refused)?;
+    let [first, second] = [&parts[0], &parts[1]].map(|part| part.image.samples());
+    let wanted = first.map_err(refused)?.chain(second.map_err(refused)?);
+    if !image.samples().map_err(refused)?.eq(wanted) {
+        return Err(Failure::input(parts[1].name, "it would not play as it does"));
+    }
+    let head = image.head();
+    let words = format!(
+        "{} in {} of {} bytes, as they were",
+        counted(head.total, "sample", "samples"),
+        counted(head.blocks, "block", "blocks"),
+        count(head.block)
+    );
+    let fields = vec![
+        ("samples", Json::Whole(head.total.into())),
+        ("rate", Json::Whole(head.rate.into())),
+        ("block_size", Json::Whole(head.block.into())),
+        ("blocks", Json::Whole(head.blocks.into())),
+        ("bytes", Json::Whole(bytes.len() as i64)),
+        ("gain", Json::Whole(head.gain.into())),
+    ];
+    Ok((bytes, words, fields))
+}
+
+/// Played, and encoded as one clip.
+fn encoded_again(
+    parts: &[Part; 2],
+    block_size: Option<u32>,
+    gain: Option<u16>,
+    console: &Console,
+) -> Result<Joined, Failure> {
+    let head = parts[0].image.head();
+    let mut clip = vec![];
+    for part in parts {
+        let samples = part.image.samples().map_err(|r| Failure::refused(part.name, r))?;
+        clip.extend(samples);
+    }
+    let start = parts[0].image.blocks().next().map_or([0; 2], |b| b.context.last_samples);
+    let wanted = Wanted {
+        rate: head.rate,
+        block_size: block_size.unwrap_or(head.block),
+        gain: gain.unwrap_or(head.gain),
+        coefficients: None,
+        history: History { newest: start[0], older: start[1] },
+    };
+    let encoder = codec::encode("the joined clip", &clip, &wanted, console)?;
+    let (words, fields) = (summary(&encoder), state_fields(&encoder, &wanted));
+    Ok((encoder.into_parts().1, format!("{words}, encoded again"), fields))
+}

@@ -1,0 +1,160 @@
+//! Joining two images without loss: the frames stay what they are, and play what they played.
+
+use crate::failure::Failure;
+use crate::join::Part;
+use crate::text::count;
+use doilycairn::{Block, FrameContext, Head, Refusal};
+
+const AGAIN: &str = "; --reencode plays both clips and encodes them as one";
+
+/// The image of the first clip's frames and then the second's.
+pub fn join(parts: &[Part; 2], gain: Option<u16>) -> Result<Vec<u8>, Failure> {
+    let [first, second] = parts;
+    let (bodies, nibbles) = bodies(first, second)?;
+    let gain = fitting_gain(first, second, gain)?;
+    let shift = fitting_frames(first, second)?;
+    let head = first.image.head();
+    let contexts = contexts(first, second, shift).map_err(|r| Failure::refused(second.name, r))?;
+    let blocks = contexts.len() as u32;
+    let total = head.total + second.image.head().total;
+    let mut image = head_bytes(&Head { total, gain, blocks, ..*head });
+    for (k, context) in contexts.iter().enumerate() {
+        let before = u64::from(head.block) * k as u64;
+        let offset = 56 + 16 * u64::from(blocks) + before;
+        let length = (nibbles - 2 * before).min(2 * u64::from(head.block));
+        image.extend(entry_bytes(offset as u32, length as u32, context));
+    }
+    image.extend(bodies);
+    Ok(image)
+}
+
+/// The bodies and their length in nibbles, as the library joins them; it refuses coefficients that differ.
+fn bodies(first: &Part, second: &Part) -> Result<(Vec<u8>, u64), Failure> {
+    let [a, b] = [first, second].map(|part| Block {
+        bytes: part.bodies(),
+        nibbles: part.image.blocks().map(|block| block.nibbles).sum(),
+        coefficients: part.image.head().coefficients,
+        context: FrameContext::default(),
+    });
+    let mut out = vec![0; a.bytes.len() + b.bytes.len()];
+    match doilycairn::join(&a, &b, &mut out) {
+        Ok(nibbles) => Ok((out, nibbles)),
+        Err(refusal) => {
+            let words = format!(" from those of {}{AGAIN}", first.name);
+            Err(Failure::refused(second.name, refusal).with(words))
+        }
+    }
+}
+
+/// The gain of both, or the one asked for.
+fn fitting_gain(first: &Part, second: &Part, gain: Option<u16>) -> Result<u16, Failure> {
+    let [a, b] = [first, second].map(|part| part.image.head().gain);
+    match gain {
+        Some(gain) => Ok(gain),
+        None if a == b => Ok(a),
+        None => {
+            let words =
+                format!("its gain is {b}, and that of {} is {a}: choose with --gain", first.name);
+            Err(Failure::input(second.name, words))
+        }
+    }
+}
+
+/// How many of the second clip's frames come before the first block that begins in it.
+fn fitting_frames(first: &Part, second: &Part) -> Result<u32, Failure> {
+    let [a, b] = [first, second].map(|part| part.image.head());
+    if a.block != b.block {
+        let words = format!(
+            "blocks of {} bytes, and those of {} have {}",
+            count(b.block),
+            first.name,
+            count(a.block)
+        );
+        return Err(Failure::input(second.name, words + AGAIN));
+    }
+    if a.total % 14 != 0 {
+        let words = format!(
+            "{} samples: its last frame is not full, and no frame can follow it",
+            count(a.total)
+        );
+        return Err(Failure::input(first.name, words + AGAIN));
+    }
+    let frames = a.block / 8;
+    let shift = (frames - a.total / 14 % frames) % frames;
+    if shift > 0 {
+        follows(first, second)?;
+    }
+    Ok(shift)
+}
+
+/// Tests that each block of the second clip goes on from where playing is then: it no longer begins a block.
+fn follows(first: &Part, second: &Part) -> Result<(), Failure> {
+    let mut before = first.end.last_samples;
+    for (k, block) in second.image.blocks().enumerate() {
+        let [newest, older] = block.context.last_samples;
+        if [newest, older] != before {
+            let words = format!(
+                "its block {k} begins after {newest},{older} and would come after {},{}, within a block of {} bytes{}{AGAIN}",
+                before[0],
+                before[1],
+                count(second.image.head().block),
+                if k == 0 { HINT } else { "" }
+            );
+            return Err(Failure::input(second.name, words));
+        }
+        let played = block.play(&mut vec![0; block.sample_count()]);
+        before = played.map_err(|r| Failure::refused(second.name, r))?.context.last_samples;
+    }
+    Ok(())
+}
+
+const HINT: &str = ": encode it with --history of where the first clip ends, or let the first clip fill its last block";
+
+/// The contexts of all blocks: the first clip's, and those of the second clip's frames that begin a block.
+fn contexts(first: &Part, second: &Part, shift: u32) -> Result<Vec<FrameContext>, Refusal> {
+    let mut contexts: Vec<_> = first.image.blocks().map(|block| block.context).collect();
+    for block in second.image.blocks() {
+        if (8 * shift as usize) < block.bytes.len() {
+            contexts.push(context_at(&block, shift as usize)?);
+        }
+    }
+    Ok(contexts)
+}
+
+/// The context of one of a block's frames.
+fn context_at(block: &Block, frame: usize) -> Result<FrameContext, Refusal> {
+    if frame == 0 {
+        return Ok(block.context);
+    }
+    let mut played = vec![0; block.sample_count()];
+    block.play(&mut played)?;
+    Ok(FrameContext {
+        predictor_and_scale: block.bytes[8 * frame].into(),
+        last_samples: [played[14 * frame - 1], played[14 * frame - 2]],
+    })
+}
+
+/// The head of an image.
+fn head_bytes(head: &Head) -> Vec<u8> {
+    let mut bytes = b"DSPC".to_vec();
+    for field in [head.total, head.rate, head.block] {
+        bytes.extend(field.to_be_bytes());
+    }
+    bytes.extend(head.coefficients.0.iter().flat_map(|c| c.to_be_bytes()));
+    bytes.extend(head.gain.to_be_bytes());
+    bytes.extend([0, 0]);
+    bytes.extend(head.blocks.to_be_bytes());
+    bytes
+}
+
+/// An entry of the table.
+fn entry_bytes(offset: u32, nibbles: u32, context: &FrameContext) -> Vec<u8> {
+    let [newest, older] = context.last_samples;
+    let mut bytes = offset.to_be_bytes().to_vec();
+    bytes.extend(nibbles.to_be_bytes());
+    bytes.extend(context.predictor_and_scale.to_be_bytes());
+    bytes.extend(newest.to_be_bytes());
+    bytes.extend(older.to_be_bytes());
+    bytes.extend([0, 0]);
+    bytes
+}
