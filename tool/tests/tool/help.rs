@@ -1,0 +1,110 @@
+//! Help, version, and command lines that are wrong.
+
+use crate::support::Folder;
+use std::ffi::OsStr;
+use std::os::unix::ffi::OsStrExt;
+
+const COMMANDS: [&str; 6] = ["encode", "decode", "info", "check", "same", "join"];
+
+#[test]
+fn help_and_version() {
+    let folder = Folder::new();
+    let all = folder.done("--help").out;
+    assert_eq!(all, folder.done("-h").out);
+    assert_eq!(all, folder.done("help").out);
+    for status in 0..=5 {
+        assert!(all.contains(&format!("\n  {status}  ")), "status {status} is not told");
+    }
+    for command in COMMANDS {
+        assert!(all.contains(&format!("\n  {command} ")));
+        let help = folder.done(&format!("{command} --help")).out;
+        assert!(help.starts_with(&format!("Usage: doilycairn {command} ")));
+        assert_eq!(help, folder.done(&format!("help {command}")).out);
+        assert_eq!(help, folder.done(&format!("{command} a b c d -h")).out);
+    }
+    let version = format!("doilycairn {}\n", env!("CARGO_PKG_VERSION"));
+    assert_eq!(folder.done("--version").out, version);
+    assert_eq!(folder.done("-V").out, version);
+}
+
+#[test]
+fn help_tells_every_option() {
+    let folder = Folder::new();
+    let options = [
+        ("encode", "--block-size --gain --history --coefficients --verify --raw --rate"),
+        ("encode", "--ignore-length --force --quiet --json --help"),
+        ("decode", "--block --raw --force --quiet --json --help"),
+        ("info", "--blocks --against --raw --ignore-length --svg --force --quiet --json --help"),
+        ("check", "--quiet --json --help"),
+        ("same", "--quiet --json --help"),
+        ("join", "--gain --reencode --block-size --force --quiet --json --help"),
+    ];
+    for (command, names) in options {
+        let help = folder.done(&format!("help {command}")).out;
+        for name in names.split(' ') {
+            assert!(help.contains(name), "{command} {name}");
+        }
+    }
+}
+
+#[test]
+fn wrong_command_lines() {
+    let folder = Folder::new();
+    let cases = [
+        ("", "a command is missing"),
+        ("what", "'what' is no command"),
+        ("help what", "'what' is no command"),
+        ("help a b", "a command is missing"),
+        ("--json", "'--json' is no command"),
+        ("encode", "IN.wav is missing; see `doilycairn encode --help`"),
+        ("encode a", "OUT.dspc is missing"),
+        ("encode a b c", "'c' is one word too many"),
+        ("encode --what a b", "unknown option '--what'"),
+        ("encode -x a b", "unknown option '-x'"),
+        ("encode --block-size", "--block-size lacks its value"),
+        ("encode --block-size x a b", "'x' is not a number"),
+        ("encode --gain 65536 a b", "'65536' is not a number from 0 to 65535"),
+        ("encode --gain 1 --gain 2 a b", "--gain is given twice"),
+        ("encode --raw a b", "--raw needs --rate HZ"),
+        ("encode --rate 5 a b", "--rate goes with --raw"),
+        ("encode --raw --rate 4294967296 a b", "is not a number from 0 to 4294967295"),
+        ("encode --history 5 a b", "--history is NEWEST,OLDER"),
+        ("encode --history 5,40000 a b", "--history is NEWEST,OLDER"),
+        ("encode --verify=1 a b", "--verify takes no value"),
+        ("encode --coefficients - - b", "standard input can be read only once"),
+        ("decode --block -1 a b", "'-1' is not a number"),
+        ("decode a", "OUT.wav is missing"),
+        ("info", "IN.dspc is missing"),
+        ("info --against - -", "standard input can be read only once"),
+        ("check a b", "'b' is one word too many"),
+        ("same a", "B.dspc is missing"),
+        ("same - -", "standard input can be read only once"),
+        ("join a b", "OUT.dspc is missing"),
+        ("join --block-size 8 a b c", "--block-size goes with --reencode"),
+        ("encode --json a -", ""),
+    ];
+    for (line, words) in cases {
+        let run = folder.run(line);
+        run.expect(2, if line.contains("--json") { "" } else { words });
+        assert!(!run.err.is_empty() || line.contains("--json"), "{line}: nothing is said");
+    }
+    assert!(folder.names().is_empty());
+}
+
+#[test]
+fn names_that_are_not_utf_8_or_have_control_characters() {
+    let folder = Folder::new();
+    let wrong = OsStr::from_bytes(b"a\xff\x1b[2J\n");
+    let output = folder.tool(&[OsStr::new("check"), wrong]).output().unwrap();
+    assert_eq!(output.status.code(), Some(5));
+    let err = String::from_utf8(output.stderr).unwrap();
+    assert!(err.contains("cannot read a\u{fffd}\\u{1b}[2J\\n: No such file"), "{err}");
+    let output = folder.tool(&[wrong]).output().unwrap();
+    assert_eq!(output.status.code(), Some(2));
+}
+
+#[test]
+fn two_dashes_end_the_options() {
+    let folder = Folder::new();
+    folder.run("check -- --json").expect(5, "cannot read --json");
+}

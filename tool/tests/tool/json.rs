@@ -1,0 +1,71 @@
+//! `--json`: one object, of failures too.
+
+use crate::parse::Value;
+use crate::support::{Folder, image, sound, wav};
+use std::ffi::OsStr;
+use std::os::unix::ffi::OsStrExt;
+
+#[test]
+fn every_command_answers_one_object() {
+    let folder = Folder::new();
+    let clip = sound(280, 1);
+    folder.write("in.wav", wav(&clip, 32_000));
+    folder.write("a", image(&clip, 32_000, 80));
+    folder.write("none", "x");
+    let cases = [
+        ("encode in.wav out", 0),
+        ("encode --verify in.wav out", 0),
+        ("decode a out", 0),
+        ("decode --block 0 a out", 0),
+        ("info a", 0),
+        ("info --blocks --against in.wav a", 0),
+        ("check a", 0),
+        ("check none", 1),
+        ("same a a", 0),
+        ("join a a out", 0),
+        ("join --reencode a a out", 0),
+        ("encode", 2),
+        ("encode --what", 2),
+        ("encode in.wav -", 2),
+        ("encode none out", 3),
+        ("decode none out", 4),
+        ("decode absent out", 5),
+    ];
+    for (line, status) in cases {
+        let run = folder.run(&format!("{line} --json"));
+        assert_eq!((run.status, &run.err[..]), (status, ""), "{line}");
+        let json = Value::of_line(&run.out);
+        assert_eq!(json.text("command"), line.split(' ').next().unwrap());
+        assert_eq!(json.number("status"), f64::from(status));
+        assert_eq!(json.has("error"), status >= 2, "{line}");
+        assert!(json.list("notes").is_empty());
+    }
+}
+
+#[test]
+fn failures_have_their_numbers() {
+    let folder = Folder::new();
+    folder.write("none", "x");
+    let json = Value::of_line(&folder.run("decode --json none out").out);
+    assert_eq!(json.get("error").number("refusal"), 15.0);
+    assert!(json.get("error").text("message").starts_with("none: not an image"));
+    let json = Value::of_line(&folder.run("decode --json absent out").out);
+    assert_eq!(json.get("error").get("refusal"), &Value::Null);
+    let json = Value::of_line(&folder.run("what --json").out);
+    assert_eq!((json.text("command"), json.number("status")), ("", 2.0));
+}
+
+#[test]
+fn paths_are_escaped() {
+    let folder = Folder::new();
+    let name = OsStr::from_bytes(b"q\"\\\n\x01\xff.wav");
+    std::fs::write(folder.0.join(name), wav(&sound(100, 1), 8000)).unwrap();
+    let words = [OsStr::new("encode"), OsStr::new("--json"), name, OsStr::new("out")];
+    let output = folder.tool(&words).output().unwrap();
+    assert_eq!(output.status.code(), Some(0));
+    let json = Value::of_line(std::str::from_utf8(&output.stdout).unwrap());
+    assert_eq!(json.text("input"), "q\"\\\n\u{1}\u{fffd}.wav");
+    assert_eq!(json.text("input_hex"), "71225c0a01ff2e776176");
+    assert_eq!(json.text("output"), "out");
+    assert!(!json.has("output_hex"));
+}

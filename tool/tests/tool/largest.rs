@@ -1,0 +1,82 @@
+//! The largest clip: time and memory. Run in release: `cargo test --release --offline -- --ignored --nocapture`.
+
+use crate::support::{Folder, Random, raw, wav};
+use std::fs;
+use std::process::Stdio;
+use std::time::{Duration, Instant};
+
+const SAMPLES: usize = 14_680_064;
+
+/// Tones that change, and noise.
+fn sound() -> Vec<i16> {
+    let mut random = Random(3);
+    let (mut phases, mut steps, mut level) = ([0.0f64; 2], [0.0f64; 2], 0.0);
+    let sample = |i: usize| {
+        if i.is_multiple_of(8000) {
+            steps = [(); 2].map(|()| 0.005 + random.below(1000) as f64 * 0.0003);
+            level = random.below(7000) as f64;
+        }
+        phases = [phases[0] + steps[0], phases[1] + steps[1]];
+        let noise = random.below(512) as f64 - 256.0;
+        (level * (phases[0].sin() + phases[1].sin()) + noise) as i16
+    };
+    (0..SAMPLES).map(sample).collect()
+}
+
+/// Runs the tool: its time, and the most memory it had, in kilobytes.
+fn measured(folder: &Folder, line: &str) -> (Duration, u64) {
+    let words: Vec<&str> = line.split(' ').collect();
+    let start = Instant::now();
+    let mut child = folder.tool(&words).stdout(Stdio::null()).spawn().unwrap();
+    let status = format!("/proc/{}/status", child.id());
+    let mut most = 0;
+    let ended = loop {
+        let text = fs::read_to_string(&status).unwrap_or_default();
+        let peak = text.lines().find_map(|line| line.strip_prefix("VmHWM:"));
+        let peak = peak.and_then(|rest| rest.trim().trim_end_matches(" kB").parse().ok());
+        most = most.max(peak.unwrap_or(0));
+        if let Some(ended) = child.try_wait().unwrap() {
+            break ended;
+        }
+        std::thread::sleep(Duration::from_millis(1));
+    };
+    assert!(ended.success(), "{line}");
+    println!("{line}: {:.2} s, {} kB", start.elapsed().as_secs_f64(), most);
+    (start.elapsed(), most)
+}
+
+#[test]
+#[ignore = "long without optimisation: see above"]
+fn the_largest_clip() {
+    let folder = Folder::new();
+    let clip = sound();
+    folder.write("in.wav", wav(&clip, 48_000));
+    let lines = [
+        ("encode --verify in.wav out.dspc", 60, 64_000),
+        ("encode --block-size 8 in.wav eight.dspc", 60, 64_000),
+        ("decode out.dspc out.wav", 10, 16_000),
+        ("decode eight.dspc eight.wav", 10, 32_000),
+        ("info --against in.wav out.dspc", 10, 48_000),
+        ("check eight.dspc", 10, 32_000),
+        ("same out.dspc eight.dspc", 10, 48_000),
+    ];
+    for (line, seconds, kilobytes) in lines {
+        let (time, memory) = measured(&folder, line);
+        assert!(time < Duration::from_secs(seconds), "{line}: {time:?}");
+        assert!(memory < kilobytes, "{line}: {memory} kB");
+    }
+    assert_eq!(folder.read("out.wav"), folder.read("eight.wav"));
+    assert_eq!(folder.read("out.wav").len(), 44 + 2 * SAMPLES);
+    too_many(&folder, clip);
+}
+
+/// One sample more is refused, however it comes.
+fn too_many(folder: &Folder, mut clip: Vec<i16>) {
+    clip.push(1);
+    folder.write("in.wav", wav(&clip, 48_000));
+    folder.run("encode in.wav none").expect(4, "(refusal 4); it has 14,680,065");
+    folder.write("in.raw", raw(&clip));
+    folder.run("encode --raw --rate 1 in.raw none").expect(4, "(refusal 4); it has more");
+    folder.run("join out.dspc out.dspc none").expect(4, "(refusal 4); joined with out.dspc");
+    assert!(!folder.has("none"));
+}

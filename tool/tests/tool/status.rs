@@ -1,0 +1,61 @@
+//! Every exit status, of every command that can give it.
+
+use crate::support::{Folder, image, sound, wav};
+
+#[test]
+fn every_status() {
+    let folder = Folder::new();
+    let clip = sound(280, 1);
+    folder.write("in.wav", wav(&clip, 32_000));
+    folder.write("none.wav", wav(&[], 32_000));
+    folder.write("a", image(&clip, 32_000, 80));
+    folder.write("b", image(&sound(280, 2), 32_000, 80));
+    folder.write("rate", image(&clip, 8000, 80));
+    folder.write("bad", "x");
+    let cases = [
+        (0, "encode in.wav out"),
+        (2, "encode in.wav"),
+        (3, "encode bad out"),
+        (3, "encode --coefficients bad in.wav out"),
+        (4, "encode none.wav out"),
+        (5, "encode absent out"),
+        (5, "encode in.wav absent/out"),
+        (5, "encode in.wav ."),
+        (0, "decode a out"),
+        (2, "decode a"),
+        (4, "decode bad out"),
+        (4, "decode --block 9 a out"),
+        (5, "decode absent out"),
+        (5, "decode . out"),
+        (5, "decode a /dev/full"),
+        (0, "info a"),
+        (2, "info"),
+        (3, "info --against bad a"),
+        (4, "info bad"),
+        (5, "info absent"),
+        (5, "info --against absent a"),
+        (0, "check a"),
+        (1, "check bad"),
+        (2, "check"),
+        (5, "check absent"),
+        (0, "same a a"),
+        (1, "same a b"),
+        (2, "same a"),
+        (4, "same a bad"),
+        (5, "same a absent"),
+        (0, "join a a out"),
+        (2, "join a a"),
+        (3, "join a rate out"),
+        (4, "join a b out"),
+        (4, "join a bad out"),
+        (5, "join a absent out"),
+        (5, "join a a absent/out"),
+        (0, "--help"),
+        (2, "what"),
+    ];
+    for (status, line) in cases {
+        let run = folder.run(line);
+        assert_eq!(run.status, status, "{line}: {run:?}");
+        assert_eq!(run.err.contains("doilycairn: "), status >= 2, "{line}: {run:?}");
+    }
+}
