@@ -19,7 +19,7 @@ pub const COMMAND: Command = Command {
 
 fn run(args: &Args, console: &Console) -> Result<Status, Failure> {
     let [a, b] = [0, 1].map(|i| args.operands[i].as_os_str());
-    one_standard_input([a, b])?;
+    one_standard_input(&args.operands)?;
     let files = [ImageFile::read(a)?, ImageFile::read(b)?];
     let [first, second] = [files[0].open()?, files[1].open()?];
     for (file, image) in files.iter().zip([&first, &second]) {

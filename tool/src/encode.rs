@@ -1,8 +1,7 @@
 //! `encode`: from samples to an image.
 
 use crate::args::{Args, flag, value};
-use crate::codec::{self, BLOCK_SIZE, Wanted};
-use crate::coefficients;
+use crate::codec::{self, Wanted};
 use crate::command::Command;
 use crate::console::{Console, Words};
 use crate::distance::Distances;
@@ -10,9 +9,10 @@ use crate::failure::{Failure, Status};
 use crate::input;
 use crate::json::{Fields, Json, path_fields};
 use crate::output::{self, Output};
+use crate::settings;
 use crate::text::{count, counted};
-use doilycairn::{Encoder, EncoderState, History, Image};
-use std::ffi::OsStr;
+use doilycairn::{Encoder, EncoderState, Image};
+use std::ffi::OsString;
 
 pub const COMMAND: Command = Command {
     name: "encode",
@@ -22,6 +22,7 @@ pub const COMMAND: Command = Command {
         value("--gain"),
         value("--history"),
         value("--coefficients"),
+        value("--after"),
         flag("--verify"),
         flag("--raw"),
         value("--rate"),
@@ -34,15 +35,20 @@ pub const COMMAND: Command = Command {
 
 fn run(args: &Args, console: &Console) -> Result<Status, Failure> {
     let [input, output] = [0, 1].map(|i| args.operands[i].as_os_str());
-    let given = args.value("--coefficients");
-    input::one_standard_input([input].into_iter().chain(given))?;
-    let mut wanted = settings(args)?;
-    let inputs: Vec<_> = [input].into_iter().chain(given).map(Into::into).collect();
+    let given = ["--coefficients", "--after"].into_iter().filter_map(|name| args.value(name));
+    let inputs: Vec<OsString> = [input].into_iter().chain(given).map(Into::into).collect();
+    input::one_standard_input(&inputs)?;
+    let mut wanted = settings::of(args)?;
     let place = Output::at(output, &inputs, args.has("--force"), console)?;
-    wanted.coefficients = given.map(coefficients::read).transpose()?;
+    let rate = settings::read(args, &mut wanted)?;
     let clip = input::clip(input, args, Some(wanted.rate))?;
-    wanted.rate = clip.rate;
     let name = input::name(input);
+    wanted.rate = clip.rate;
+    if let Some(rate) = rate.filter(|rate| *rate != clip.rate) {
+        let words =
+            format!("rate {}, and the clip before it has {}", count(clip.rate), count(rate));
+        return Err(Failure::input(&name, words));
+    }
     let encoder = codec::encode(&name, &clip.samples, &wanted, console)?;
     let distances = match args.has("--verify") {
         true => Some(verified(&name, &encoder, &clip.samples)?),
@@ -60,38 +66,6 @@ fn run(args: &Args, console: &Console) -> Result<Status, Failure> {
             Some(d) => writeln!(out, "verified: the largest distance is {}", count(d.largest().0)),
             None => Ok(()),
         }
-    })
-}
-
-/// The options; a block size that 32 bits do not hold is left to the library to refuse.
-fn settings(args: &Args) -> Result<Wanted, Failure> {
-    let most = u64::from(u32::MAX);
-    let block_size = args.number("--block-size", 0..=u64::MAX)?.unwrap_or(BLOCK_SIZE.into());
-    let gain = args.number("--gain", 0..=0xffff)?.unwrap_or(0);
-    let rate = match (args.has("--raw"), args.number("--rate", 0..=most)?) {
-        (true, None) => return Err(Failure::usage("--raw needs --rate HZ")),
-        (false, Some(_)) => {
-            return Err(Failure::usage("--rate goes with --raw; a WAV file has its own"));
-        }
-        (_, rate) => rate.unwrap_or(0),
-    };
-    Ok(Wanted {
-        rate: rate as u32,
-        block_size: block_size.min(most) as u32,
-        gain: gain as u16,
-        coefficients: None,
-        history: args.value("--history").map(history).transpose()?.unwrap_or_default(),
-    })
-}
-
-/// The value of --history.
-fn history(value: &OsStr) -> Result<History, Failure> {
-    let parts = value.to_str().and_then(|text| text.split_once(','));
-    let parsed = parts.and_then(|(newest, older)| {
-        Some(History { newest: newest.trim().parse().ok()?, older: older.trim().parse().ok()? })
-    });
-    parsed.ok_or_else(|| {
-        Failure::usage("--history is NEWEST,OLDER: two samples from -32768 to 32767")
     })
 }
 
@@ -151,6 +125,7 @@ pub fn state_fields(encoder: &Encoder, wanted: &Wanted) -> Fields<'static> {
 #[cfg(test)]
 mod tests {
     use super::*;
+    use doilycairn::History;
 
     #[test]
     fn a_sample_beyond_its_bound_is_told() {

@@ -13,7 +13,7 @@ use crate::survey::Survey;
 use crate::tables;
 use crate::text::count;
 use doilycairn::{FrameContext, Image, image_size};
-use std::ffi::OsStr;
+use std::ffi::{OsStr, OsString};
 
 pub const COMMAND: Command = Command {
     name: "info",
@@ -47,8 +47,8 @@ pub struct Known<'a> {
 fn run(args: &Args, console: &Console) -> Result<Status, Failure> {
     let input = args.operands[0].as_os_str();
     let against = args.value("--against");
-    input::one_standard_input([input].into_iter().chain(against))?;
-    let inputs: Vec<_> = [input].into_iter().chain(against).map(Into::into).collect();
+    let inputs: Vec<OsString> = [input].into_iter().chain(against).map(Into::into).collect();
+    input::one_standard_input(&inputs)?;
     let svg = match args.value("--svg") {
         Some(path) => Some(svg_place(path, &inputs, args, console)?),
         None => None,
@@ -85,7 +85,7 @@ fn run(args: &Args, console: &Console) -> Result<Status, Failure> {
 /// Where the picture goes: not to standard output, which has the words.
 fn svg_place(
     path: &OsStr,
-    inputs: &[std::ffi::OsString],
+    inputs: &[OsString],
     args: &Args,
     console: &Console,
 ) -> Result<Output, Failure> {

@@ -6,7 +6,7 @@ use crate::findings::findings;
 use crate::text::{count, shown};
 use crate::wav::{self, Clip, Wrong};
 use doilycairn::{Image, Refusal};
-use std::ffi::OsStr;
+use std::ffi::{OsStr, OsString};
 use std::fs::File;
 use std::io::{self, Read};
 
@@ -38,9 +38,9 @@ pub fn bytes(path: &OsStr) -> Result<Vec<u8>, Failure> {
     Ok(bytes)
 }
 
-/// Only one operand can be standard input.
-pub fn one_standard_input<'a>(paths: impl IntoIterator<Item = &'a OsStr>) -> Result<(), Failure> {
-    match paths.into_iter().filter(|path| *path == "-").count() {
+/// Only one input can be standard input.
+pub fn one_standard_input(paths: &[OsString]) -> Result<(), Failure> {
+    match paths.iter().filter(|path| *path == "-").count() {
         0 | 1 => Ok(()),
         _ => Err(Failure::usage("standard input can be read only once")),
     }

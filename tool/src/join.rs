@@ -48,7 +48,7 @@ impl<'a> Part<'a> {
 
 fn run(args: &Args, console: &Console) -> Result<Status, Failure> {
     let [a, b, output] = [0, 1, 2].map(|i| args.operands[i].as_os_str());
-    one_standard_input([a, b])?;
+    one_standard_input(&args.operands[..2])?;
     let gain = args.number("--gain", 0..=0xffff)?.map(|gain| gain as u16);
     let block_size = args.number("--block-size", 0..=u64::MAX)?;
     let block_size = block_size.map(|size| size.try_into().unwrap_or(u32::MAX));

@@ -19,6 +19,7 @@ mod json;
 mod output;
 mod picture;
 mod progress;
+mod settings;
 mod splice;
 mod survey;
 mod tables;

@@ -108,7 +108,8 @@ fn follows(first: &Part, second: &Part) -> Result<(), Failure> {
     Ok(())
 }
 
-const HINT: &str = ": encode it with --history of where the first clip ends, or let the first clip fill its last block";
+const HINT: &str =
+    ": encode it with --after the first clip, or let the first clip fill its last block";
 
 /// The contexts of all blocks: the first clip's, and those of the second clip's frames that begin a block.
 fn contexts(first: &Part, second: &Part, shift: u32) -> Result<Vec<FrameContext>, Refusal> {

@@ -35,6 +35,29 @@ fn options_reach_the_image() {
 }
 
 #[test]
+fn after_another_clip() {
+    let folder = Folder::new();
+    let clip = sound(1000, 5);
+    folder.write("in.wav", wav(&clip, 32_000));
+    folder.write("slow.wav", wav(&clip, 8000));
+    folder.done("encode --gain 7 --block-size 80 in.wav a");
+    folder.done("encode --after a in.wav b");
+    let [a, b] = [folder.read("a"), folder.read("b")];
+    assert_eq!(a[..56], b[..56]);
+    let played = doilycairn::Image::open(&a).unwrap().play().unwrap();
+    let last = [played[999].to_be_bytes(), played[998].to_be_bytes()].concat();
+    assert_eq!(b[66..70], last);
+    folder.done("encode --after a --gain 8 --block-size 160 in.wav c");
+    assert_eq!((folder.read("c")[15], folder.read("c")[49]), (160, 8));
+    folder.run("encode --after a slow.wav x").expect(3, "rate 8,000, and the clip before it has");
+    folder.run("encode --after a --history 1,2 in.wav x").expect(2, "--after says what --history");
+    folder.run("encode --after a --coefficients a in.wav x").expect(2, "give one of the two");
+    folder.run("encode --after in.wav in.wav x").expect(4, "(refusal 15)");
+    folder.run("encode --after a in.wav a").expect(2, "a is an input too");
+    assert!(!folder.has("x"));
+}
+
+#[test]
 fn headerless_samples_and_pipes() {
     let folder = Folder::new();
     let clip = sound(5000, 2);

@@ -32,7 +32,7 @@ fn help_tells_every_option() {
     let folder = Folder::new();
     let options = [
         ("encode", "--block-size --gain --history --coefficients --verify --raw --rate"),
-        ("encode", "--ignore-length --force --quiet --json --help"),
+        ("encode", "--after --ignore-length --force --quiet --json --help"),
         ("decode", "--block --raw --force --quiet --json --help"),
         ("info", "--blocks --against --raw --ignore-length --svg --force --quiet --json --help"),
         ("check", "--quiet --json --help"),

@@ -65,12 +65,14 @@ fn the_way_that_the_help_tells() {
     folder.write("a.raw", crate::support::raw(&clip[..1400]));
     folder.write("b.raw", crate::support::raw(&clip[1400..]));
     folder.done("encode --raw --rate 32000 a.raw a");
+    folder.done("encode --raw --rate 32000 --after a b.raw b");
+    folder.done("join a b out");
     let info = Value::of_line(&folder.done("info --json a").out);
     let [Value::Number(newest), Value::Number(older)] = info.list("end_history") else { panic!() };
     folder.done(&format!(
-        "encode --raw --rate 32000 --coefficients a --history {newest},{older} b.raw b"
+        "encode --raw --rate 32000 --coefficients a --history {newest},{older} b.raw by-hand"
     ));
-    folder.done("join a b out");
+    assert_eq!(folder.read("by-hand"), folder.read("b"));
     let coefficients = Coefficients::measure(&clip[..1400]).unwrap();
     let whole = image_with(&clip, 32_000, 8192, coefficients, History::default());
     assert_eq!(folder.read("out"), whole);
