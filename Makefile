@@ -1,4 +1,4 @@
-# Builds libdoilycairn.a and the examples in C and C++; installs the header, the archive and the pkg-config file.
+# Builds libdoilycairn.a, the examples in C and C++ and the tool; installs the header, the archive, the pkg-config file and the tool where it is built.
 
 VERSION = 0.1.0
 PREFIX ?= /usr/local
@@ -12,6 +12,8 @@ OUT = target/examples
 EXAMPLES = $(OUT)/encode $(OUT)/play $(OUT)/compare $(OUT)/refusals $(OUT)/round_trip
 WARNINGS = -Wall -Wextra -Wconversion -pedantic
 PC = target/doilycairn.pc
+TOOL = tool/target/release/doilycairn
+CARGO ?= cargo
 
 all: lib
 	$(MAKE) examples
@@ -33,6 +35,11 @@ $(OUT)/round_trip: examples/round_trip.cpp include/doilycairn.h $(ARCHIVE)
 $(ARCHIVE):
 	@echo 'There is no $(ARCHIVE): run `make lib`, or name its folder with LIB_DIR=.' >&2; exit 1
 
+# The command-line program; proves and writes the archive first where there is none.
+tool:
+	@test -f $(ARCHIVE) || $(MAKE) lib
+	DOILYCAIRN_LIB_DIR=$(abspath $(LIB_DIR)) $(CARGO) build --release --offline --manifest-path tool/Cargo.toml --target-dir tool/target
+
 # The examples end to end.
 test: examples
 	examples/test.sh $(OUT)
@@ -47,9 +54,14 @@ install: $(ARCHIVE) $(PC)
 	install -m 644 include/doilycairn.h $(DESTDIR)$(PREFIX)/include
 	install -m 644 $(ARCHIVE) $(DESTDIR)$(PREFIX)/lib
 	install -m 644 $(PC) $(DESTDIR)$(PREFIX)/lib/pkgconfig
+	@if [ -f $(TOOL) ]; then $(MAKE) install-tool; else echo 'The tool is not built, and not installed: run `make tool` first.'; fi
+
+install-tool:
+	install -d $(DESTDIR)$(PREFIX)/bin
+	install -m 755 $(TOOL) $(DESTDIR)$(PREFIX)/bin
 
 clean:
 	rm -rf $(OUT) $(PC)
 
 FORCE:
-.PHONY: all lib examples test install clean FORCE
+.PHONY: all lib examples tool test install install-tool clean FORCE
