@@ -6,7 +6,7 @@ use crate::console::{Console, Words};
 use crate::failure::{Failure, Status};
 use crate::input::ImageFile;
 use crate::json::{Json, path_fields};
-use crate::output::{self, Output};
+use crate::output::Output;
 use crate::progress::Progress;
 use crate::text::{count, counted};
 use crate::wav;
@@ -52,7 +52,7 @@ fn run(args: &Args, console: &Console) -> Result<Status, Failure> {
     ]);
     console.answer(Status::Done, fields, Words::Summary, |out| {
         let samples = counted(samples as u64, "sample", "samples");
-        writeln!(out, "{}: {samples} at {} Hz of {}", output::name(output), count(rate), file.name)
+        writeln!(out, "{}: {samples} at {} Hz of {}", place.name, count(rate), file.name)
     })
 }
 

@@ -8,7 +8,7 @@ use crate::distance::Distances;
 use crate::failure::{Failure, Status};
 use crate::input;
 use crate::json::{Fields, Json, path_fields};
-use crate::output::{self, Output};
+use crate::output::Output;
 use crate::settings;
 use crate::text::{count, counted};
 use doilycairn::{Encoder, EncoderState, Image};
@@ -61,7 +61,7 @@ fn run(args: &Args, console: &Console) -> Result<Status, Failure> {
     let verify = distances.as_ref().map_or(Json::Null, |d| Json::Object(d.fields()));
     fields.push(("verify", verify));
     console.answer(Status::Done, fields, Words::Summary, |out| {
-        writeln!(out, "{}: {}", output::name(output), summary(&encoder))?;
+        writeln!(out, "{}: {}", place.name, summary(&encoder))?;
         match &distances {
             Some(d) => writeln!(out, "verified: the largest distance is {}", count(d.largest().0)),
             None => Ok(()),

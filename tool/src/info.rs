@@ -50,7 +50,7 @@ fn run(args: &Args, console: &Console) -> Result<Status, Failure> {
     let inputs: Vec<OsString> = [input].into_iter().chain(against).map(Into::into).collect();
     input::one_standard_input(&inputs)?;
     let svg = match args.value("--svg") {
-        Some(path) => Some(svg_place(path, &inputs, args, console)?),
+        Some(path) => Some(Output::at(path, &inputs, args.has("--force"), console)?),
         None => None,
     };
     let file = ImageFile::read(input)?;
@@ -80,21 +80,6 @@ fn run(args: &Args, console: &Console) -> Result<Status, Failure> {
     let mut fields = path_fields("input", "input_hex", input);
     fields.extend(known.fields());
     console.answer(Status::Done, fields, Words::Asked, |out| tables::write(&known, out))
-}
-
-/// Where the picture goes: not to standard output, which has the words.
-fn svg_place(
-    path: &OsStr,
-    inputs: &[OsString],
-    args: &Args,
-    console: &Console,
-) -> Result<Output, Failure> {
-    match Output::at(path, inputs, args.has("--force"), console)? {
-        Output::Standard => {
-            Err(Failure::usage("--svg needs a file: standard output has the words"))
-        }
-        place => Ok(place),
-    }
 }
 
 /// The samples to compare with: as many as the image has.

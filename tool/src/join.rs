@@ -9,7 +9,7 @@ use crate::failure::{Failure, Status};
 use crate::info;
 use crate::input::{ImageFile, one_standard_input};
 use crate::json::{Fields, Json, path_fields};
-use crate::output::{self, Output};
+use crate::output::Output;
 use crate::splice;
 use crate::text::{count, counted};
 use doilycairn::{FrameContext, History, Image, Refusal};
@@ -70,7 +70,7 @@ fn run(args: &Args, console: &Console) -> Result<Status, Failure> {
     fields.push(("reencoded", Json::Bool(args.has("--reencode"))));
     fields.extend(more);
     console.answer(Status::Done, fields, Words::Summary, |out| {
-        writeln!(out, "{}: {words}", output::name(output))
+        writeln!(out, "{}: {words}", place.name)
     })
 }
 

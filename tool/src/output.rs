@@ -11,8 +11,14 @@ use std::path::{Path, PathBuf};
 
 /// Where to write.
 #[derive(Debug)]
-pub enum Output {
-    /// Standard output.
+pub struct Output {
+    /// As messages name it.
+    pub name: String,
+    place: Place,
+}
+
+#[derive(Debug)]
+enum Place {
     Standard,
     /// Something that is not a file of bytes (a pipe, a device): written in place.
     Special(PathBuf),
@@ -28,57 +34,20 @@ impl Output {
         force: bool,
         console: &Console,
     ) -> Result<Self, Failure> {
-        if path == "-" && console.json {
-            return Err(Failure::usage("--json and the output '-' both want standard output"));
-        } else if path == "-" && io::stdout().is_terminal() {
-            return Err(Failure::usage("standard output is a terminal"));
-        } else if path == "-" {
-            return Ok(Output::Standard);
-        }
-        match fs::metadata(path) {
-            Ok(old) if old.is_dir() => {
-                Err(Failure::io("write", &shown(path), &io::ErrorKind::IsADirectory.into()))
+        let name = if path == "-" { "standard output".into() } else { shown(path) };
+        let fail = |error: io::Error| Failure::io("write", &name, &error);
+        let place = match fs::metadata(path) {
+            _ if path == "-" => standard(console)?,
+            Ok(old) if old.is_dir() => return Err(fail(io::ErrorKind::IsADirectory.into())),
+            Ok(old) if old.is_file() => {
+                may_replace(&name, &old, inputs, force)?;
+                // The real path, so that a link to the file stays a link.
+                Place::File(fs::canonicalize(path).map_err(fail)?)
             }
-            Ok(old) if old.is_file() => Self::over(path, &old, inputs, force),
-            Ok(_) => Ok(Output::Special(path.into())),
-            Err(_) => Self::new_file(path),
-        }
-    }
-
-    /// An old file: its real path, so that a link to it stays a link.
-    fn over(
-        path: &OsStr,
-        old: &Metadata,
-        inputs: &[OsString],
-        force: bool,
-    ) -> Result<Self, Failure> {
-        let name = shown(path);
-        let is_old = |input: &OsString| {
-            fs::metadata(input).is_ok_and(|m| (m.dev(), m.ino()) == (old.dev(), old.ino()))
+            Ok(_) => Place::Special(path.into()),
+            Err(_) => Place::File(new_file(path).map_err(fail)?),
         };
-        if !force && inputs.iter().any(is_old) {
-            return Err(Failure::usage(format!("{name} is an input too: --force writes over it")));
-        }
-        if !force && old.permissions().readonly() {
-            let error = io::ErrorKind::PermissionDenied.into();
-            return Err(Failure::io("write", &name, &error)
-                .with(": it is marked read-only; --force replaces it"));
-        }
-        let real = fs::canonicalize(path).map_err(|error| Failure::io("write", &name, &error))?;
-        Ok(Output::File(real))
-    }
-
-    /// A new file: its folder is there.
-    fn new_file(path: &OsStr) -> Result<Self, Failure> {
-        let path = PathBuf::from(path);
-        let fail = |error: io::Error| Failure::io("write", &shown(path.as_os_str()), &error);
-        if path.file_name().is_none() {
-            return Err(fail(io::ErrorKind::InvalidInput.into()));
-        }
-        if !fs::metadata(folder(&path)).map_err(fail)?.is_dir() {
-            return Err(fail(io::ErrorKind::NotADirectory.into()));
-        }
-        Ok(Output::File(path))
+        Ok(Self { name, place })
     }
 
     /// Writes it.
@@ -86,18 +55,57 @@ impl Output {
         &self,
         body: impl FnOnce(&mut dyn Write) -> io::Result<()>,
     ) -> Result<(), Failure> {
-        let (path, written) = match self {
-            Output::Standard => return standard_output(body),
-            Output::Special(path) => (path, in_place(path, body)),
-            Output::File(path) => (path, replace(path, body)),
+        let written = match &self.place {
+            Place::Standard => return standard_output(body),
+            Place::Special(path) => in_place(path, body),
+            Place::File(path) => replace(path, body),
         };
-        written.map_err(|error| Failure::io("write", &shown(path.as_os_str()), &error))
+        written.map_err(|error| Failure::io("write", &self.name, &error))
     }
 }
 
-/// How messages name an output.
-pub fn name(path: &OsStr) -> String {
-    if path == "-" { "standard output".into() } else { shown(path) }
+/// Standard output, where nothing else goes there.
+fn standard(console: &Console) -> Result<Place, Failure> {
+    if console.json || console.command == "info" {
+        Err(Failure::usage("standard output has the answer: the output '-' cannot go there too"))
+    } else if io::stdout().is_terminal() {
+        Err(Failure::usage("standard output is a terminal"))
+    } else {
+        Ok(Place::Standard)
+    }
+}
+
+/// Whether an old file may be replaced.
+fn may_replace(
+    name: &str,
+    old: &Metadata,
+    inputs: &[OsString],
+    force: bool,
+) -> Result<(), Failure> {
+    let is_old = |input: &OsString| {
+        fs::metadata(input).is_ok_and(|m| (m.dev(), m.ino()) == (old.dev(), old.ino()))
+    };
+    if !force && inputs.iter().any(is_old) {
+        Err(Failure::usage(format!("{name} is an input too: --force writes over it")))
+    } else if !force && old.permissions().readonly() {
+        let error = io::ErrorKind::PermissionDenied.into();
+        Err(Failure::io("write", name, &error)
+            .with(": it is marked read-only; --force replaces it"))
+    } else {
+        Ok(())
+    }
+}
+
+/// The path of a new file: its folder is there.
+fn new_file(path: &OsStr) -> io::Result<PathBuf> {
+    let path = PathBuf::from(path);
+    if path.file_name().is_none() {
+        return Err(io::ErrorKind::InvalidInput.into());
+    }
+    if !fs::metadata(folder(&path))?.is_dir() {
+        return Err(io::ErrorKind::NotADirectory.into());
+    }
+    Ok(path)
 }
 
 /// The folder of a path.

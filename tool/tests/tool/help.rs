@@ -81,12 +81,13 @@ fn wrong_command_lines() {
         ("same - -", "standard input can be read only once"),
         ("join a b", "OUT.dspc is missing"),
         ("join --block-size 8 a b c", "--block-size goes with --reencode"),
-        ("encode --json a -", ""),
+        ("encode --json a -", "standard output has the answer"),
     ];
     for (line, words) in cases {
         let run = folder.run(line);
-        run.expect(2, if line.contains("--json") { "" } else { words });
-        assert!(!run.err.is_empty() || line.contains("--json"), "{line}: nothing is said");
+        assert_eq!(run.status, 2, "{line}: {run:?}");
+        let said = if line.contains("--json") { &run.out } else { &run.err };
+        assert!(said.contains(words), "{line}: '{words}' is not in: {said}");
     }
     assert!(folder.names().is_empty());
 }

@@ -121,7 +121,7 @@ fn a_picture() {
             assert!(svg.contains("<svg") && svg.trim_end().ends_with("</svg>"));
         }
     }
-    folder.run("info --svg - in").expect(2, "--svg needs a file");
+    folder.run("info --svg - in").expect(2, "standard output has the answer");
     folder.run("info --svg in in").expect(2, "in is an input too");
     folder.run("info --svg none/out.svg in").expect(5, "cannot write none/out.svg");
 }

@@ -22,7 +22,7 @@ fn a_full_disk_leaves_the_old_output() {
         let script = format!("trap '' XFSZ; ulimit -f 4; exec {TOOL} {line}");
         let output = Command::new("sh").arg("-c").arg(script).current_dir(&folder.0).output();
         let run = Run::of(&output.unwrap());
-        run.expect(5, "cannot write ");
+        run.expect(5, "cannot write out: File too large");
         assert_eq!(folder.read("out"), b"old", "{line}");
         assert_eq!(folder.names(), ["a", "in.wav", "out"], "{line}");
     }
