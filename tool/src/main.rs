@@ -29,6 +29,7 @@ mod wav;
 use args::Args;
 use command::Command;
 use console::{Console, standard_output};
+use doilycairn::Refusal;
 use failure::{Failure, Status};
 use std::ffi::OsString;
 use std::process::ExitCode;
@@ -88,16 +89,23 @@ fn print(text: &str) -> Status {
     }
 }
 
-/// `help`, and `help COMMAND`.
+/// `help`, `help COMMAND` and `help refusals`.
 fn help(words: &[OsString]) -> Status {
     match words {
         [] => print(HELP),
+        [name] if name == "refusals" => print(&refusals()),
         [name] => match name.to_str().and_then(command::find) {
             Some(command) => print(command.help),
             None => no_command(words),
         },
         _ => no_command(&[]),
     }
+}
+
+/// The library's refusals, by number.
+fn refusals() -> String {
+    let line = |refusal: Refusal| format!("{:>4}  {}\n", refusal.number(), refusal.message());
+    Refusal::ALL.into_iter().map(line).collect()
 }
 
 fn no_command(words: &[OsString]) -> Status {

@@ -28,6 +28,17 @@ fn help_and_version() {
 }
 
 #[test]
+fn help_lists_the_refusals() {
+    let folder = Folder::new();
+    let out = folder.done("help refusals").out;
+    assert_eq!(out.lines().count(), 18);
+    for refusal in doilycairn::Refusal::ALL {
+        let line = format!("{:>4}  {}\n", refusal.number(), refusal.message());
+        assert!(out.contains(&line), "{line}");
+    }
+}
+
+#[test]
 fn help_tells_every_option() {
     let folder = Folder::new();
     let options = [
