@@ -1,23 +1,36 @@
-//! A picture of a clip: its waveform.
+//! A picture of an image, as SVG: the waveform, the exponent and the predictor of each frame, and the edges of the blocks, so that
+//! a click is seen where it would be heard.
+//!
+//! An image of any length takes memory for one block and for what each column of the picture shows.
+
+mod frames;
+mod layout;
+mod marks;
+mod panels;
+mod path;
+mod samples;
+mod seen;
+mod svg;
+mod walk;
+mod words;
+
+#[cfg(test)]
+mod tests;
+#[cfg(test)]
+mod xml;
 
 use doilycairn::Image;
+use layout::Layout;
 use std::io::{self, Write};
+use svg::Svg;
 
-const WIDTH: usize = 1000;
-const HEIGHT: i32 = 256;
-
-/// Draws what the image plays.
-pub fn draw(image: &Image, _reference: Option<&[i16]>, out: &mut dyn Write) -> io::Result<()> {
-    let samples = image.play().map_err(io::Error::other)?;
-    let piece = samples.len().div_ceil(WIDTH).max(1);
-    let columns = samples.len().div_ceil(piece);
-    writeln!(out, "<svg xmlns=\"http://www.w3.org/2000/svg\" viewBox=\"0 0 {columns} {HEIGHT}\">")?;
-    writeln!(out, "<title>{} samples</title>", samples.len())?;
-    write!(out, "<path fill=\"none\" stroke=\"#246\" d=\"")?;
-    for (x, column) in samples.chunks(piece).enumerate() {
-        let height = |sample: Option<&i16>| HEIGHT / 2 - i32::from(*sample.unwrap_or(&0)) / 256;
-        let (top, bottom) = (height(column.iter().max()), height(column.iter().min()));
-        write!(out, "M{x}.5 {top}V{}", bottom + 1)?;
-    }
-    writeln!(out, "\"/>\n</svg>")
+/// Draws the image; with a reference, also how far what is played is from it, up to the end of the shorter one.
+pub fn draw(image: &Image, reference: Option<&[i16]>, out: &mut dyn Write) -> io::Result<()> {
+    let seen = walk::walk(image, reference).map_err(io::Error::other)?;
+    let layout = Layout::new(&seen);
+    let mut svg = Svg::begin(out, &words::title(&seen))?;
+    words::heading(&mut svg, &seen)?;
+    panels::all(&mut svg, &layout, &seen)?;
+    marks::all(&mut svg, &layout, &seen)?;
+    svg.end()
 }

@@ -1,0 +1,141 @@
+//! What the picture says in words.
+
+use super::layout::LEFT;
+use super::seen::{Distance, Seen, bound};
+use super::svg::{Anchor, Svg};
+use std::io;
+
+/// A number with its digits in threes.
+pub fn number(value: impl Into<i64>) -> String {
+    let value = value.into();
+    let digits = value.unsigned_abs().to_string();
+    let mut text = String::from(if value < 0 { "−" } else { "" });
+    for (i, digit) in digits.chars().enumerate() {
+        if i > 0 && (digits.len() - i) % 3 == 0 {
+            text.push(',');
+        }
+        text.push(digit);
+    }
+    text
+}
+
+/// A share in whole percent.
+pub fn percent(some: u32, all: u32) -> String {
+    match (some, (200 * u64::from(some) / u64::from(all)).div_ceil(2)) {
+        (1.., 0) => "<1%".into(),
+        (_, share) => format!("{share}%"),
+    }
+}
+
+/// A count of things by their name.
+fn count(value: u32, name: &str) -> String {
+    let plural = if value == 1 { "" } else { "s" };
+    format!("{} {name}{plural}", number(value))
+}
+
+fn duration(seconds: f64) -> String {
+    if seconds < 1.0 { format!("{:.2} ms", 1000.0 * seconds) } else { format!("{seconds:.3} s") }
+}
+
+/// What the head says.
+pub fn title(seen: &Seen) -> String {
+    let head = &seen.head;
+    format!(
+        "{} at {} Hz, {}; {}, {} of {} bytes; gain {}",
+        count(head.total, "sample"),
+        number(head.rate),
+        duration(f64::from(head.total) / f64::from(head.rate)),
+        count(seen.frames, "frame"),
+        count(head.blocks, "block"),
+        number(head.block),
+        head.gain
+    )
+}
+
+/// The largest jump, and whether the blocks fit each other.
+fn marks(seen: &Seen) -> String {
+    let jump = match seen.jump {
+        None => "One sample.".into(),
+        Some(jump) if jump.size == 0 => "All samples are equal.".into(),
+        Some(jump) => {
+            let (from, to) = (number(jump.at - 1), number(jump.at));
+            format!("Largest jump: {}, from sample {from} to {to}.", number(jump.size))
+        }
+    };
+    let edges = seen.head.blocks - 1;
+    let seams = match seen.seams.largest {
+        _ if edges == 0 => String::new(),
+        None => {
+            format!("No click at {}: each entry's history is what was played.", edge_count(edges))
+        }
+        Some(largest) => format!(
+            "At {} of {} the entry's history is not what was played, most by {} at sample {}.",
+            number(seen.seams.count),
+            edge_count(edges),
+            number(largest.size),
+            number(largest.at)
+        ),
+    };
+    format!("{jump} {seams}")
+}
+
+fn edge_count(edges: u32) -> String {
+    count(edges, "block edge")
+}
+
+/// How far the samples are from the reference.
+fn distance(distance: &Distance, total: u32) -> String {
+    let Some(largest) = distance.largest else { return "The reference has no sample.".into() };
+    if largest.size == 0 {
+        return format!("Equal to the reference.{}", lengths(distance, total));
+    }
+    let bound = match bound(distance.exponent) {
+        None => "no bound".into(),
+        Some(bound) => format!("bound {}", number(bound)),
+    };
+    format!(
+        "Largest distance from the reference: {} at sample {} (exponent {}, {bound}).{}",
+        number(largest.size),
+        number(largest.at),
+        distance.exponent,
+        lengths(distance, total)
+    )
+}
+
+/// Said where the reference is longer or shorter.
+fn lengths(distance: &Distance, total: u32) -> String {
+    match distance.reference_len {
+        len if len == total as usize => String::new(),
+        len => format!(" The reference has {} samples.", number(len as i64)),
+    }
+}
+
+/// What is not drawn one by one.
+fn gathered(seen: &Seen) -> String {
+    let mut text = String::new();
+    if seen.gathered() {
+        let samples = seen.head.total.div_ceil(seen.columns.len() as u32);
+        text += &format!("A column has up to {}.", count(samples, "sample"));
+    }
+    if seen.frames as usize > seen.cells.len() {
+        text += " Exponents and predictors: the stronger, the more of its frames.";
+    }
+    let step = seen.edges().1;
+    if step > 1 {
+        let ending = if step == 2 { "nd" } else { "th" };
+        text += &format!(" Drawn: every {}{ending} block edge.", number(step));
+    }
+    text
+}
+
+/// The lines above the panels.
+pub fn heading(svg: &mut Svg, seen: &Seen) -> io::Result<()> {
+    let bold = r##"fill="#1c1c1c" font-size="15" font-weight="bold""##;
+    svg.styled(LEFT, 22.0, Anchor::Start, &title(seen), bold)?;
+    let distance = seen.distance.as_ref().map(|d| distance(d, seen.head.total));
+    let lines = [marks(seen), distance.unwrap_or_default(), gathered(seen)];
+    for (i, line) in lines.iter().filter(|line| !line.is_empty()).enumerate() {
+        svg.text(LEFT, 38.0 + 14.0 * i as f64, Anchor::Start, line.trim())?;
+    }
+    Ok(())
+}
