@@ -18,7 +18,7 @@ use Rattle.clip.specs.declared.Encoder.{Encoder}
 use Rattle.clip.specs.Sizes.{sizeOf}
 use Rattle.clip.specs.Image.{contextBytes}
 use Rattle.clip.specs.Encoding.{Both, both, placeOf, contextPlace, storeOf, moved, noFrame, pushOf, pieceOf}
-use Rattle.clip.specs.Facts.{Going, Ready}
+use Rattle.clip.specs.Facts.{Going}
 
 -- storing keeps the length
 pub store-length : (n b q : ℕ) (t : List ℕ) (h : History) (image : List ℕ) → length (storeOf n b q t h image) ≡ length image
@@ -56,11 +56,6 @@ module _ (e : Encoder) (image : List ℕ) (x : ℤ) (i m : ℕ) where
           let s = g .rest in
           let k = g .count in
           (record { limits = g .limits; within = g .within; rest = omega arith; count = omega arith; size = g .size }, refl)
-
-  pub ready-of : i < m → Going e i m (length image) → Ready e (length image)
-  ready-of l g =
-      let s = g .rest in
-      record { limits = g .limits; within = g .within; more = omega arith; count = g .count; size = g .size }
 
 -- the first i samples and one more are the first i + 1
 pub piece-next : (s : Both) (xs : List ℤ) (i : ℕ) → i < length xs → pushOf (pieceOf s (take i xs)) (getD xs i (pos 0)) ≡ pieceOf s (take (i + 1) xs)

@@ -17,7 +17,7 @@ use Rattle.clip.specs.Sizes.{lastOf, blocksOf, bodyOf, sizeOf}
 use Rattle.whole.specs.Frames.{framesOf}
 use Rattle.clip.specs.Image.{contextBytes}
 use Rattle.clip.specs.Encoding.{both, placeOf, contextPlace, storeOf, moved, noFrame, pushOf}
-use Rattle.clip.specs.Facts.{Limits, Room, Ready}
+use Rattle.clip.specs.Facts.{Limits, Room, Going}
 use Rattle.clip.proofs.Sizing.{frames-le, blocks-most, first-block}
 
 -- ---- room
@@ -45,10 +45,11 @@ pub full-frame : (n k : ℕ) → k < n → k % 14 ≡ 13 → (k / 14 < framesOf 
 unfolding bodyOf lastOf framesOf
 full-frame n k h e = (omega arith, omega arith)
 
-pub full-room : (e : Encoder) (len : ℕ) → Ready e len → e .fed % 14 ≡ 13 → Room (e .total) (e .block) (e .fed / 14) 8 len
-full-room e len r h =
-    let f = full-frame (e .total) (e .fed) (r .more) h in
-    record { limits = r .limits; frame = f .0; part = omega arith; one = omega arith; body = f .1; size = r .size }
+pub full-room : (e : Encoder) (i m len : ℕ) → Going e i m len → i < m → e .fed % 14 ≡ 13 → Room (e .total) (e .block) (e .fed / 14) 8 len
+full-room e i m len g lt h =
+    let r = g .rest in
+    let f = full-frame (e .total) (e .fed) (omega arith) h in
+    record { limits = g .limits; frame = f .0; part = omega arith; one = omega arith; body = f .1; size = g .size }
 
 -- ---- storing
 
@@ -77,19 +78,35 @@ module _ (n b q k kk : ℕ) (t image stored : List ℕ) (h : History) (same : kk
 pub passes-few : (h : History) (xs cs : List ℤ) (t : EncodedFrame) → t ≡ encodeFrame h xs cs → t .passes ≤ 104
 passes-few h xs cs t e = subst (λ (c : EncodedFrame). c .passes ≤ 104) (sym e) (frame-passes h xs cs)
 
+-- all of a frame's bytes are its first eight
+pub full-bytes : (h : History) (xs cs : List ℤ) → take 8 (encodeFrame h xs cs .bytes) ≡ encodeFrame h xs cs .bytes
+full-bytes h xs cs = let n = frame-lengths h xs cs .0 in take-all 8 (encodeFrame h xs cs .bytes) (omega arith)
+
 module _ (e : Encoder) (x : ℤ) (image : List ℕ) where
+  -- the frame with it
+  abbrev pub filled : List ℤ
+  filled = set (e .frame) (e .fed % 14) x
+
+  abbrev c : EncodedFrame
+  c = encodeFrame (e .history) filled (e .coefficients)
+
   -- it fills the frame
-  pub push-full : (t : EncodedFrame) (after : History) (out : List ℕ) → e .fed % 14 ≡ 13 → t ≡ encodeFrame (e .history) (set (e .frame) (e .fed % 14) x) (e .coefficients)
-      → out ≡ storeOf (e .total) (e .block) (e .fed / 14) (take 8 (t .bytes)) (e .history) image → after ≡ historyAfter (e .history) (t .samples) 14
-      → both (moved e (e .fed + 1) after noFrame (e .passes + t .passes) (e .closed)) out ≡ pushOf (both e image) x
+  pub push-full : (after : History) (passes : ℕ) (out : List ℕ) → e .fed % 14 ≡ 13 → after ≡ historyAfter (e .history) (c .samples) 14 → passes ≡ c .passes
+      → out ≡ storeOf (e .total) (e .block) (e .fed / 14) (c .bytes) (e .history) image
+      → both (moved e (e .fed + 1) after noFrame (e .passes + passes) (e .closed)) out ≡ pushOf (both e image) x
   unfolding pushOf
-  push-full t after out h et eo ea =
-      let c = encodeFrame (e .history) (set (e .frame) (e .fed % 14) x) (e .coefficients) in
-      let n = frame-lengths (e .history) (set (e .frame) (e .fed % 14) x) (e .coefficients) .0 in
-      let all : take 8 (c .bytes) ≡ c .bytes = take-all 8 (c .bytes) (omega arith) in
-      rw (eq-eqb (e .fed % 14) 13 h, eo, ea, et, all)
+  push-full after passes out h ea ep eo = rw (eq-eqb (e .fed % 14) 13 h, eo, ea, ep)
+
+  -- the passes stay within their bound
+  pub push-passes : (i m len passes : ℕ) → Going e i m len → i < m → passes ≡ c .passes → e .passes + passes < 4294967296
+  push-passes i m len passes g lt ep =
+      let f = frame-passes (e .history) filled (e .coefficients) in
+      let r = g .rest in
+      let k = g .count in
+      let b = g .limits .few in
+      omega (arith, f, r, k, b, ep)
 
   -- it does not
-  pub push-part : (e .fed % 14 ≡ 13 → ⊥) → both (moved e (e .fed + 1) (e .history) (set (e .frame) (e .fed % 14) x) (e .passes) (e .closed)) image ≡ pushOf (both e image) x
+  pub push-part : (e .fed % 14 ≡ 13 → ⊥) → both (moved e (e .fed + 1) (e .history) filled (e .passes) (e .closed)) image ≡ pushOf (both e image) x
   unfolding pushOf
   push-part h = rw (ne-eqb (e .fed % 14) 13 h)

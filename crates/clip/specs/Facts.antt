@@ -25,14 +25,6 @@ pub record Room (n b q k len : ℕ) : Type 0 where
   pub body : 8 * q + k ≤ bodyOf n
   pub size : sizeOf n b ≤ len
 
--- one more sample can come
-pub record Ready (e : Encoder) (len : ℕ) : Type 0 where
-  pub limits : Limits (e .total) (e .block)
-  pub within : withinLimits (e .coefficients) ≡ true
-  pub more : e .fed < e .total
-  pub count : e .passes ≤ 104 * (e .fed / 14)
-  pub size : sizeOf (e .total) (e .block) ≤ len
-
 -- of m samples i are in: the others fit the clip, and the image is large enough
 pub record Going (e : Encoder) (i m len : ℕ) : Type 0 where
   pub limits : Limits (e .total) (e .block)

@@ -1,8 +1,10 @@
 // Frames encoded to their places.
 ghost use mathlib.Core.Path.{_≡_};
+ghost use mathlib.Core.Bool.{true};
 ghost use lib.ListN.{length, take};
-ghost use Rattle.clip.specs.Encoding.{both, storeOf, pushOf, pieceOf};
-ghost use Rattle.clip.specs.Facts.{Room, Ready, Going};
+ghost use Rattle.frame.specs.Frame.{encodeFrame, historyAfter, withinLimits};
+ghost use Rattle.clip.specs.Encoding.{both, storeOf, pieceOf};
+ghost use Rattle.clip.specs.Facts.{Room, Going};
 use crate::Encoder;
 use crate::contents::put_context;
 use crate::fields::put_part;
@@ -32,47 +34,68 @@ pub(crate) fn store(
     }
 }
 
-// One sample.
-fn push(e: Encoder, x: i16, image: &mut [u8]) -> Encoder
-    requires { ⌜ Ready e (length (now image)) ⌝ }
-    ensures { λ r. ⌜ both r (now (image .exit)) ≡ pushOf (both e (now (image .entry))) x ⌝ }
-{
-    let n = e.fed;
-    let at = (n % 14) as usize;
-    let mut f = e.frame;
-    f[at] = x;
-    let h = e.history;
-    let mut c = e;
-    c.fed = n + 1;
-    if at == 13 {
-        let cs = e.coefficients;
-        let t = encode_frame(h, f, cs);
-        let b = t.bytes;
-        let s = t.samples;
-        let total = e.total as usize;
-        let block = e.block as usize;
-        let after = history_after(h, s, 14);
-        store(image, total, block, (n / 14) as usize, b, 8, h);
-        let none = [0i16; 14];
-        c.history = after;
-        c.frame = none;
-        c.passes = e.passes + t.passes;
-        return c;
-    }
-    c.frame = f;
-    c
+// What a full frame leaves beside its bytes: the history after it, and its passes.
+struct Encoded {
+    history: History,
+    passes: u32,
 }
 
-// The samples of a piece in turn.
+// Encodes full frame q to its place.
+fn encode_full(
+    image: &mut [u8],
+    total: usize,
+    block: usize,
+    q: usize,
+    coefficients: [i16; 16],
+    history: History,
+    frame: [i16; 14],
+) -> Encoded
+    requires { ⌜ Room total block q 8 (length (now image)) × (withinLimits coefficients ≡ true) ⌝ }
+    ensures { λ r. ⌜ (r .history ≡ historyAfter history (encodeFrame history frame coefficients .samples) 14) × (r .passes ≡ encodeFrame history frame coefficients .passes) ⌝ }
+    ensures { λ r. ⌜ now (image .exit) ≡ storeOf total block q (encodeFrame history frame coefficients .bytes) history (now (image .entry)) ⌝ }
+{
+    let done = encode_frame(history, frame, coefficients);
+    let bytes = done.bytes;
+    let samples = done.samples;
+    let after = history_after(history, samples, 14);
+    store(image, total, block, q, bytes, 8, history);
+    Encoded {
+        history: after,
+        passes: done.passes,
+    }
+}
+
+// The samples of a piece in turn, each to its place in the unfinished frame.
 pub(crate) fn feed_all(e: Encoder, piece: &[i16], image: &mut [u8]) -> Encoder
     requires { ⌜ Going e 0 (length (now piece)) (length (now image)) ⌝ }
     ensures { λ r. ⌜ both r (now (image .exit)) ≡ pieceOf (both e (now (image .entry))) (now (piece .entry)) ⌝ }
 {
-    let mut c = e;
+    let total = e.total as usize;
+    let block = e.block as usize;
+    let coefficients = e.coefficients;
+    let mut n = e.fed;
+    let mut history = e.history;
+    let mut frame = e.frame;
+    let mut passes = e.passes;
     let mut i: usize = 0;
     while i < piece.len() {
-        c = push(c, piece[i], image);
+        let at = (n % 14) as usize;
+        let q = (n / 14) as usize;
+        frame[at] = piece[i];
+        n += 1;
         i += 1;
+        if at < 13 {
+            continue;
+        }
+        let full = encode_full(image, total, block, q, coefficients, history, frame);
+        history = full.history;
+        passes += full.passes;
+        frame = [0i16; 14];
     }
+    let mut c = e;
+    c.fed = n;
+    c.history = history;
+    c.frame = frame;
+    c.passes = passes;
     c
 }

@@ -1,64 +1,137 @@
--- `feed_all` meets its contract. Assumes nothing.
+-- `feed_all` meets its contract: after i turns the first i samples are fed. Assumes nothing.
 use mathlib.Core.Path.{_≡_, refl, sym, ap, _∙_, subst}
 use mathlib.Core.List.{List}
-use Prim.Native.Nat.{ℕ, _+_, _-_, _*_, _≤_}
+use Prim.Native.Nat.{ℕ, _+_, _-_, _*_, _/_, _%_, _≤_, _<_}
 use native.Mathlib.Omega.{arith}
 use borrow.Author.Count.{falls}
+use borrow.Author.Needs.{needs}
 use denote.Ref.{now}
 use lib.IntN.{ℤ, pos}
-use lib.ListN.{length, take, getD}
+use lib.ListN.{length, take, getD, set}
 use lib.Seq.{take-length}
 use mir.Facts.{toZ-ofZ}
 use mir.Syntax.{w16}
-use Rattle.clip.specs.Encoding.{both, pushOf, pieceOf}
-use Rattle.clip.specs.Facts.{Going}
-use Rattle.clip.proofs.Pieces.{ready-of, turn}
+use mir.Val.{toZ, ofZ}
+use Rattle.frame.specs.declared.EncodedFrame.{EncodedFrame}
+use Rattle.frame.specs.Frame.{encodeFrame, historyAfter}
+use Rattle.clip.specs.declared.Encoder.{Encoder}
+use Rattle.clip.specs.Encoding.{both, storeOf, moved, pieceOf}
+use Rattle.clip.specs.Facts.{Room, Going}
+use Rattle.clip.proofs.Pieces.{turn}
+use Rattle.clip.proofs.Storing.{full-room, push-full, push-passes, push-part}
 use Rattle.clip.proofs.feeding.feed_all.Statement.{statement}
 use Rattle.clip.proofs.feeding.feed_all.Tie as tie
-use Rattle.clip.proofs.feeding.feed_all.Reads as reads
 
 abbrev Inv-loop : tie.InvT-loop
-Inv-loop piece image₀ c₀ i₀ image c i = (i ≤ length piece) × (both c image ≡ pieceOf (both c₀ image₀) (take i piece)) × Going c i (length piece) (length image₀) × (length image ≡ length image₀)
+Inv-loop e piece image₀ total block coefficients n₀ history₀ frame₀ passes₀ i₀ image n history frame passes i =
+    (i ≤ length piece)
+    × (both (moved e n history frame passes (e .closed)) image ≡ pieceOf (both e image₀) (take i piece))
+    × Going (moved e n history frame passes (e .closed)) i (length piece) (length image₀)
+    × (length image ≡ length image₀)
 
 abbrev μ-loop : tie.MeasureT-loop
-μ-loop piece image₀ c₀ i₀ image c i = length piece - i
+μ-loop e piece image₀ total block coefficients n₀ history₀ frame₀ passes₀ i₀ image n history frame passes i =
+    length piece - i
+
+cast-total : tie.Need-cast-total Inv-loop μ-loop
+cast-total c = search needs
+
+cast-block : tie.Need-cast-block Inv-loop μ-loop
+cast-block c = search needs
 
 loop-holds : tie.Need-loop-holds Inv-loop μ-loop
-loop-holds c = (omega arith, refl, c .before .pre, refl)
+loop-holds c = (omega arith, refl, c .before .before .before .before .before .before .pre, refl)
 
-mul-push : tie.Need-mul-push Inv-loop μ-loop
-mul-push c = omega arith
+cast-at : tie.Need-cast-at Inv-loop μ-loop
+cast-at c = omega arith
 
-shared-slice-copy-out-push : tie.Need-shared-slice-copy-out-push Inv-loop μ-loop
-shared-slice-copy-out-push c = omega arith
+cast-q : tie.Need-cast-q Inv-loop μ-loop
+cast-q c = let g = c .before .loop .inv .2 in omega (arith, g .rest, g .limits .few)
 
-push-requires : tie.Need-push-requires Inv-loop μ-loop
-push-requires c κs =
-    let l = c .before .before .before .loop in
-    let a = c .before .before .before .before .before .args in
-    ready-of (l .c) (l .image) (pos 0) (l .i) (length (now (a .piece))) (c .before .before .loop-test .taken) (subst (λ (k : ℕ). Going (l .c) (l .i) (length (now (a .piece))) k) (sym (l .inv .3)) (l .inv .2))
+mul-frame : tie.Need-mul-frame Inv-loop μ-loop
+mul-frame c = let p = c .before .before .before .before .before .before .before .before .pre in omega (arith, p .rest, p .limits .few)
+
+shared-slice-copy-out-frame : tie.Need-shared-slice-copy-out-frame Inv-loop μ-loop
+shared-slice-copy-out-frame c = c .loop-test .taken
+
+mul-frame-2 : tie.Need-mul-frame-2 Inv-loop μ-loop
+mul-frame-2 c = omega arith
+
+array-set-from-frame : tie.Need-array-set-from-frame Inv-loop μ-loop
+array-set-from-frame c = omega arith
+
+add-n : tie.Need-add-n Inv-loop μ-loop
+add-n c = let g = c .before .before .loop .inv .2 in omega (arith, g .rest, g .limits .few, c .before .loop-test .taken)
 
 add-i : tie.Need-add-i Inv-loop μ-loop
-add-i c = omega arith
+add-i c = let p = c .before .before .before .before .before .before .before .before .before .pre in omega (arith, p .rest, p .limits .few, c .before .loop-test .taken)
 
 loop-less : tie.Need-loop-less Inv-loop μ-loop
-loop-less c = falls (length (now (c .before .before .before .before .before .before .before .before .args .piece))) (c .before .before .before .before .before .before .loop .i) (c .before .before .before .before .before .loop-test .taken)
+loop-less c = falls (length (now (c .before .before .before .before .before .before .before .before .before .before .args .piece))) (c .before .before .before .loop .i) (c .before .before .loop-test .taken)
+
+-- the state at the loop's head
+abbrev state : tie.At-loop Inv-loop μ-loop → Encoder
+state l = let a = l .before .before .before .before .before .before .before .args in moved (a .e) (l .loop .n) (l .loop .history) (l .loop .frame) (l .loop .passes) (a .e .closed)
+
+-- the sample that is taken, and that it fits its type
+abbrev sample : tie.After-frame2 Inv-loop μ-loop → ℤ
+sample c = getD (now (c .before .before .before .before .before .before .before .before .before .args .piece)) (c .before .before .loop .i) (pos 0)
+
+same : (c : tie.After-frame2 Inv-loop μ-loop) → toZ w16 (ofZ w16 (sample c)) ≡ sample c
+same c = toZ-ofZ (record { sfits = c .frame2 .given })
 
 loop-again : tie.Need-loop-again Inv-loop μ-loop
 loop-again c =
-    let a = c .before .before .before .before .before .before .before .before .args in
-    let l = c .before .before .before .before .before .before .loop in
-    let x = getD (now (a .piece)) (l .i) (pos 0) in
-    let same = toZ-ofZ {w = w16} {z = x} (record { sfits = c .before .before .before .before .push-arg .given }) in
-    turn (both (a .e) (now (a .image))) (now (a .piece)) (l .i) (l .c) (l .image) (c .before .before .push .result) (c .before .before .push .last .1 .1 .0) (c .before .before .before .before .before .loop-test .taken)
-    (l .inv .1) (l .inv .2) (l .inv .3) (c .before .before .push .ensures ∙ ap (λ (z : ℤ). pushOf (both (l .c) (l .image)) z) same)
+    let a = c .before .before .before .before .before .before .before .before .before .before .args in
+    let l = c .before .before .before in
+    let m = state l in
+    let r = l .loop in
+    turn (both (a .e) (now (a .image))) (now (a .piece)) (r .i) m (r .image) _ _ (c .before .before .loop-test .taken) (r .inv .1) (r .inv .2) (r .inv .3)
+    (ap (λ (z : ℤ). both (moved (a .e) (r .n + 1) (r .history) (set (r .frame) (r .n % 14) z) (r .passes) (a .e .closed)) (r .image)) (same (c .before))
+    ∙ push-part m (sample (c .before)) (r .image) (λ q. omega (arith, c .if1 .taken, q)))
+
+-- the frame is full
+full : (c : tie.Else1 Inv-loop μ-loop) → c .before .before .before .loop .n % 14 ≡ 13
+full c = omega (arith, c .if1 .left)
+
+encode-full-requires : tie.Need-encode-full-requires Inv-loop μ-loop
+encode-full-requires c κs =
+    let l = c .before .before .before .before in
+    let r = l .loop in
+    (subst (λ (k : ℕ). Room (state l .total) (state l .block) (r .n / 14) 8 k) (sym (r .inv .3)) (full-room (state l) (r .i) _ _ (r .inv .2) (c .before .before .before .loop-test .taken) (full (c .before))), r .inv .2 .within)
+
+add-passes : tie.Need-add-passes Inv-loop μ-loop
+add-passes c =
+    let l = c .before .before .before .before .before .before .before .before .before in
+    let e = c .before .before .before .before .encode-full .ensures .0 .1 ∙ ap (λ (z : ℤ). encodeFrame (l .loop .history) (set (l .loop .frame) (l .loop .n % 14) z) (state l .coefficients) .passes) (same (c .before .before .before .before .before .before .before)) in
+    let few = push-passes (state l) (sample (c .before .before .before .before .before .before .before)) (l .loop .image) _ _ _ _ (l .loop .inv .2) (c .before .before .before .before .before .before .before .before .loop-test .taken) e in
+    omega (arith, few)
+
+loop-less-2 : tie.Need-loop-less-2 Inv-loop μ-loop
+loop-less-2 c = falls (length (now (c .before .before .before .before .before .before .before .before .before .before .before .before .before .before .before .before .args .piece))) (c .before .before .before .before .before .before .before .before .before .loop .i) (c .before .before .before .before .before .before .before .before .loop-test .taken)
+
+loop-again-2 : tie.Need-loop-again-2 Inv-loop μ-loop
+loop-again-2 c =
+    let a = c .before .before .before .before .before .before .before .before .before .before .before .before .before .before .before .before .args in
+    let l = c .before .before .before .before .before .before .before .before .before in
+    let m = state l in
+    let r = l .loop in
+    let x = sample (c .before .before .before .before .before .before .before) in
+    let f = c .before .before .before .before .encode-full in
+    let frame : ℤ → EncodedFrame = λ z. encodeFrame (r .history) (set (r .frame) (r .n % 14) z) (a .e .coefficients) in
+    let e = same (c .before .before .before .before .before .before .before) in
+    turn (both (a .e) (now (a .image))) (now (a .piece)) (r .i) m (r .image) _ _ (c .before .before .before .before .before .before .before .before .loop-test .taken) (r .inv .1) (r .inv .2) (r .inv .3)
+    (push-full m x (r .image) _ _ _ (full (c .before .before .before .before .before .before))
+    (f .ensures .0 .0 ∙ ap (λ (z : ℤ). historyAfter (r .history) (frame z .samples) 14) e)
+    (f .ensures .0 .1 ∙ ap (λ (z : ℤ). frame z .passes) e)
+    (f .ensures .1 ∙ ap (λ (z : ℤ). storeOf (a .e .total) (a .e .block) (r .n / 14) (frame z .bytes) (r .history) (r .image)) e))
 
 same-length : tie.Need-same-length Inv-loop μ-loop
 same-length c = c .before .loop .inv .3
 
 returns : tie.Need-returns Inv-loop μ-loop
 returns c =
-    let a = c .before .before .before .args in
+    let a = c .before .before .before .before .before .before .before .before .args in
     let e : c .before .loop .i ≡ length (now (a .piece)) = omega arith in
     c .before .loop .inv .1 ∙ ap (λ (l : List ℤ). pieceOf (both (a .e) (now (a .image))) l) (ap (λ (k : ℕ). take k (now (a .piece))) e ∙ take-length (now (a .piece)))
 
@@ -68,12 +141,22 @@ feed-all-spec =
     (tie.spec
     Inv-loop
     μ-loop
+    cast-total
+    cast-block
     loop-holds
-    mul-push
-    shared-slice-copy-out-push
-    push-requires
+    cast-at
+    cast-q
+    mul-frame
+    shared-slice-copy-out-frame
+    mul-frame-2
+    array-set-from-frame
+    add-n
     add-i
     loop-less
     loop-again
+    encode-full-requires
+    add-passes
+    loop-less-2
+    loop-again-2
     same-length
     returns)

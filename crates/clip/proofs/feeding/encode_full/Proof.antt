@@ -1,0 +1,40 @@
+-- `encode_full` meets its contract. Assumes nothing.
+use denote.Ref.{now}
+use mathlib.Core.List.{List}
+use mathlib.Core.Path.{_≡_, ap, _∙_}
+use Prim.Native.Nat.{ℕ}
+use lib.ListN.{take}
+use Rattle.frame.specs.declared.EncodedFrame.{EncodedFrame}
+use Rattle.frame.specs.Frame.{historyAfter}
+use Rattle.clip.specs.Encoding.{storeOf}
+use Rattle.frame.proofs.LawsFrame.{limits-bounded}
+use Rattle.clip.proofs.Storing.{full-bytes}
+use borrow.Author.Needs.{needs}
+use Rattle.clip.proofs.feeding.encode_full.Statement.{statement}
+use Rattle.clip.proofs.feeding.encode_full.Tie as tie
+
+encode-frame-requires : tie.Need-encode-frame-requires
+encode-frame-requires c κs = limits-bounded (c .before .args .coefficients) (c .before .pre .1)
+
+history-after-requires : tie.Need-history-after-requires
+history-after-requires c κs = search needs
+
+store-requires : tie.Need-store-requires
+store-requires c κs = search needs
+
+same-length : tie.Need-same-length
+same-length c = search needs
+
+returns : tie.Need-returns
+returns c =
+    let a = c .before .before .before .before .before .before .before .before .before .args in
+    let t = c .before .before .before .before .before .before .before .encode-frame .ensures in
+    let o = c .before .before .store .ensures in (
+      (c .before .before .before .before .history-after .ensures ∙ ap (λ (f : EncodedFrame). historyAfter (a .history) (f .samples) 14) t, ap (λ (f : EncodedFrame). f .passes) t),
+      o ∙ ap (λ (f : EncodedFrame). storeOf (a .total) (a .block) (a .q) (take 8 (f .bytes)) (a .history) (now (a .image))) t ∙ ap (λ (b : List ℕ). storeOf (a .total) (a .block) (a .q) b (a .history) (now (a .image))) (full-bytes (a .history) (a .frame) (a .coefficients)),
+    )
+
+pub encode-full-spec : {M : Type 1} → statement M
+encode-full-spec =
+    tie.close
+    (tie.spec encode-frame-requires history-after-requires store-requires same-length returns)
