@@ -24,7 +24,7 @@ use Rattle.image.specs.declared.Refusal.the-variants.{OutputTooShort}
 use Rattle.image.specs.Reading.{totalIn, blockIn, blocksIn, coefficientsIn, lengthIn}
 use Rattle.image.specs.Facts.{Opens, Found, Playable, AllPlayable}
 use Rattle.image.specs.Bodies.{bodyIn}
-use Rattle.image.specs.Samples.{contextIn, effectOf}
+use Rattle.image.specs.Samples.{contextIn, Effect, effectOf}
 use Rattle.image.specs.Sameness.{blockSamples, samplesFrom, samplesIn, compareAnswer}
 use Rattle.image.specs.AllBlocks.{allAnswer, contextAfter, allInto, playAllOf}
 use Rattle.image.proofs.Accepting.{failed}
@@ -187,3 +187,16 @@ module _ (l : List ℕ) (out : List ℤ) (p : AllPlayable l (length out)) where
   pub all-made : (n : ℕ) (x : Lent) → n ≡ totalIn l → x ≡ allInto l out → effectOf (Played.Played n) x ≡ playAllOf l out
   unfolding playAllOf
   all-made n x en e = rw (all-accepts l (length out) p, en, e)
+
+  -- its answer, and the output after it: the samples, and what stood beyond them
+  pub all-answered : playAllOf l out .answer ≡ Played.Played (totalIn l)
+  all-answered = ap (λ (e : Effect). e .answer) (sym (all-made (totalIn l) (allInto l out) refl refl))
+
+  pub all-output : playAllOf l out .out ≡ samplesIn l ++ drop (totalIn l) out
+  unfolding allInto
+  all-output =
+      let n = samples-count l (p .opens) in
+      let e = p .enough in
+      ap (λ (x : Effect). x .out) (sym (all-made (totalIn l) (allInto l out) refl refl))
+      ∙ spread (samplesIn l) out (omega (arith, n, e))
+      ∙ ap (λ (k : ℕ). samplesIn l ++ drop k out) n

@@ -35,7 +35,7 @@ use Rattle.image.specs.Sameness.{samplesIn}
 use Rattle.round_trip.specs.Job.{Sampled, Starting, joined, measuringCalls, encodingCalls, lastCoefficients, measuringAnswers, encodingAnswers}
 use Rattle.round_trip.specs.Outcome.{Outcome, seen, start, begun, Done}
 use Rattle.round_trip.proofs.Opening.{total-is, rate-is, block-is, gain-is, blocks-are, coefficients-are, image-opens}
-use Rattle.round_trip.proofs.Heard.{all-heard, block-plays, header-heard}
+use Rattle.round_trip.proofs.Heard.{all-heard, block-plays, all-plays, header-heard}
 use Rattle.round_trip.proofs.Pieces.{coefficients-length, measured-answers, measured-last, encoded-after, encoded-answers}
 
 -- ---- of X's closed image
@@ -73,6 +73,7 @@ module _ (g : Start) (F : Fine g) (xs : List ℤ) (l : List ℕ) (A : Audible g 
         opens = rw e opened;
         plays = rw e (block-plays g F xs rest A);
         count = rw e (ap length (all-heard g F xs rest A) ∙ sound-count g F xs ∙ sym all);
+        plays-all = rw (e, all) (all-plays g F xs rest A);
         near = rw e near;
       }
 

@@ -1,9 +1,8 @@
 -- What is heard of X's closed image: each block, all of them, and their nearness to X.
 use mathlib.Core.Path.{_≡_, refl, sym, ap, ap₂, _∙_}
 use mathlib.Core.Bool.{Bool, true, false, _&&_}
-use mathlib.Core.List.{List, _++_, append-assoc, append-nil}
+use mathlib.Core.List.{List, _++_}
 use Prim.Native.Nat.{ℕ, zero, suc, _+_, _*_, _/_, _≤_, _<_}
-use native.Mathlib.Nat.{add-zero, zero-add}
 use native.Mathlib.Omega.{arith}
 use borrow.Author.Tests.{eqb-true, ne-eqb}
 use lib.Dec.{eqb}
@@ -24,11 +23,14 @@ use Rattle.clip.proofs.Readback as read
 use Rattle.clip.proofs.Replay.{Audible}
 use Rattle.clip.proofs.Sounding.{blockSound, blocksSound, soundOf, block-played, all-blocks, frame-place}
 use Rattle.image.specs.declared.PlayAnswer.the-variants.{Played}
-use Rattle.image.specs.Reading.{offsetIn, lengthIn}
+use Rattle.image.specs.Reading.{coefficientsIn, offsetIn, lengthIn}
 use Rattle.image.specs.Bodies.{bodyIn}
-use Rattle.image.specs.Facts.{Found, Playable}
+use Rattle.image.specs.Facts.{Found, Playable, AllPlayable}
 use Rattle.image.specs.Samples.{Effect, contextIn, playOf}
 use Rattle.image.specs.Sameness.{blockSamples, samplesFrom, samplesIn}
+use Rattle.image.specs.AllBlocks.{playAllOf}
+use Rattle.image.proofs.Joined.{samples-snoc}
+use Rattle.image.proofs.LawsAll.{all-answered, all-output}
 use Rattle.image.proofs.LawsPlayed.{play-leaves, play-output, block-count}
 use Rattle.image.proofs.Parts.{part-at}
 use Rattle.round_trip.proofs.Opening.{image, total-is, block-is, blocks-are, coefficients-are, entry-made, context-is, image-made}
@@ -53,17 +55,7 @@ unfolding lowestAmong
 none-lowest cs b zero h = refl
 none-lowest cs b (suc k) h = rw (none-lowest cs b k (omega arith), not-both (c0At cs k) (c1At cs k) (b .pair k (omega arith)))
 
--- ---- blocks in turn
-
-from-snoc : (l : List ℕ) (j k : ℕ) → samplesFrom l j (suc k) ≡ samplesFrom l j k ++ blockSamples l (j + k)
-unfolding samplesFrom
-from-snoc l j zero = append-nil (blockSamples l j) ∙ ap (blockSamples l) (sym (add-zero j))
-from-snoc l j (suc k) =
-    ap (λ (r : List ℤ). blockSamples l j ++ r) (from-snoc l (suc j) k ∙ ap (λ (i : ℕ). samplesFrom l (suc j) k ++ blockSamples l i) (sym (add-suc-left j k)))
-    ∙ sym (append-assoc (blockSamples l j) (samplesFrom l (suc j) k) (blockSamples l (j + suc k)))
-  where
-    add-suc-left : (j k : ℕ) → j + suc k ≡ suc j + k
-    add-suc-left j k = omega arith
+-- ---- X's image
 
 module _ (g : Start) (F : Fine g) (xs : List ℤ) (rest : List ℕ) (A : Audible g xs) where
   abbrev l : List ℕ
@@ -84,32 +76,38 @@ module _ (g : Start) (F : Fine g) (xs : List ℤ) (rest : List ℕ) (A : Audible
   unfolding blocksSound samplesFrom
   blocks-heard zero h = refl
   blocks-heard (suc k) h =
-      from-snoc l 0 k
-      ∙ ap₂ (λ (a b : List ℤ). a ++ b) (blocks-heard k (omega arith)) (ap (blockSamples l) (zero-add k) ∙ block-heard k (omega arith))
+      samples-snoc l 0 k k (omega arith)
+      ∙ ap₂ (λ (a b : List ℤ). a ++ b) (blocks-heard k (omega arith)) (block-heard k (omega arith))
 
   -- all that is heard is X's reconstruction
   pub all-heard : samplesIn l ≡ soundOf g xs
   unfolding samplesIn
   all-heard = ap (samplesFrom l 0) (blocks-are g F xs rest) ∙ blocks-heard (blocksOf (g .total) (g .block)) (omega arith) ∙ all-blocks g F xs
 
+  pairs-heard : lowestPair (coefficientsIn l) ≡ false
+  unfolding lowestPair
+  pairs-heard = rw (coefficients-are g F xs rest) (none-lowest (g .coefficients) (A .bounded) 8 (omega arith))
+
   -- a block plays to an output with enough room
   pub block-plays : (k : ℕ) (out : List ℤ) → k < blocksOf (g .total) (g .block)
       → (let n = addressToSample (lengthOf (g .total) (g .block) k) in
       n ≤ length out → (playOf l k out .answer ≡ Played n) × (length (blockSamples l k) ≡ n) × (playOf l k out .out ≡ blockSamples l k ++ drop n out))
-  unfolding lowestPair
   block-plays k out few room =
       let e = entry-made g F xs rest k few in
       let f : Found l k = record { opens = image-made g F xs rest; block = rw (total-is g F xs rest, block-is g F xs rest) few } in
       let p : Playable l k (length out) =
-      record {
-        found = f;
-        pairs = rw (coefficients-are g F xs rest) (none-lowest (g .coefficients) (A .bounded) 8 (omega arith));
-        enough = rw (e .nibbles) room;
-      } in (
+      record { found = f; pairs = pairs-heard; enough = rw (e .nibbles) room } in (
         ap (λ (v : Effect). v .answer) (sym (play-leaves l k out p)) ∙ ap (λ (n : ℕ). Played (addressToSample n)) (e .nibbles),
         block-count l k f ∙ ap addressToSample (e .nibbles),
         play-output l k out p ∙ ap (λ (n : ℕ). blockSamples l k ++ drop (addressToSample n) out) (e .nibbles),
       )
+
+  -- the whole image plays to an output with enough room
+  pub all-plays : (out : List ℤ) → g .total ≤ length out → (playAllOf l out .answer ≡ Played (g .total)) × (playAllOf l out .out ≡ samplesIn l ++ drop (g .total) out)
+  all-plays out room =
+      let n = total-is g F xs rest in
+      let p : AllPlayable l (length out) = record { opens = image-made g F xs rest; pairs = pairs-heard; enough = rw n room } in
+      (all-answered l out p ∙ ap Played n, all-output l out p ∙ ap (λ (k : ℕ). samplesIn l ++ drop k out) n)
 
   -- a frame's header byte in the image
   pub header-heard : (q : ℕ) → q < framesOf (g .total) → getD l (placeOf (g .total) (g .block) q) 0 ≡ getD (encodedAt g xs q .bytes) 0 0

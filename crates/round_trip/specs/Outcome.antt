@@ -22,6 +22,7 @@ use Rattle.image.specs.declared.PlayAnswer.the-variants.{Played}
 use Rattle.image.specs.Opened.{openOf}
 use Rattle.image.specs.Samples.{playOf}
 use Rattle.image.specs.Sameness.{blockSamples, samplesIn}
+use Rattle.image.specs.AllBlocks.{playAllOf}
 use Rattle.round_trip.specs.Job.{joined, measuringCalls, encodingCalls, lastCoefficients, measuringAnswers, encodingAnswers}
 
 -- of a clip of the samples xs that was started as g says on a buffer that held l: the state and the buffer once it is closed
@@ -41,6 +42,9 @@ pub record Outcome (g : Start) (xs : List ℤ) (l : List ℕ) (closed : Both) : 
       n ≤ length out → (playOf (closed .bytes) k out .answer ≡ Played n) × (length (blockSamples (closed .bytes) k) ≡ n) × (playOf (closed .bytes) k out .out ≡ blockSamples (closed .bytes) k ++ drop n out))
   -- "and joined": exactly as many samples as were fed
   pub count : length (samplesIn (closed .bytes)) ≡ length xs
+  -- the same by one call
+  pub plays-all : (out : List ℤ) → length xs ≤ length out
+      → (playAllOf (closed .bytes) out .answer ≡ Played (length xs)) × (playAllOf (closed .bytes) out .out ≡ samplesIn (closed .bytes) ++ drop (length xs) out)
   -- each sample in a frame of exponent p below 12 is within ⌊(3 × 2^p + 1) / 2⌋ of its original; "p is its frame's header & 15"
   pub near : (i : ℕ) → i < length xs
       → (let p = getD (closed .bytes) (placeOf (g .total) (g .block) (i / 14)) 0 % 16 in
