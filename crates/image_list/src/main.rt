@@ -1,0 +1,143 @@
+// Replays a list of calls on two images of which the answers are known. A line of the input is a letter and a record of 27 bytes in
+// hexadecimal digits of lower case. b, f and g put bytes into both images, the first or the second: 0 their place (two bytes), 2 how many,
+// 3 the bytes. The others are calls: 0 and 2 the lengths of the two images that are lent (two bytes each), 4 the block's number (four
+// bytes), 8 the output's length (two bytes). o opens the first image, k finds the body of a block of it, p plays that block, s compares
+// the first with the second, r the second with the first. A call is answered by a line: 00 or the refusal's number; then the head's
+// values, the body, the count, the context and the whole output, which has 5A in each byte at first, or 1 where the images are the same.
+mod numbers;
+mod record;
+mod text;
+
+ghost use mathlib.Core.Path.{_≡_};
+ghost use lib.ListN.{length};
+use image::Answer;
+use image::PlayAnswer;
+use image::SameAnswer;
+use numbers::least;
+use record::double_word;
+use record::put;
+use record::unhex;
+use record::word;
+use text::print_bytes;
+use text::print_code;
+use text::print_context;
+use text::print_field;
+use text::print_head;
+use text::print_samples;
+
+fn print_answer(answer: Answer) {
+    match answer {
+        Answer::Accepted => print_code(0),
+        Answer::Refused(why) => print_code(image::code(why)),
+    }
+}
+
+fn open(image: &[u8]) {
+    let done = image::open(image);
+    let answer = done.answer;
+    let head = done.head;
+    print_answer(answer);
+    print_head(head);
+}
+
+fn body(image: &[u8], k: u32) {
+    let answer = image::block_answer(image, k);
+    print_answer(answer);
+    print_bytes(image::block_body(image, k));
+}
+
+fn fresh_samples() -> [i16; 512]
+    ensures { λ r. ⌜ 512 ≡ length r ⌝ }
+{
+    [23130; 512]
+}
+
+// Writes 0 and a value, or the refusal's number and 0.
+fn print_value(code: u32, value: u64) {
+    print_code(code);
+    print_field(value, 8);
+}
+
+fn play_to(image: &[u8], k: u32, out: &mut [i16]) {
+    let done = image::play(image, k, out);
+    let answer = done.answer;
+    let context = done.context;
+    match answer {
+        PlayAnswer::Played(count) => print_value(0, count),
+        PlayAnswer::Refused(why) => print_value(image::code(why), 0),
+    }
+    print_context(context);
+    print_samples(out);
+}
+
+fn play(image: &[u8], k: u32, room: usize) {
+    let n = least(room, 512);
+    let mut out = fresh_samples();
+    play_to(image, k, &mut out[..n]);
+}
+
+fn same(first: &[u8], second: &[u8]) {
+    let answer = image::same(first, second);
+    match answer {
+        SameAnswer::Same => print_value(0, 1),
+        SameAnswer::Different => print_value(0, 0),
+        SameAnswer::Refused(why) => print_value(image::code(why), 0),
+    }
+}
+
+// Makes the call of a letter.
+fn call(letter: u8, record: &[u8; 27], first: &[u8], second: &[u8]) -> bool {
+    let k = double_word(record, 4);
+    if letter == b'o' {
+        open(first);
+    } else if letter == b'k' {
+        body(first, k);
+    } else if letter == b'p' {
+        play(first, k, word(record, 8) as usize);
+    } else if letter == b's' {
+        same(first, second);
+    } else {
+        same(second, first);
+    }
+    io::write_all(1, b"\n")
+}
+
+// Makes a call on the first bytes of the images.
+fn lend(letter: u8, record: &[u8; 27], first: &[u8], second: &[u8]) -> bool {
+    let n = least(word(record, 0) as usize, first.len());
+    let m = least(word(record, 2) as usize, second.len());
+    call(letter, record, &first[..n], &second[..m])
+}
+
+// Replays a line.
+fn turn(letter: u8, record: &[u8; 27], first: &mut [u8; 1024], second: &mut [u8; 1024]) -> bool {
+    if letter == b'b' || letter == b'f' {
+        put(record, first);
+    }
+    if letter == b'b' || letter == b'g' {
+        put(record, second);
+        return true;
+    }
+    letter == b'f' || lend(letter, record, first, second)
+}
+
+// Reads a line and replays it, and answers whether the list goes on.
+fn replay(first: &mut [u8; 1024], second: &mut [u8; 1024]) -> bool {
+    let mut line = [0u8; 56];
+    let n = io::read_full(0, &mut line);
+    if n < 56 {
+        return false;
+    }
+    let mut record = [0u8; 27];
+    unhex(&line, &mut record);
+    turn(line[0], &record, first, second)
+}
+
+fn main() {
+    let mut first = [0u8; 1024];
+    let mut second = [0u8; 1024];
+    let mut turns: u32 = 4_000_000_000;
+    while turns > 0 && replay(&mut first, &mut second) {
+        turns -= 1;
+    }
+}
