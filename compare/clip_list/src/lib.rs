@@ -22,9 +22,9 @@ mod run;
 mod state;
 
 pub use case::{Case, MOST_ROOM, Step};
-pub use cases::cases;
-pub use codes::image_size;
+pub use cases::{HISTORIES, cases, extreme_coefficients};
+pub use codes::{block_count, image_size};
 pub use image::image_of;
 pub use machine::Machine;
-pub use random::random_clip;
-pub use state::{Start, State};
+pub use random::{random_clip, random_samples, random_start};
+pub use state::{Start, State, bytes, hexadecimal};

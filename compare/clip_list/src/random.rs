@@ -9,7 +9,7 @@ use oracle::random::Random;
 
 /// A random clip from start to close, with refused calls in between; some are left unfinished.
 pub fn random_clip(random: &mut Random) -> Case {
-    let samples = samples(random);
+    let samples = random_samples(random);
     let start = random_start(random, &samples);
     let room = image_size(start.total, start.block()) as usize + random.below_one(&[1, 4, 100]);
     let mut steps = vec![Step::New];
@@ -40,7 +40,7 @@ pub fn random_clip(random: &mut Random) -> Case {
 }
 
 /// Samples of any kind, mostly few.
-fn samples(random: &mut Random) -> Vec<i16> {
+pub fn random_samples(random: &mut Random) -> Vec<i16> {
     let mut samples = vec![];
     let len = 1 + random.below_one(&[3, 16, 45, 60, 60, 100, 150, 400]);
     while samples.len() < len {
@@ -53,7 +53,7 @@ fn samples(random: &mut Random) -> Vec<i16> {
 }
 
 /// What the samples' clip is started with.
-fn random_start(random: &mut Random, samples: &[i16]) -> Start {
+pub fn random_start(random: &mut Random, samples: &[i16]) -> Start {
     let size = match random.below(8) {
         0 => 8 + random.below(8),
         1..5 => 8 * (1 + random.below(8)) + random.below(8),

@@ -9,6 +9,7 @@ use crate::sameness::compare_sameness;
 use crate::tally::Tally;
 use coefficient_list::{Step, random_clip};
 use doilycairn::store_size;
+use image_list::block_count;
 use oracle::random::Random;
 use oracle::{Coefficients, measure};
 
@@ -74,7 +75,7 @@ fn coefficients(now: &mut Measuring) -> Result<Coefficients, u8> {
 /// Opens an image, plays each block, one beyond the last, and all.
 pub fn read(random: &mut Random, image: &[u8], tally: &mut Tally) {
     compare_open(image, tally);
-    let blocks = damage::block_count(image);
+    let blocks = block_count(image);
     for k in (0..=blocks).chain([u32::MAX as usize]) {
         compare_block(random, image, k, tally);
     }

@@ -2,32 +2,8 @@
 
 use crate::reading::{compare_block, compare_open, compare_same};
 use crate::tally::Tally;
+use image_list::{block_count, damaged, table};
 use oracle::random::Random;
-
-/// The bytes of the head and of an entry.
-const HEAD: usize = 56;
-const ENTRY: usize = 16;
-
-/// The count of blocks that an image says.
-pub fn block_count(image: &[u8]) -> usize {
-    image[52..HEAD].iter().fold(0, |sum, byte| sum * 256 + usize::from(*byte))
-}
-
-/// The bytes of head and table.
-fn table(image: &[u8]) -> usize {
-    HEAD + ENTRY * block_count(image)
-}
-
-/// The image with one nibble changed that is not a header's, or a byte after the image.
-pub fn with_nibble(random: &mut Random, image: &[u8]) -> Vec<u8> {
-    let bodies = table(image);
-    let from = bodies + random.below(image.len() - bodies);
-    let mut changed = image.to_vec();
-    if let Some(place) = (from..image.len()).find(|place| (place - bodies) % 8 > 0) {
-        changed[place] ^= (1 + random.below(15) as u8) << (4 * random.below(2));
-    }
-    changed
-}
 
 /// A few damages; one small image in 64 has each byte of head and table damaged, and each shorter length.
 pub fn random(random: &mut Random, image: &[u8], tally: &mut Tally) {
@@ -58,57 +34,4 @@ fn compare(random: &mut Random, damaged: &[u8], whole: &[u8], tally: &mut Tally)
     compare_block(random, damaged, k, tally);
     compare_same(damaged, whole, tally);
     compare_same(whole, damaged, tally);
-}
-
-/// An image with one damage or several.
-fn damaged(random: &mut Random, image: &[u8]) -> Vec<u8> {
-    let mut damaged = image.to_vec();
-    let table = table(image);
-    match random.below(8) {
-        0 => put(&mut damaged, random.below(table), random.bits() as u8),
-        1 => damaged[random.below(table)] ^= 1 << random.below(8),
-        2 => put(&mut damaged, random.below(image.len()), random.bits() as u8),
-        3 => damaged.truncate(random.below(image.len())),
-        4 => field(random, &mut damaged),
-        5 => lowest_pair(random, &mut damaged),
-        6 => entry(random, &mut damaged),
-        _ => (0..3).for_each(|_| field(random, &mut damaged)),
-    }
-    damaged
-}
-
-fn put(image: &mut [u8], place: usize, value: u8) {
-    image[place] = value;
-}
-
-/// Puts a value near the right one, or at a limit, to N, rate, B or K.
-fn field(random: &mut Random, image: &mut [u8]) {
-    let place = [4, 8, 12, 52][random.below(4)];
-    let now = u32::from_be_bytes(image[place..place + 4].try_into().unwrap());
-    let near = now.wrapping_add_signed(random.within(16));
-    let limits = [0, 8, 14_680_064, 14_680_065, 65_536, 65_544, u32::MAX];
-    let value = [near, now ^ 8, limits[random.below(limits.len())]][random.below(3)];
-    image[place..place + 4].copy_from_slice(&value.to_be_bytes());
-}
-
-/// Makes a pair -32,768 twice.
-fn lowest_pair(random: &mut Random, image: &mut [u8]) {
-    let place = 16 + 4 * random.below(8);
-    image[place..place + 4].copy_from_slice(&[0x80, 0, 0x80, 0]);
-}
-
-/// Changes a part of an entry, its body's first byte sometimes with it.
-fn entry(random: &mut Random, image: &mut [u8]) {
-    let k = random.below(block_count(image));
-    let place = HEAD + ENTRY * k;
-    let offset = u32::from_be_bytes(image[place..place + 4].try_into().unwrap()) as usize;
-    match random.below(4) {
-        0 => image[offset] ^= 1 << random.below(8),
-        1 => {
-            let header = random.bits() as u8;
-            (image[offset], image[place + 9]) = (header, header);
-        }
-        2 => image[place + 8 + random.below(2)] ^= 1 << random.below(8),
-        _ => image[place + 10 + random.below(4)] = random.bits() as u8,
-    }
 }

@@ -13,7 +13,6 @@ mod encoding;
 mod frames;
 mod long;
 mod measuring;
-pub mod reader;
 mod reading;
 mod sameness;
 mod states;

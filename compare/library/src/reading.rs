@@ -1,9 +1,9 @@
 //! Opening, playing and comparing images both ways.
 
 use crate::convert::{context, number};
-use crate::reader;
 use crate::tally::Tally;
 use doilycairn::{Head, Image, Played, Refusal};
+use image_list::reader;
 use oracle::random::Random;
 use oracle::{Coefficients, FrameContext, address_to_sample};
 

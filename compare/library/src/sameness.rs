@@ -1,11 +1,11 @@
 //! Images that are compared with others of the same clip.
 
 use crate::convert::number;
-use crate::damage;
 use crate::encoding::size;
 use crate::reading::compare_same;
 use crate::tally::Tally;
 use clip_list::{Start, image_of};
+use image_list::with_nibble;
 use oracle::random::Random;
 
 /// The image with itself, at another block size, with one nibble changed, and with a sample less.
@@ -30,7 +30,7 @@ pub fn compare_sameness(
         sure(image, &image_of(&Start { total, ..start.clone() }, &[less]), false);
     }
     compare_same(image, &other, tally);
-    let changed = damage::with_nibble(random, image);
+    let changed = with_nibble(random, image);
     compare_same(image, &changed, tally);
     compare_same(&changed, &other, tally);
 }

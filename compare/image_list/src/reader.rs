@@ -1,6 +1,7 @@
 //! Document 01's image, read plainly; its blocks are played by the Rust.
 
 use block_list::has_lowest_pair;
+use clip_list::{block_count, image_size};
 use oracle::{Coefficients, FrameContext, address_to_sample, decode};
 
 /// An image that opens.
@@ -26,7 +27,8 @@ fn word(bytes: &[u8], place: usize) -> u16 {
     u16::from_be_bytes([bytes[place], bytes[place + 1]])
 }
 
-fn long(bytes: &[u8], place: usize) -> u32 {
+/// The number of four bytes at a place.
+pub fn long(bytes: &[u8], place: usize) -> u32 {
     u32::from(word(bytes, place)) * 65_536 + u32::from(word(bytes, place + 2))
 }
 
@@ -41,9 +43,8 @@ struct Sizes {
 fn sizes(total: u32, block: u32) -> Sizes {
     let frames = (total as usize).div_ceil(14);
     let last = total as usize - 14 * (frames - 1);
-    let blocks = (8 * frames).div_ceil(block as usize);
-    let bodies = 8 * (frames - 1) + 1 + last.div_ceil(2);
-    Sizes { frames, last, blocks, whole: 56 + 16 * blocks + bodies }
+    let [blocks, whole] = [block_count(total, block), image_size(total, block)];
+    Sizes { frames, last, blocks: blocks as usize, whole: whole as usize }
 }
 
 /// Opens an image, or gives code 15 or 16.

@@ -1,6 +1,9 @@
-//! The reader opens document 01's image of one sample and refuses what is not as section 2 says.
+//! The reader opens document 01's image of one sample, refuses what is not as section 2 says, and plays the Rust's blocks.
 
-use library::reader::{open, same};
+use clip_list::{Start, image_of, random_samples, random_start};
+use image_list::reader::{open, same};
+use oracle::random::Random;
+use oracle::{Block, decode, encode_blocks};
 
 /// The sample 9 as a clip.
 fn image() -> Vec<u8> {
@@ -58,4 +61,46 @@ fn the_first_image_is_tested_first() {
     assert_eq!(same(&good, &lowest), Err(13));
     assert_eq!(same(&good, &with(73, 0x50)), Ok(false));
     assert_eq!(same(&good, &with(73, 0x4f)), Ok(true));
+}
+
+/// Random clips: what they are started with, and their samples.
+fn clips() -> impl Iterator<Item = (Start, Vec<i16>)> {
+    let mut random = Random::new(5);
+    (0..500).map(move |_| {
+        let samples = random_samples(&mut random);
+        (random_start(&mut random, &samples), samples)
+    })
+}
+
+#[test]
+fn images_play_the_rusts_blocks() {
+    for (start, samples) in clips() {
+        let Start { rate, size, gain, coefficients, history, .. } = start;
+        let encoded = encode_blocks(&[&samples], rate, size as usize, &coefficients, gain, history);
+        let play =
+            |block: &Block| decode(&block.bytes, block.len, &coefficients, block.context()).0;
+        let played: Vec<_> = encoded.unwrap().0.iter().flat_map(play).collect();
+        assert_eq!(played.len(), samples.len());
+        let image = image_of(&start, &[&samples]);
+        let all = open(&image).unwrap().play_all(samples.len());
+        assert_eq!(all.map(|(samples, _)| samples), Ok(played));
+    }
+}
+
+#[test]
+fn the_same_samples_are_the_same_at_every_block_size() {
+    for (start, samples) in clips() {
+        let image = image_of(&start, &[&samples]);
+        for size in [8, 24, 200] {
+            let other = image_of(&Start { size, ..start.clone() }, &[&samples]);
+            assert_eq!(same(&image, &other), Ok(true));
+        }
+        if let [less @ .., _] = &samples[..]
+            && !less.is_empty()
+        {
+            let total = less.len() as u32;
+            let other = image_of(&Start { total, ..start.clone() }, &[less]);
+            assert_eq!(same(&image, &other), Ok(false));
+        }
+    }
 }

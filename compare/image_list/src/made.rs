@@ -1,0 +1,69 @@
+//! Images: of clips, and of any bytes.
+
+use crate::damage::{ENTRY, HEAD, block_count, table};
+use crate::reader::long;
+use clip_list::{Start, bytes, image_of, random_start};
+use oracle::random::Random;
+
+/// What a clip is started with, and its samples.
+#[derive(Debug, Clone)]
+pub struct Clip {
+    pub start: Start,
+    pub samples: Vec<i16>,
+}
+
+impl Clip {
+    /// A clip of some length and block size.
+    pub fn new(random: &mut Random, total: usize, size: u32) -> Self {
+        let samples = if random.below(3) == 0 { random.tone(total) } else { random.clip(total) };
+        let start = Start { size, ..random_start(random, &samples) };
+        Self { start, samples }
+    }
+
+    /// The image of the Rust's blocks.
+    pub fn image(&self) -> Vec<u8> {
+        image_of(&self.start, &[&self.samples])
+    }
+
+    /// The image at another block size.
+    pub fn image_at(&self, size: u32) -> Vec<u8> {
+        image_of(&Start { size, ..self.start.clone() }, &[&self.samples])
+    }
+
+    /// The image of the first samples.
+    pub fn image_of_first(&self, total: usize) -> Vec<u8> {
+        let start = Start { total: total as u32, ..self.start.clone() };
+        image_of(&start, &[&self.samples[..total]])
+    }
+}
+
+/// The image of a clip.
+pub fn clip_image(random: &mut Random, total: usize, size: u32) -> Vec<u8> {
+    Clip::new(random, total, size).image()
+}
+
+/// An image that opens, with any coefficients but two of -32,768 in a pair, any bodies and any histories.
+pub fn any_image(random: &mut Random, total: usize, size: u32) -> Vec<u8> {
+    let mut image = clip_image(random, total, size);
+    for place in (16..48).step_by(4) {
+        let [c0, c1] = [random.sample(), random.sample()];
+        let c1 = if [c0, c1] == [i16::MIN; 2] { 0 } else { c1 };
+        image[place..place + 4].copy_from_slice(&bytes(&[c0, c1]));
+    }
+    let bodies = table(&image);
+    image[bodies..].fill_with(|| random.bits() as u8);
+    for k in 0..block_count(&image) {
+        let place = HEAD + ENTRY * k;
+        image[place + 9] = image[long(&image, place) as usize];
+        let history = bytes(&[random.sample(), random.sample()]);
+        image[place + 10..place + 14].copy_from_slice(&history);
+    }
+    image
+}
+
+/// The image with bytes put at a place.
+pub fn with(image: &[u8], place: usize, bytes: &[u8]) -> Vec<u8> {
+    let mut image = image.to_vec();
+    image[place..place + bytes.len()].copy_from_slice(bytes);
+    image
+}
