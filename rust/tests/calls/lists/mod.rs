@@ -4,6 +4,7 @@ mod blocks;
 mod clips;
 mod coefficients;
 mod frames;
+mod images;
 
 use std::fs::read_to_string;
 use std::path::Path;
