@@ -17,14 +17,14 @@ use Rattle.float.specs.FusedMultiplyAdd.{times, fusedMultiplyAdd}
 use Rattle.coefficients.specs.declared.clusters.Best.{Best}
 use Rattle.coefficients.specs.declared.clusters.Tally.{Tally}
 use Rattle.coefficients.specs.declared.merging.Record.{Record}
-use Rattle.coefficients.specs.declared.merging.RecordTerms.{RecordTerms}
+use Rattle.coefficients.specs.declared.merging.Side.{Side}
 use Rattle.coefficients.specs.declared.merging.Vec3.{Vec3}
 use Rattle.coefficients.specs.declared.merging.VectorTerms.{VectorTerms}
 use Rattle.coefficients.specs.Kit.{fma}
 use Rattle.coefficients.specs.Constants.{f0, f1, f2, _*f_, _+f_, _/f_}
 use Rattle.coefficients.specs.Analysis.{contrast, matrixFilter}
 use Rattle.coefficients.specs.Clusters.{blank, better, least, joined, plus3}
-use Rattle.coefficients.specs.Hoisted.{vectorTerms, recordTerms, contrastOf, blankTerms, noTerms, termsOf, leastOf, joinedOf}
+use Rattle.coefficients.specs.Hoisted.{vectorTerms, recordTerms, sideOf, contrastOf, blankTerms, noTerms, termsOf, leastOf, joinedOf}
 
 -- ---- products
 
@@ -66,8 +66,12 @@ fma-neg x y z = ap (λ (w : Float). add binary64 w z) (times-neg x y)
 
 -- ---- contrasts and filters
 
-pub contrast-terms : (a : Vec3) (b : Record) → contrastOf (vectorTerms a) (recordTerms b) ≡ contrast a b
-unfolding contrastOf vectorTerms recordTerms contrast
+-- a record's part in its contrasts, by its own quotient
+abbrev pub ownSide : Record → Side
+ownSide b = sideOf b (recordTerms b .val)
+
+pub contrast-terms : (a : Vec3) (b : Record) → contrastOf (vectorTerms a) (ownSide b) ≡ contrast a b
+unfolding contrastOf vectorTerms sideOf recordTerms contrast
 contrast-terms a b = refl
 
 pub filter-terms : (b : Record) → _≡_ {A = Vec3} (record { x0 = f1; x1 = recordTerms b .d1; x2 = recordTerms b .d2 }) (matrixFilter b)
@@ -92,11 +96,11 @@ terms-at vs (suc m) k h l = elim (ℕ-discrete k m) [
   | no q ↦ getD-set-other (termsOf vs m) m k (vectorTerms (getD vs m blank)) blankTerms q ∙ terms-at vs m k (lt-of-le-ne (omega arith) q) (omega arith)
 ]
 
-least-terms : (vs : List Vec3) (r : Record) (m k : ℕ) → k ≤ m → m ≤ 8 → leastOf (termsOf vs m) (recordTerms r) k ≡ least vs r k
+least-terms : (vs : List Vec3) (r : Record) (m k : ℕ) → k ≤ m → m ≤ 8 → leastOf (termsOf vs m) (ownSide r) k ≡ least vs r k
 unfolding leastOf least
 least-terms vs r m zero h l = refl
 least-terms vs r m (suc k) h l =
-    ap₂ (λ (b : Best) (v : VectorTerms). better b (contrastOf v (recordTerms r)) k) (least-terms vs r m k (omega arith) l) (terms-at vs m k h l)
+    ap₂ (λ (b : Best) (v : VectorTerms). better b (contrastOf v (ownSide r)) k) (least-terms vs r m k (omega arith) l) (terms-at vs m k h l)
     ∙ ap (λ (x : Float). better (least vs r k) x k) (contrast-terms (getD vs k blank) r)
 
 pub joined-terms : (vs : List Vec3) (m : ℕ) (t : Tally) (r : Record) → m ≤ 8 → joinedOf (termsOf vs m) m t r ≡ joined vs m t r
@@ -109,6 +113,6 @@ pub terms-more : (vs : List Vec3) (k : ℕ) → termsOf vs (k + 1) ≡ set (term
 unfolding termsOf
 terms-more vs k = rw add-one
 
-pub least-of-more : (vs : List VectorTerms) (t : RecordTerms) (k : ℕ) → leastOf vs t (k + 1) ≡ better (leastOf vs t k) (contrastOf (getD vs k blankTerms) t) k
+pub least-of-more : (vs : List VectorTerms) (s : Side) (k : ℕ) → leastOf vs s (k + 1) ≡ better (leastOf vs s k) (contrastOf (getD vs k blankTerms) s) k
 unfolding leastOf
-least-of-more vs t k = rw add-one
+least-of-more vs s k = rw add-one

@@ -4,6 +4,8 @@ mod Folds
 mod Picks
 mod Ends
 mod Hoists
+mod Filters
+mod Leads
 pub mod Measures
 pub mod Frames
 pub mod WholeRuns

@@ -12,8 +12,8 @@ use Rattle.coefficients.specs.declared.merging.Vec3.{Vec3}
 use Rattle.coefficients.specs.declared.clusters.Best.{Best}
 use Rattle.coefficients.specs.declared.clusters.Tally.{Tally}
 use Rattle.coefficients.specs.Analysis.{mergeFinish}
-use Rattle.coefficients.specs.Hoisted.{leastOf, recordTerms, joinedOf}
-use Rattle.coefficients.specs.declared.merging.RecordTerms.{RecordTerms}
+use Rattle.coefficients.specs.Hoisted.{leastOf, recordTerms, sideOf, joinedOf}
+use Rattle.coefficients.specs.declared.merging.Side.{Side}
 use Rattle.coefficients.specs.declared.merging.VectorTerms.{VectorTerms}
 use Rattle.coefficients.specs.Clusters.{better, blank, renewed, led, mean, doubled, beside}
 
@@ -25,7 +25,7 @@ better-below : (b : Best) (t : Float) (i m : ℕ) → i < m → b .index < m →
 unfolding better
 better-below b t i m p q = either-below (lt t (b .value)) (record { value = t; index = i }) b m p q
 
-pub least-below : (vs : List VectorTerms) (t : RecordTerms) (k m : ℕ) → 0 < m → k ≤ m → leastOf vs t k .index < m
+pub least-below : (vs : List VectorTerms) (t : Side) (k m : ℕ) → 0 < m → k ≤ m → leastOf vs t k .index < m
 unfolding leastOf
 least-below vs t zero m p h = p
 least-below vs t (suc k) m p h = better-below (leastOf vs t k) _ k m (omega arith) (least-below vs t k m p (omega arith))
@@ -42,7 +42,7 @@ set-le (x ∷ xs) (suc j) v m p h (suc i) = set-le xs j v m p (λ k. h (suc k)) 
 pub joined-le : (vs : List VectorTerms) (n : ℕ) (t : Tally) (r : Record) (k : ℕ) → ((i : ℕ) → getD (t .counts) i 0 ≤ k) → (i : ℕ) → getD (joinedOf vs n t r .counts) i 0 ≤ k + 1
 unfolding joinedOf
 joined-le vs n t r k h i =
-    let j = leastOf vs (recordTerms r) n .index in
+    let j = leastOf vs (sideOf r (recordTerms r .val)) n .index in
     set-le (t .counts) j (getD (t .counts) j 0 + 1) (k + 1) (omega (arith, h j)) (λ q. omega (arith, h q)) i
 
 pub zeros-le : (n i k : ℕ) → getD (replicate n 0) i 0 ≤ k

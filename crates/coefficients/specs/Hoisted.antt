@@ -8,6 +8,7 @@ use Rattle.coefficients.specs.declared.clusters.Best.{Best}
 use Rattle.coefficients.specs.declared.clusters.Tally.{Tally}
 use Rattle.coefficients.specs.declared.merging.Record.{Record}
 use Rattle.coefficients.specs.declared.merging.RecordTerms.{RecordTerms}
+use Rattle.coefficients.specs.declared.merging.Side.{Side}
 use Rattle.coefficients.specs.declared.merging.Vec3.{Vec3}
 use Rattle.coefficients.specs.declared.merging.VectorTerms.{VectorTerms}
 use Rattle.coefficients.specs.Kit.{fma}
@@ -23,20 +24,19 @@ vectorTerms a =
       val3 = a .x0 *f a .x2;
     }
 
--- a record's part in its contrasts, and what matrix_filter makes of it: both divide the same numbers
+-- what a record's contrasts and matrix_filter share: both divide the same numbers
 unfoldable pub recordTerms : Record → RecordTerms
 recordTerms b =
     let val = fma (b .v2) (b .v1) (neg (b .v1)) /f fma (b .v2) (neg (b .v2)) f1 in
     let d1 = val +f f0 in
-    record {
-      twice = f2 *f val;
-      last = f2 *f fma (neg (b .v1)) val (neg (b .v2));
-      d1 = d1;
-      d2 = neg (b .v2) +f fma (neg (b .v1)) d1 f0;
-    }
+    record { val = val; d1 = d1; d2 = neg (b .v2) +f fma (neg (b .v1)) d1 f0 }
 
-unfoldable pub contrastOf : VectorTerms → RecordTerms → Float
-contrastOf v t = fma (t .last) (v .val3) (fma (t .twice) (v .val2) (v .val1))
+-- a record's part in its contrasts
+unfoldable pub sideOf : Record → Float → Side
+sideOf b val = record { twice = f2 *f val; last = f2 *f fma (neg (b .v1)) val (neg (b .v2)) }
+
+unfoldable pub contrastOf : VectorTerms → Side → Float
+contrastOf v s = fma (s .last) (v .val3) (fma (s .twice) (v .val2) (v .val1))
 
 -- what `getD` gives past the end
 abbrev pub blankTerms : VectorTerms
@@ -50,19 +50,19 @@ unfoldable pub termsOf : List Vec3 → ℕ → List VectorTerms
 termsOf vs zero = replicate 8 noTerms
 termsOf vs (suc k) = set (termsOf vs k) k (vectorTerms (getD vs k blank))
 
-unfoldable pub leastOf : List VectorTerms → RecordTerms → ℕ → Best
-leastOf vs t zero = record { value = fE30; index = 0 }
-leastOf vs t (suc k) = better (leastOf vs t k) (contrastOf (getD vs k blankTerms) t) k
+unfoldable pub leastOf : List VectorTerms → Side → ℕ → Best
+leastOf vs s zero = record { value = fE30; index = 0 }
+leastOf vs s (suc k) = better (leastOf vs s k) (contrastOf (getD vs k blankTerms) s) k
 
 -- what `nearest` answers
-pub record Nearest (vs : List VectorTerms) (n : ℕ) (t : RecordTerms) (x : ℕ) : Type 0 where
-  pub value : x ≡ leastOf vs t n .index
+pub record Nearest (vs : List VectorTerms) (n : ℕ) (s : Side) (x : ℕ) : Type 0 where
+  pub value : x ≡ leastOf vs s n .index
   pub below : x < 8
 
 unfoldable pub joinedOf : List VectorTerms → ℕ → Tally → Record → Tally
 joinedOf vs n t r =
     let q = recordTerms r in
-    let i = leastOf vs q n .index in
+    let i = leastOf vs (sideOf r (q .val)) n .index in
     record {
       counts = set (t .counts) i (getD (t .counts) i 0 + 1);
       sums = set (t .sums) i (plus3 (getD (t .sums) i blank) (record { x0 = f1; x1 = q .d1; x2 = q .d2 }));

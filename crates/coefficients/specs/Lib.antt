@@ -7,6 +7,7 @@ pub mod Analysis
 pub mod Store
 pub mod Clusters
 pub mod Hoisted
+pub mod Filtered
 pub mod Finish
 pub mod Measure
 pub mod Runs

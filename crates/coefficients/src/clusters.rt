@@ -2,16 +2,23 @@
 ghost use mathlib.Core.Path.{_≡_};
 ghost use Prim.Native.Nat.{ℕ, _+_, _*_, _≤_, _<_};
 ghost use lib.ListN.{length, getD};
+ghost use mathlib.Core.Bool.{true};
 ghost use Rattle.coefficients.specs.Clusters as Clusters;
+ghost use Rattle.coefficients.specs.Filtered.{AllSmall};
 ghost use Rattle.coefficients.specs.Hoisted as Hoisted;
 ghost use Rattle.coefficients.specs.Hoisted.{Nearest};
 ghost use Rattle.coefficients.specs.Store.{records};
+use crate::filter::all_small;
+use crate::filter::are_small;
+use crate::filter::leading;
+use crate::filter::plain_side;
 use crate::merging::Record;
-use crate::merging::RecordTerms;
+use crate::merging::Side;
 use crate::merging::Vec3;
 use crate::merging::VectorTerms;
 use crate::merging::contrast_of;
 use crate::merging::record_terms;
+use crate::merging::side_of;
 use crate::merging::vector_terms;
 
 pub(crate) struct Best {
@@ -54,9 +61,9 @@ fn all_terms(vs: [Vec3; 8], m: usize) -> [VectorTerms; 8]
 }
 
 // The first of the n vectors of strictly least contrast below 1.0e30, or vector 0.
-fn nearest(ts: [VectorTerms; 8], n: usize, q: RecordTerms) -> usize
+fn nearest(ts: [VectorTerms; 8], n: usize, s: Side) -> usize
     requires { ⌜ n ≤ 8 ⌝ }
-    ensures { λ x. ⌜ Nearest ts n q x ⌝ }
+    ensures { λ x. ⌜ Nearest ts n s x ⌝ }
 {
     let mut b = Best {
         value: 1.0e30,
@@ -64,10 +71,25 @@ fn nearest(ts: [VectorTerms; 8], n: usize, q: RecordTerms) -> usize
     };
     let mut i: usize = 0;
     while i < n {
-        b = better(b, contrast_of(ts[i], q), i);
+        b = better(b, contrast_of(ts[i], s), i);
         i += 1;
     }
     b.index
+}
+
+// The same, by plain contrasts where these are within bounds and the least is clear of the next.
+fn chosen(ts: [VectorTerms; 8], n: usize, small: bool, r: Record, val: f64) -> usize
+    requires { ⌜ n ≤ 8 ⌝ }
+    requires { ⌜ (small ≡ true → AllSmall ts n) ⌝ }
+    ensures { λ x. ⌜ Nearest ts n (Hoisted.sideOf r val) x ⌝ }
+{
+    if small && are_small(r.v1, r.v2, val) {
+        let l = leading(ts, n, plain_side(r, val));
+        if l.least + 0.000000007450580596923828125 < l.second {
+            return l.index;
+        }
+    }
+    nearest(ts, n, side_of(r, val))
 }
 
 fn plus3(a: Vec3, b: Vec3) -> Vec3
@@ -81,8 +103,9 @@ fn plus3(a: Vec3, b: Vec3) -> Vec3
 }
 
 // A record joins its vector.
-fn joined(ts: [VectorTerms; 8], n: usize, t: Tally, r: Record) -> Tally
+fn joined(ts: [VectorTerms; 8], n: usize, small: bool, t: Tally, r: Record) -> Tally
     requires { ⌜ n ≤ 8 ⌝ }
+    requires { ⌜ (small ≡ true → AllSmall ts n) ⌝ }
     requires { ⌜ ((i : ℕ) → getD (t .counts) i 0 < 4294967295) ⌝ }
     ensures { λ x. ⌜ x ≡ Hoisted.joinedOf ts n t r ⌝ }
 {
@@ -92,7 +115,7 @@ fn joined(ts: [VectorTerms; 8], n: usize, t: Tally, r: Record) -> Tally
         x1: q.d1,
         x2: q.d2,
     };
-    let i = nearest(ts, n, q);
+    let i = chosen(ts, n, small, r, q.val);
     let mut u = t;
     u.counts[i] = u.counts[i] + 1;
     u.sums[i] = plus3(u.sums[i], d);
@@ -114,9 +137,10 @@ pub(crate) fn gather(vs: [Vec3; 8], m: usize, s: &[f64], n: usize) -> Tally
         sums: [z; 8],
     };
     let ts = all_terms(vs, m);
+    let small = all_small(ts, m);
     let mut k: usize = 0;
     while k < n {
-        t = joined(ts, m, t, crate::store::read_record(s, k));
+        t = joined(ts, m, small, t, crate::store::read_record(s, k));
         k += 1;
     }
     t

@@ -3,6 +3,7 @@ ghost use mathlib.Core.Path.{_≡_};
 ghost use Rattle.coefficients.specs.Measure as Measure;
 
 mod clusters;
+mod filter;
 mod finishing;
 mod framing;
 mod measuring;

@@ -23,10 +23,15 @@ pub(crate) struct VectorTerms {
     pub val3: f64,
 }
 
-// Those that depend on the record alone, and the two numbers that the record adds to a sum.
-pub(crate) struct RecordTerms {
+// Those that depend on the record alone.
+pub(crate) struct Side {
     pub twice: f64,
     pub last: f64,
+}
+
+// A quotient that a record's contrasts and its filter share, and the two numbers that the record adds to a sum.
+pub(crate) struct RecordTerms {
+    pub val: f64,
     pub d1: f64,
     pub d2: f64,
 }
@@ -66,25 +71,34 @@ pub(crate) fn vector_terms(a: Vec3) -> VectorTerms
     }
 }
 
-// A record's part in its contrasts, and what matrix_filter makes of it.
+// What a record's contrasts divide, and what matrix_filter makes of it.
 pub(crate) fn record_terms(b: Record) -> RecordTerms
     ensures { λ r. ⌜ r ≡ Hoisted.recordTerms b ⌝ }
 {
     let val = float::mul_add(b.v2, b.v1, -b.v1) / float::mul_add(b.v2, -b.v2, 1.0);
     let d1 = val + 0.0;
     RecordTerms {
-        twice: 2.0 * val,
-        last: 2.0 * float::mul_add(-b.v1, val, -b.v2),
+        val,
         d1,
         d2: -b.v2 + float::mul_add(-b.v1, d1, 0.0),
     }
 }
 
-// contrast_vectors of the two.
-pub(crate) fn contrast_of(v: VectorTerms, t: RecordTerms) -> f64
-    ensures { λ r. ⌜ r ≡ Hoisted.contrastOf v t ⌝ }
+// A record's part in its contrasts.
+pub(crate) fn side_of(b: Record, val: f64) -> Side
+    ensures { λ r. ⌜ r ≡ Hoisted.sideOf b val ⌝ }
 {
-    float::mul_add(t.last, v.val3, float::mul_add(t.twice, v.val2, v.val1))
+    Side {
+        twice: 2.0 * val,
+        last: 2.0 * float::mul_add(-b.v1, val, -b.v2),
+    }
+}
+
+// contrast_vectors of the two.
+pub(crate) fn contrast_of(v: VectorTerms, s: Side) -> f64
+    ensures { λ r. ⌜ r ≡ Hoisted.contrastOf v s ⌝ }
+{
+    float::mul_add(s.last, v.val3, float::mul_add(s.twice, v.val2, v.val1))
 }
 
 // What a record adds to the sums of its vector.

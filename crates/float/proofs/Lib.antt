@@ -1,8 +1,10 @@
--- Laws. Those that other crates cite are public: sizes of floats by fractions and by powers of two, and their signs.
+-- Laws. Those that other crates cite are public: sizes of floats by fractions and by powers of two, their signs, their counts, and how far a rounding moves.
 mod Align
 mod Apart
 pub mod Bounds
 mod Columns
+pub mod Counts
+pub mod Errors
 mod Frame
 pub mod HalfAway
 mod Halves

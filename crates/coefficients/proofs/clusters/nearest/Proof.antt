@@ -12,10 +12,10 @@ use Rattle.coefficients.proofs.clusters.nearest.Statement.{statement}
 use Rattle.coefficients.proofs.clusters.nearest.Tie as tie
 
 abbrev Inv-loop : tie.InvT-loop
-Inv-loop n q ts b₀ i₀ b i = (i ≤ n) × (b ≡ leastOf ts q i)
+Inv-loop n s ts b₀ i₀ b i = (i ≤ n) × (b ≡ leastOf ts s i)
 
 abbrev μ-loop : tie.MeasureT-loop
-μ-loop n q ts b₀ i₀ b i = n - i
+μ-loop n s ts b₀ i₀ b i = n - i
 
 loop-holds : tie.Need-loop-holds Inv-loop μ-loop
 unfolding leastOf
@@ -36,7 +36,7 @@ loop-less c = omega arith
 loop-again : tie.Need-loop-again Inv-loop μ-loop
 loop-again c =
     let l = c .before .before .before .before in
-    let e : c .before .contrast-of .result ≡ contrastOf (getD (l .before .args .t1) (l .loop .i) blankTerms) (l .before .args .q) = c .before .contrast-of .ensures in
+    let e : c .before .contrast-of .result ≡ contrastOf (getD (l .before .args .t1) (l .loop .i) blankTerms) (l .before .args .s) = c .before .contrast-of .ensures in
     (omega arith, rw (least-of-more, ← l .loop .inv .1, ← e) (c .better .ensures))
 
 returns : tie.Need-returns Inv-loop μ-loop
@@ -44,7 +44,7 @@ returns c =
     let l = c .before in
     let n = l .before .args .n in
     let e : l .loop .i ≡ n = omega arith in
-    let b : l .loop .b ≡ leastOf (l .before .args .t1) (l .before .args .q) n = rw e at (l .loop .inv .1) in
+    let b : l .loop .b ≡ leastOf (l .before .args .t1) (l .before .args .s) n = rw e at (l .loop .inv .1) in
     record { value = ap (λ (x : Best). x .index) b; below = rw b (least-below _ _ n 8 (omega arith) (omega arith)) }
 
 pub nearest-spec : {M : Type 1} → statement M

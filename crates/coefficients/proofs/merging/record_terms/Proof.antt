@@ -8,4 +8,4 @@ unfolding recordTerms
 returns c = cc
 
 pub record-terms-spec : {M : Type 1} → statement M
-record-terms-spec = tie.close (tie.spec (λ _ _. tt) (λ _ _. tt) (λ _ _. tt) (λ _ _. tt) returns)
+record-terms-spec = tie.close (tie.spec (λ _ _. tt) (λ _ _. tt) (λ _ _. tt) returns)

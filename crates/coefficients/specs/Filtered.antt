@@ -1,0 +1,56 @@
+-- The choice of a record's vector by plain products and sums, where these leave no doubt. proofs/Filters.antt shows that it is the choice by exact contrasts.
+use mathlib.Core.Path.{_≡_}
+use mathlib.Core.Bool.{true, cond}
+use mathlib.Core.List.{List}
+use Prim.Native.Nat.{ℕ, zero, suc, _<_}
+use lib.Dec.{T}
+use lib.Ieee.{Float, neg, lt, fits, binary64, ofBits}
+use lib.ListN.{getD}
+use Rattle.coefficients.specs.declared.filter.Lead.{Lead}
+use Rattle.coefficients.specs.declared.merging.Record.{Record}
+use Rattle.coefficients.specs.declared.merging.Side.{Side}
+use Rattle.coefficients.specs.declared.merging.VectorTerms.{VectorTerms}
+use Rattle.coefficients.specs.Constants.{f2, fE30, _*f_, _+f_}
+use Rattle.coefficients.specs.Hoisted.{blankTerms}
+
+abbrev pub f16 : Float
+f16 = ofBits binary64 0x4030_0000_0000_0000
+
+-- 2 ^ -27
+abbrev pub gap : Float
+gap = ofBits binary64 0x3e40_0000_0000_0000
+
+-- less than 16 in size
+pub record Small (x : Float) : Type 0 where
+  pub held : T (fits binary64 x)
+  pub above : lt (neg f16) x ≡ true
+  pub below : lt x f16 ≡ true
+
+pub record Smalls (a b c : Float) : Type 0 where
+  pub one : Small a
+  pub two : Small b
+  pub three : Small c
+
+abbrev pub SmallTerms : VectorTerms → Type 0
+SmallTerms v = Smalls (v .val1) (v .val2) (v .val3)
+
+-- the first n vectors' terms are
+abbrev pub AllSmall : List VectorTerms → ℕ → Type 0
+AllSmall vs n = (i : ℕ) → i < n → SmallTerms (getD vs i blankTerms)
+
+-- a record's part in its contrasts, and a contrast, each operation rounded
+unfoldable pub plainSide : Record → Float → Side
+plainSide b val = record { twice = f2 *f val; last = f2 *f (neg (b .v1) *f val +f neg (b .v2)) }
+
+unfoldable pub plainContrast : VectorTerms → Side → Float
+plainContrast v s = s .last *f v .val3 +f (s .twice *f v .val2 +f v .val1)
+
+-- the least, the place it was found at, and the least of the others
+unfoldable pub closer : Lead → Float → ℕ → Lead
+closer l t i =
+    cond (lt t (l .least)) (record { least = t; second = l .least; index = i })
+    (cond (lt t (l .second)) (record { least = l .least; second = t; index = l .index }) l)
+
+unfoldable pub leadOf : List VectorTerms → Side → ℕ → Lead
+leadOf vs s zero = record { least = fE30; second = fE30; index = 0 }
+leadOf vs s (suc k) = closer (leadOf vs s k) (plainContrast (getD vs k blankTerms) s) k
