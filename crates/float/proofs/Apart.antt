@@ -8,12 +8,12 @@ use native.Mathlib.Omega.{arith}
 use lib.Dec.{T, leb, eqb, eqb→eq, not-T, lit<, lit≤}
 use lib.Pow.{pow-add, pow-pos, pow-mono, mod-mod-pow}
 use lib.Count.{leadingZeros, leading-top, leading-le}
-use lib.Ieee.{Float, nan, inf, fin, binary64, low, unlike, odd, ofFields, ofBits, sum}
+use lib.Ieee.{Float, nan, inf, fin, binary64, low, unlike, odd, ofFields, ofBits, toBits, sum}
 use lib.Ieee.Bits.{cond-no}
 use lib.Ieee.Exact.{HasValue, odd-sign}
 use Rattle.float.specs.FusedMultiplyAdd.{times, fusedMultiplyAdd}
-use Rattle.float.specs.Split.{Plain, Split}
-use Rattle.float.specs.Wide.{Ready, summing}
+use Rattle.float.specs.Split.{Normal, Plain, Split}
+use Rattle.float.specs.Wide.{Framed, Ready, summing}
 use Rattle.float.proofs.Words.{zeros-lt, zeros-top}
 use Rattle.float.proofs.Value.{value-scale, value-is, times-value, fma-value}
 
@@ -195,3 +195,59 @@ pub fused-law : (x y z : Float) (s t r : Bool) (m e n d o k : ℕ) → Split x s
 fused-law x y z s t r m e n d o k X Y Z =
     summing-is 1198 (unlike s t) (m * 1024 * (n * 1024) * 2 ^ (e + d)) r (o * 512 * 2 ^ 64 * 2 ^ (k + 1073))
     ∙ sym (fma-value binary64 x y z (unlike s t) r (m * 1024 * (n * 1024) * 2 ^ (e + d)) (o * 512 * 2 ^ 64 * 2 ^ (k + 1073)) (2 ^ 2272) (pow-pos 2272) (product-value x y s t m e n d X Y) (third-value z r o k Z))
+
+-- ---- `fused_near`
+pub normal-split : (b m x : ℕ) → Normal b → m ≡ 2 ^ 52 + b % 2 ^ 52 → x ≡ b % 2 ^ 63 / 2 ^ 52 → Split (ofBits binary64 b) (leb (2 ^ 63) b) m (x + 51)
+normal-split b m x N p q =
+    subst (λ (z : ℕ). Split (ofBits binary64 b) (leb (2 ^ 63) b) z (x + 51)) (sym p)
+    (subst (λ (z : ℕ). Split (ofBits binary64 b) (leb (2 ^ 63) b) (2 ^ 52 + b % 2 ^ 52) (z + 51)) (sym q)
+    (parts-high b (record { some = some (b % 2 ^ 63) (N .0); finite = finite (b % 2 ^ 63) (N .1) }) (λ e. none (b % 2 ^ 63 / 2 ^ 52) (N .0) e)))
+  where
+    some : (n : ℕ) → 1 ≤ n / 2 ^ 52 → 0 < n
+    some n h = omega arith
+
+    finite : (n : ℕ) → n / 2 ^ 52 < 2047 → n < 2047 * 2 ^ 52
+    finite n h = omega arith
+
+    none : (x : ℕ) → 1 ≤ x → x ≡ 0 → ⊥
+    none x h e = omega arith
+
+module _ (f g h : Float) (s t u : Bool) (m x n y o z p w : ℕ) (X : Split f s m (x + 51)) (Y : Split g t n (y + 51)) (Z : Split h u o (z + 51)) (E : p ≡ m * n) (F : w * 2 ^ (x + y - (z + 1002)) ≡ o * 512 * 2 ^ 64) where
+  pub near-p : (0 < p) × (p < 2 ^ 126)
+  near-p = (
+    lt-of-lt-of-le (pow-pos 104) (le-trans (le-trans (mul-le-mul-left (2 ^ 52) (Y .least)) (mul-le-mul-right n (X .least))) (le-of-eq (sym E))),
+    lt-of-le-of-lt (le-of-eq E) (lt-of-le-of-lt (mul-le-mul-left m (le-of-lt (Y .most))) (lt-of-lt-of-le (mul-lt-mul-of-pos-right (X .most) (pow-pos 53)) (lit≤ tt))),
+  )
+
+  pub near-w : w < 2 ^ 126
+  near-w = lt-of-le-of-lt (le-trans (le-of-eq (sym (mul-one w))) (le-trans (mul-le-mul-left w (pow-pos (x + y - (z + 1002)))) (le-of-eq F))) (mul-lt-mul-of-pos-right (over o (Z .most)) (pow-pos 64))
+    where
+      over : (m : ℕ) → m < 2 ^ 53 → m * 512 < 2 ^ 62
+      over m h = omega arith
+
+  -- both are exact over 2 ^ 2272
+  p-is : m * 1024 * (n * 1024) * 2 ^ (x + 51 + (y + 51)) ≡ p * 2 ^ (x + y + 122)
+  p-is =
+      sort m n 1024 (2 ^ (x + 51 + (y + 51)))
+      ∙ ap (λ (v : ℕ). m * n * v) (sym (pow-add 2 20 (x + 51 + (y + 51))) ∙ ap (λ (v : ℕ). 2 ^ v) (same x y))
+      ∙ ap (λ (v : ℕ). v * 2 ^ (x + y + 122)) (sym E)
+    where
+      sort : (m n k b : ℕ) → m * k * (n * k) * b ≡ m * n * (k * k * b)
+      sort m n k b = simp (mul-assoc, mul-comm, mul-left-comm)
+
+      same : (x y : ℕ) → 20 + (x + 51 + (y + 51)) ≡ x + y + 122
+      same x y = omega arith
+
+  w-is : z + 1002 ≤ x + y → o * 512 * 2 ^ 64 * 2 ^ (z + 51 + 1073) ≡ w * 2 ^ (x + y + 122)
+  w-is h =
+      ap (λ (v : ℕ). v * 2 ^ (z + 51 + 1073)) (sym F)
+      ∙ mul-assoc w (2 ^ (x + y - (z + 1002))) (2 ^ (z + 51 + 1073))
+      ∙ ap (λ (v : ℕ). w * v) (sym (pow-add 2 (x + y - (z + 1002)) (z + 51 + 1073)) ∙ ap (λ (v : ℕ). 2 ^ v) (same x y z h))
+    where
+      same : (x y z : ℕ) → z + 1002 ≤ x + y → x + y - (z + 1002) + (z + 51 + 1073) ≡ x + y + 122
+      same x y z h = omega arith
+
+  pub near-law : (r : ℕ) → z + 1002 ≤ x + y → ((a b : ℕ) → Framed a p b w (2 ^ (x + y + 122)) → r ≡ toBits binary64 (summing 1198 (unlike s t) a u b)) → r ≡ toBits binary64 (fusedMultiplyAdd binary64 f g h)
+  near-law r l k =
+      k (m * 1024 * (n * 1024) * 2 ^ (x + 51 + (y + 51))) (o * 512 * 2 ^ 64 * 2 ^ (z + 51 + 1073)) (inl (p-is, w-is l))
+      ∙ ap (toBits binary64) (fused-law f g h s t u m (x + 51) n (y + 51) o (z + 51) X Y Z)

@@ -8,10 +8,10 @@ use native.Mathlib.Omega.{arith}
 use lib.Dec.{T, ltb, lit<, lit≤}
 use lib.Pow.{pow-add, pow-pos}
 use borrow.Author.Tests.{lt-ltb, le-ltb}
-use lib.Ieee.{binary64, low, size, sum, round, units, toBits}
+use lib.Ieee.{binary64, low, size, sum, round, units, unlike, toBits}
 use lib.Ieee.Nearest.{closest}
 use Rattle.float.specs.Jam.{Jam, rounding}
-use Rattle.float.specs.Wide.{Stands, Far, Framed, summing}
+use Rattle.float.specs.Wide.{Stands, Far, Framed, Merging, summing}
 use Rattle.float.proofs.Stand.{jam-add, jam-sub}
 use Rattle.float.proofs.Rounding.{round-cut}
 use Rattle.float.proofs.Halves.{near-lt}
@@ -138,3 +138,58 @@ none-bits g =
 
     twice : (g : ℕ) → 2 ^ suc g ≡ 2 ^ g * 2
     twice g = pow-suc 2 g
+
+-- ---- what `merged` gives is what the sum is rounded from
+module _ (a p b c t : ℕ) (T₀ : 0 < t) (F : Framed a p b c t) (s u : Bool) (w r : ℕ) where
+  like-bits : Bool·beq s u ≡ true → w ≡ p + c → ((m : ℕ) → Stands m w t → r ≡ toBits binary64 (rounding 1198 s m)) → r ≡ toBits binary64 (summing 1198 s a u b)
+  like-bits e f k = k (a + b) (subst (λ (z : ℕ). Stands (a + b) z t) (sym f) (sum-stands a p b c t T₀ F)) ∙ ap (toBits binary64) (sym (summing-like 1198 s u a b e))
+
+  over-bits : Bool·beq s u ≡ false → c < p → w + c ≡ p → ((m : ℕ) → Stands m w t → r ≡ toBits binary64 (rounding 1198 s m)) → r ≡ toBits binary64 (summing 1198 s a u b)
+  over-bits e h f k =
+      k (a - b) (subst (λ (z : ℕ). Stands (a - b) z t) (back w c p f) (diff-stands a p b c t T₀ F h))
+      ∙ ap (toBits binary64) (sym (summing-over 1198 s u a b e (diff-less a p b c t T₀ F h)))
+    where
+      back : (w c p : ℕ) → w + c ≡ p → p - c ≡ w
+      back w c p f = omega arith
+
+  under-bits : Bool·beq s u ≡ false → 0 < w → w + p ≡ c → ((m : ℕ) → Stands m w t → r ≡ toBits binary64 (rounding 1198 u m)) → r ≡ toBits binary64 (summing 1198 s a u b)
+  under-bits e h f k =
+      let G = framed-swap a p b c t F in
+      let l : p < c = less w p c h f in
+      k (b - a) (subst (λ (z : ℕ). Stands (b - a) z t) (back w p c f) (diff-stands b c a p t T₀ G l))
+      ∙ ap (toBits binary64) (sym (summing-under 1198 s u a b e (diff-less b c a p t T₀ G l)))
+    where
+      less : (w p c : ℕ) → 0 < w → w + p ≡ c → p < c
+      less w p c h f = omega arith
+
+      back : (w p c : ℕ) → w + p ≡ c → c - p ≡ w
+      back w p c f = omega arith
+
+pub merged-bits : (a p b c t : ℕ) → 0 < t → Framed a p b c t → (s u v : Bool) (w r : ℕ) → Merging (unlike s u) p c v w → 0 < w
+    → ((m : ℕ) → Stands m w t → r ≡ toBits binary64 (rounding 1198 (unlike s v) m)) → r ≡ toBits binary64 (summing 1198 s a u b)
+merged-bits a p b c t H F true true false w r M h k = like-bits a p b c t H F true true w r refl (M .1) k
+merged-bits a p b c t H F false false false w r M h k = like-bits a p b c t H F false false w r refl (M .1) k
+merged-bits a p b c t H F true true true w r M h k = absurd (subst T (M .0) tt)
+merged-bits a p b c t H F false false true w r M h k = absurd (subst T (M .0) tt)
+merged-bits a p b c t H F true false false w r M h k = over-bits a p b c t H F true false w r refl (M .0) (M .1) k
+merged-bits a p b c t H F false true false w r M h k = over-bits a p b c t H F false true w r refl (M .0) (M .1) k
+merged-bits a p b c t H F true false true w r M h k = under-bits a p b c t H F true false w r refl h M k
+merged-bits a p b c t H F false true true w r M h k = under-bits a p b c t H F false true w r refl h M k
+
+some : (w p c : ℕ) → 0 < p → w ≡ p + c → w ≡ 0 → ⊥
+some w p c h e f = omega arith
+
+more : (w p c : ℕ) → c < p → w + c ≡ p → w ≡ 0 → ⊥
+more w p c h e f = omega arith
+
+level : (w p c : ℕ) → w + p ≡ c → w ≡ 0 → p ≡ c
+level w p c e f = omega arith
+
+-- nothing is left only of two equal numbers
+pub merged-none : (p c : ℕ) → 0 < p → (s u v : Bool) (w : ℕ) → Merging (unlike s u) p c v w → w ≡ 0 → (Bool·beq s u ≡ false) × (p ≡ c)
+merged-none p c P true true v w M e = absurd (some w p c P (M .1) e)
+merged-none p c P false false v w M e = absurd (some w p c P (M .1) e)
+merged-none p c P true false false w M e = absurd (more w p c (M .0) (M .1) e)
+merged-none p c P false true false w M e = absurd (more w p c (M .0) (M .1) e)
+merged-none p c P true false true w M e = (refl, level w p c M e)
+merged-none p c P false true true w M e = (refl, level w p c M e)

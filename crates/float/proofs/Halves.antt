@@ -3,6 +3,7 @@ use mathlib.Core.Path.{_≡_, refl, sym, ap, _∙_, subst}
 use Prim.Native.Nat.{ℕ, zero, suc, _+_, _-_, _*_, _/_, _%_, _^_, _≤_, _<_, compare, Ordering, Ordering·lt, Ordering·eq, Ordering·gt}
 use native.Mathlib.Nat.{le-trans, le-of-eq, lt-of-le-of-lt, mul-assoc, mul-comm, mul-right-comm, mul-pos, suc-mul, pow-suc, div-add-mod', div-mul-le-self, div-le-self, mod-lt, mod-eq-of-lt, div-div-eq-div-mul, add-comm}
 use native.Mathlib.Omega.{arith}
+use lib.Pow.{pow-pos}
 use lib.Bits.{bitOr, bitAnd, or-add-and, and-mask}
 use lib.Ieee.{nearest}
 use lib.Ieee.Nearest.{closest}
@@ -125,3 +126,12 @@ room w h H l = go (w / h) (lt-of-le-of-lt (native-le w h H) l)
 
     native-le : (w h : ℕ) → 0 < h → w / h ≤ w
     native-le w h H = div-le-self w h
+
+-- ---- w over 2048: what is left rounds up where it is more than a half, or a half beside an odd quotient
+pub near-53 : (w : ℕ) → w / 2048 + (w % 2048 + w / 2048 % 2 + 1023) / 2048 ≡ closest w 2048
+near-53 w = go (w / 2048) (w % 2048) (compare (w % 2048 * 2) 2048) (cmp (w % 2048 * 2) 2048) (mod-lt w (pow-pos 11))
+  where
+    go : (q r : ℕ) (o : Ordering) → Cmp o (r * 2) 2048 → r < 2048 → q + (r + q % 2 + 1023) / 2048 ≡ nearest q o
+    go q r Ordering·lt h k = omega arith
+    go q r Ordering·eq h k = omega arith
+    go q r Ordering·gt h k = omega arith

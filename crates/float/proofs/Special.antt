@@ -15,8 +15,9 @@ use lib.Ieee.Bits.{is-true, is-false, ofBits-toBits, nanBits-is}
 use lib.Ieee.Exact.{HasValue, round-exact}
 use lib.Ieee.Nearest.{closest}
 use Rattle.float.specs.FusedMultiplyAdd.{times, fusedMultiplyAdd, plainly}
-use Rattle.float.specs.Split.{Plain}
+use Rattle.float.specs.Split.{Normal, Plain}
 use Rattle.float.proofs.Value.{value-scale, value-is, times-value, add-value, fma-value, sum-is}
+use Rattle.float.proofs.Apart.{normal-split}
 
 never : false ≡ true → ⊥
 never e = true≢false (sym e)
@@ -211,6 +212,33 @@ plain-at b h = record {
 pub plain-bits : (x : Float) → T (fits binary64 x) → plainly x ≡ true → Plain (toBits binary64 x)
 plain-bits x f h = plain-at (toBits binary64 x) (ap plainly (ofBits-toBits binary64 x f) ∙ h)
 
+-- ---- numbers that are finite
+pub not-nan : (x : Float) → ne x x ≡ false → T (not (isNan x))
+unfolding isNan ne
+not-nan nan h = absurd (true≢false h)
+not-nan (inf s) h = tt
+not-nan (fin s m e) h = tt
+
+abbrev pub Finite : Float → Type 0
+Finite nan = ⊥
+Finite (inf s) = ⊥
+Finite (fin s m e) = T true
+
+pub plain-finite : (x : Float) → plainly x ≡ true → Finite x
+plain-finite nan h = never h
+plain-finite (inf s) h = never h
+plain-finite (fin s m e) h = tt
+
+value-finite : (x : Float) (s : Bool) (a c : ℕ) → HasValue x s a c → Finite x
+value-finite nan s a c h = h
+value-finite (inf t) s a c h = h
+value-finite (fin t m e) s a c h = tt
+
+pub normal-finite : (x : Float) → T (fits binary64 x) → Normal (toBits binary64 x) → Finite x
+normal-finite x f N =
+    let b = toBits binary64 x in
+    subst Finite (ofBits-toBits binary64 x f) (value-finite (ofBits binary64 b) (leb (2 ^ 63) b) ((2 ^ 52 + b % 2 ^ 52) * 2 ^ (b % 2 ^ 63 / 2 ^ 52 + 51)) (2 ^ 1126) (normal-split b (2 ^ 52 + b % 2 ^ 52) (b % 2 ^ 63 / 2 ^ 52) N refl refl .value))
+
 -- ---- the result is no NaN, and its pattern is read back as it
 odd-no-nan : (d : ℕ) (s : Bool) (q k l : ℕ) → isNan (odd d s q k l) ≡ false
 unfolding odd isNan
@@ -238,14 +266,14 @@ sum-no-nan f s a t b c =
     ∙ cond-no-nan (Bool·beq s t) (round f s (a + b) c) (cond (ltb a b) (round f t (b - a) c) (round f (s && ltb b a) (a - b) c)) (round-no-nan f s (a + b) c)
     (cond-no-nan (ltb a b) (round f t (b - a) c) (round f (s && ltb b a) (a - b) c) (round-no-nan f t (b - a) c) (round-no-nan f (s && ltb b a) (a - b) c))
 
-fma-no-nan : (x y z : Float) → plainly x ≡ true → plainly y ≡ true → plainly z ≡ true → isNan (fusedMultiplyAdd binary64 x y z) ≡ false
+fma-no-nan : (x y z : Float) → Finite x → Finite y → Finite z → isNan (fusedMultiplyAdd binary64 x y z) ≡ false
 unfolding fusedMultiplyAdd times add
-fma-no-nan nan y z a b c = absurd (never a)
-fma-no-nan (inf s) y z a b c = absurd (never a)
-fma-no-nan (fin s m e) nan z a b c = absurd (never b)
-fma-no-nan (fin s m e) (inf t) z a b c = absurd (never b)
-fma-no-nan (fin s m e) (fin t n g) nan a b c = absurd (never c)
-fma-no-nan (fin s m e) (fin t n g) (inf r) a b c = absurd (never c)
+fma-no-nan nan y z a b c = absurd a
+fma-no-nan (inf s) y z a b c = absurd a
+fma-no-nan (fin s m e) nan z a b c = absurd b
+fma-no-nan (fin s m e) (inf t) z a b c = absurd b
+fma-no-nan (fin s m e) (fin t n g) nan a b c = absurd c
+fma-no-nan (fin s m e) (fin t n g) (inf r) a b c = absurd c
 fma-no-nan (fin s m e) (fin t n g) (fin r o k) a b c = sum-no-nan binary64 (unlike s t) (m * n * up (e +ℤ g) * down k) r (o * up k * down (e +ℤ g)) (down (e +ℤ g) * down k)
 
 fma-fits : (x y z : Float) → T (fits binary64 (fusedMultiplyAdd binary64 x y z))
@@ -255,7 +283,7 @@ fma-fits x y z = add-fits binary64 (times x y) z
 pub fma-read : (x y z : Float) (b : ℕ) → b ≡ toBits binary64 (fusedMultiplyAdd binary64 x y z) → ofBits binary64 b ≡ fusedMultiplyAdd binary64 x y z
 fma-read x y z b e = ap (ofBits binary64) e ∙ ofBits-toBits binary64 (fusedMultiplyAdd binary64 x y z) (fma-fits x y z)
 
-pub fma-bits : (x y z : Float) (b : ℕ) → plainly x ≡ true → plainly y ≡ true → plainly z ≡ true → b ≡ toBits binary64 (fusedMultiplyAdd binary64 x y z) → T (not (nanBits binary64 b))
+pub fma-bits : (x y z : Float) (b : ℕ) → Finite x → Finite y → Finite z → b ≡ toBits binary64 (fusedMultiplyAdd binary64 x y z) → T (not (nanBits binary64 b))
 fma-bits x y z b p q r e = subst (λ (v : Bool). T (not v)) (sym (nanBits-is binary64 b ∙ ap isNan (fma-read x y z b e) ∙ fma-no-nan x y z p q r)) tt
 
 -- a number is read back from its own pattern

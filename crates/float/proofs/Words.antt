@@ -2,7 +2,7 @@
 use mathlib.Core.Path.{_≡_, refl, sym, ap, ap₂, _∙_, subst}
 use mathlib.Core.Logic.{_⊎_, inl, inr}
 use Prim.Native.Nat.{ℕ, zero, suc, _+_, _-_, _*_, _/_, _%_, _^_, _≤_, _<_}
-use native.Mathlib.Nat.{le-refl, le-trans, le-of-eq, le-of-lt, lt-of-lt-of-le, lt-of-le-of-lt, lt-irrefl, le-add-right, add-zero, zero-mul, mul-one, one-mul, mul-assoc, mul-comm, mul-right-comm, mul-left-comm, add-mul, mul-pos, mul-le-mul-right, mul-lt-mul-of-pos-right, lt-of-mul-lt-mul-right, mul-add-div-right, mul-add-mod-self-right, mul-div-cancel, mul-mod-left, mod-lt, mod-eq-of-lt, div-lt-iff-lt-mul, div-add-mod', add-assoc}
+use native.Mathlib.Nat.{le-refl, le-trans, le-of-eq, le-of-lt, lt-of-lt-of-le, lt-of-le-of-lt, lt-irrefl, le-add-right, add-zero, zero-mul, mul-one, one-mul, mul-assoc, mul-comm, mul-right-comm, mul-left-comm, add-mul, mul-pos, mul-le-mul-right, mul-lt-mul-of-pos-right, lt-of-mul-lt-mul-right, mul-add-div-right, mul-add-mod-self-right, mul-div-cancel, mul-mod-left, mod-lt, mod-eq-of-lt, div-lt-iff-lt-mul, div-add-mod', div-div-eq-div-mul, pow-succ', add-assoc}
 use native.Mathlib.Omega.{arith}
 use mathlib.Core.Bool.{Bool}
 use lib.Arith.{mod-mul, digits-lt}
@@ -86,6 +86,13 @@ word l h = sym (pow-add 2 (64 - l) l) ∙ ap (λ (z : ℕ). 2 ^ z) (go l h)
 pub leading-none : (hi lo : ℕ) → lo < 2 ^ 64 → Jam (hi * 2 ^ 64 + lo) (jammed hi lo) (2 ^ 64)
 leading-none hi lo L =
     subst (λ (z : ℕ). Jam (hi * 2 ^ 64 + lo) z (2 ^ 64)) (ap₂ jammed (high hi 64 L) (P.low hi 64 L)) (jam-cut (hi * 2 ^ 64 + lo) (2 ^ 64) (pow-pos 64))
+
+-- a word over 2 ^ (64 - l), in two steps
+pub below-top : (lo l : ℕ) → l < 64 → lo / 2 / 2 ^ (63 - l) ≡ lo / 2 ^ (64 - l)
+below-top lo l h = div-div-eq-div-mul lo 2 (2 ^ (63 - l)) ∙ ap (λ (z : ℕ). lo / z) (sym (pow-succ' 2 (63 - l)) ∙ ap (λ (z : ℕ). 2 ^ z) (go l h))
+  where
+    go : (l : ℕ) → l < 64 → suc (63 - l) ≡ 64 - l
+    go l h = omega arith
 
 module _ (hi lo l : ℕ) (L : l ≤ 64) (W : lo < 2 ^ 64) (h : hi * 2 ^ l < 2 ^ 64) where
   pub leading-some : Jam (hi * 2 ^ 64 + lo) (jammed ((hi * 2 ^ l) % 2 ^ 64 + lo / 2 ^ (64 - l)) ((lo * 2 ^ l) % 2 ^ 64)) (2 ^ (64 - l))
@@ -218,3 +225,21 @@ shift-all m d p h D = record {
 
 pub two-words : (hi lo : ℕ) → hi < 2 ^ 64 → lo < 2 ^ 64 → hi * 2 ^ 64 + lo < 2 ^ 128
 two-words hi lo h l = digits-lt h l
+
+-- ---- `shifted_right`: a word and a word of zeros over a, where a * b is 2 ^ 64
+pub shifted-words : (h a b : ℕ) → 0 < a → 0 < b → (h / a * (a * b) + (h * b) % (a * b)) * a ≡ h * (a * b)
+shifted-words h a b A B =
+    ap (λ (z : ℕ). (h / a * (a * b) + z) * a) (moved h 0 a b A B h)
+    ∙ go (h / a) (h % a) a b
+    ∙ ap (λ (z : ℕ). z * (a * b)) (div-add-mod' h a)
+  where
+    go : (q r a b : ℕ) → (q * (a * b) + r * b) * a ≡ (q * a + r) * (a * b)
+    go q r a b = simp (add-mul, mul-assoc, mul-comm)
+
+pub shifted-law : (h d : ℕ) → d < 64 → (h / 2 ^ d * 2 ^ 64 + (h * 2 * 2 ^ (63 - d)) % 2 ^ 64) * 2 ^ d ≡ h * 2 ^ 64
+shifted-law h d D =
+    ap (λ (z : ℕ). (h / 2 ^ d * 2 ^ 64 + z % 2 ^ 64) * 2 ^ d) (mul-assoc h 2 (2 ^ (63 - d)) ∙ ap (λ (z : ℕ). h * z) (sym (pow-succ' 2 (63 - d)) ∙ ap (λ (z : ℕ). 2 ^ z) (go d D)))
+    ∙ subst (λ (z : ℕ). (h / 2 ^ d * z + (h * 2 ^ (64 - d)) % z) * 2 ^ d ≡ h * z) (word' d (le-of-lt D)) (shifted-words h (2 ^ d) (2 ^ (64 - d)) (pow-pos d) (pow-pos (64 - d)))
+  where
+    go : (d : ℕ) → d < 64 → suc (63 - d) ≡ 64 - d
+    go d h = omega arith

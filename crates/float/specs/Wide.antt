@@ -2,7 +2,7 @@
 use Prim.Native.Nat.{ℕ, _+_, _*_, _%_, _^_, _≤_, _<_}
 use mathlib.Core.Path.{_≡_}
 use mathlib.Core.Logic.{_⊎_}
-use mathlib.Core.Bool.{Bool}
+use mathlib.Core.Bool.{Bool, true, false}
 use lib.Ieee.{Float, binary64, low, sum}
 use Rattle.float.specs.declared.two_words.Wide.{Wide}
 use Rattle.float.specs.Jam.{Jam}
@@ -36,3 +36,9 @@ pub record Ready (n : ℕ) : Type 0 where
   pub least : 2 ^ 124 ≤ n
   pub most : n < 2 ^ 126
   pub zeros : n % 2 ^ 20 ≡ 0
+
+-- w is a + b; or, apart, how far a is above b or, under, b above a
+abbrev pub Merging : Bool → ℕ → ℕ → Bool → ℕ → Type 0
+Merging false a b u w = (u ≡ false) × (w ≡ a + b)
+Merging true a b false w = (b < a) × (w + b ≡ a)
+Merging true a b true w = w + a ≡ b

@@ -1,17 +1,18 @@
 // The exact product and sum of three numbers, by their patterns.
 ghost use mathlib.Core.Path.{_≡_};
-ghost use Prim.Native.Nat.{ℕ, _+_, _*_, _^_, _<_};
+ghost use Prim.Native.Nat.{ℕ, _+_, _*_, _/_, _%_, _^_, _<_};
 ghost use lib.Dec.{leb};
 ghost use lib.Ieee.{binary64, toBits, ofBits};
 ghost use Rattle.float.specs.FusedMultiplyAdd.{fusedMultiplyAdd, plainly};
-ghost use Rattle.float.specs.Split.{Plain, Split};
+ghost use mathlib.Core.Bool.{true};
+ghost use Rattle.float.specs.Split.{Normal, Near, Plain, Split};
 ghost use Rattle.float.specs.Wide.{Framed, summing, Ready};
 use crate::packing::normalised;
+use crate::two_words::merged;
 use crate::two_words::shift_right_jam;
-use crate::two_words::wide_add;
-use crate::two_words::wide_lt;
+use crate::two_words::shifted_right;
+use crate::two_words::wide_is_zero;
 use crate::two_words::wide_mul;
-use crate::two_words::wide_sub;
 
 // The pattern of ±a / 2^2272 + ±b / 2^2272, rounded once, where the two numbers stand for a / 2^e and b / 2^e.
 fn signed_sum(np: bool, ph: u64, pl: u64, nc: bool, ch: u64, cl: u64, e: u64) -> u64
@@ -19,17 +20,11 @@ fn signed_sum(np: bool, ph: u64, pl: u64, nc: bool, ch: u64, cl: u64, e: u64) ->
     ensures { λ r. ⌜ ((a b : ℕ) → Framed a (ph * 2 ^ 64 + pl) b (ch * 2 ^ 64 + cl) (2 ^ e)
         → r ≡ toBits binary64 (summing 1198 np a nc b)) ⌝ }
 {
-    if np == nc {
-        let s = wide_add(ph, pl, ch, cl);
-        normalised(np, s.hi, s.lo, e)
-    } else if wide_lt(ch, cl, ph, pl) {
-        let s = wide_sub(ph, pl, ch, cl);
-        normalised(np, s.hi, s.lo, e)
-    } else if wide_lt(ph, pl, ch, cl) {
-        let s = wide_sub(ch, cl, ph, pl);
-        normalised(nc, s.hi, s.lo, e)
-    } else {
+    let s = merged(np != nc, ph, pl, ch, cl);
+    if wide_is_zero(s.hi, s.lo) {
         0
+    } else {
+        normalised(np != s.under, s.hi, s.lo, e)
     }
 }
 
@@ -89,6 +84,64 @@ pub(crate) fn fused(a: u64, b: u64, c: u64) -> u64
     let sc = c >= 0x8000_0000_0000_0000;
     let p = wide_mul(x.m * 1024, y.m * 1024);
     aligned_sum(sa != sb, p.hi, p.lo, x.e + y.e, sc, z.m * 512, z.e + 1073)
+}
+
+// The exponent's field of a pattern.
+fn field(n: u64) -> u64
+    ensures { λ r. ⌜ r ≡ n % 2 ^ 63 / 2 ^ 52 ⌝ }
+{
+    n % 0x8000_0000_0000_0000 / 0x10_0000_0000_0000
+}
+
+// The 53 digits of a normal number, by its pattern.
+fn significand(n: u64) -> u64
+    ensures { λ r. ⌜ r ≡ 2 ^ 52 + n % 2 ^ 52 ⌝ }
+{
+    0x10_0000_0000_0000 + n % 0x10_0000_0000_0000
+}
+
+// Whether a pattern is a normal number's.
+fn is_normal(n: u64) -> bool
+    ensures { λ r. ⌜ (r ≡ true → Normal n) ⌝ }
+{
+    let x = field(n);
+    if x == 0 { false } else { x < 2047 }
+}
+
+// Whether three normal numbers have all the digits of a * b and c within two words.
+pub(crate) fn are_near(a: u64, b: u64, c: u64) -> bool
+    ensures { λ r. ⌜ (r ≡ true → Near a b c) ⌝ }
+{
+    if !is_normal(a) {
+        return false;
+    }
+    if !is_normal(b) {
+        return false;
+    }
+    if !is_normal(c) {
+        return false;
+    }
+    let p = field(a) + field(b);
+    let q = field(c) + 1002;
+    if p < q {
+        return false;
+    }
+    p - q < 64
+}
+
+// The same for three numbers that are near: no digit is cut off before the sum is rounded.
+pub(crate) fn fused_near(a: u64, b: u64, c: u64) -> u64
+    requires { ⌜ Near a b c ⌝ }
+    ensures { λ r. ⌜ r ≡ toBits binary64 (fusedMultiplyAdd binary64 (ofBits binary64 a) (ofBits binary64 b) (ofBits binary64 c)) ⌝ }
+{
+    let e = field(a) + field(b);
+    let d = e - (field(c) + 1002);
+    let p = wide_mul(significand(a), significand(b));
+    let w = shifted_right(significand(c) * 512, d);
+    let sa = a >= 0x8000_0000_0000_0000;
+    let sb = b >= 0x8000_0000_0000_0000;
+    let sc = c >= 0x8000_0000_0000_0000;
+    signed_sum(sa != sb, p.hi, p.lo, sc, w.hi, w.lo, e + 122)
 }
 
 // Whether x is finite and not a zero.

@@ -8,11 +8,13 @@ mod fusing;
 mod packing;
 mod two_words;
 
+use fusing::are_near;
 use fusing::fused;
+use fusing::fused_near;
 use fusing::is_plain;
 
-// a * b + c, rounded once: IEEE 754-2019's fusedMultiplyAdd, to the nearest, a tie to the even one.
-pub fn mul_add(a: f64, b: f64, c: f64) -> f64
+// The same as `mul_add`, by cases that hold for every input.
+fn mul_add_any(a: f64, b: f64, c: f64) -> f64
     ensures { λ r. ⌜ r ≡ fusedMultiplyAdd binary64 a b c ⌝ }
 {
     // The product of a NaN, an infinity or a zero is exact.
@@ -28,6 +30,23 @@ pub fn mul_add(a: f64, b: f64, c: f64) -> f64
     }
     // To a zero the product is added, rounded; an infinity and a NaN stay.
     if c == 0.0 { a * b } else { c }
+}
+
+// a * b + c, rounded once: IEEE 754-2019's fusedMultiplyAdd, to the nearest, a tie to the even one.
+pub fn mul_add(a: f64, b: f64, c: f64) -> f64
+    ensures { λ r. ⌜ r ≡ fusedMultiplyAdd binary64 a b c ⌝ }
+{
+    // A NaN has no pattern.
+    if a != a || b != b || c != c {
+        return mul_add_any(a, b, c);
+    }
+    let x = f64::to_bits(a);
+    let y = f64::to_bits(b);
+    let z = f64::to_bits(c);
+    if are_near(x, y, z) {
+        return f64::from_bits(fused_near(x, y, z));
+    }
+    mul_add_any(a, b, c)
 }
 
 // |x|.

@@ -26,6 +26,14 @@ fn nearest_even(w: u64, d: u64) -> u64
     }
 }
 
+// w / 2^11 to the nearest, a tie to the even one.
+fn nearest_even_53(w: u64) -> u64
+    ensures { λ r. ⌜ r ≡ closest w (2 ^ 11) ⌝ }
+{
+    let q = w / 2048;
+    q + (w % 2048 + q % 2 + 1023) / 2048
+}
+
 // The pattern of q * 2^k units of 2^-1074, without its sign: an infinity's where that is too large.
 fn magnitude(q: u64, k: u64) -> u64
     requires { ⌜ q ≤ 2 ^ 53 ⌝ }
@@ -57,7 +65,7 @@ fn rounded(neg: bool, w: u64, x: u64) -> u64
     } else if x < 1251 {
         pattern(neg, nearest_even(w, 1262 - x), 0)
     } else {
-        pattern(neg, nearest_even(w, 11), x - 1251)
+        pattern(neg, nearest_even_53(w), x - 1251)
     }
 }
 

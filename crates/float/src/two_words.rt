@@ -1,9 +1,10 @@
 // Numbers of two 64-bit words.
 ghost use mathlib.Core.Path.{_≡_};
 ghost use Prim.Native.Nat.{_+_, _-_, _*_, _^_, _≤_, _<_};
-ghost use lib.Dec.{ltb};
+ghost use mathlib.Core.Bool.{cond};
+ghost use lib.Dec.{eqb};
 ghost use Rattle.float.specs.Jam.{Jam, jammed};
-ghost use Rattle.float.specs.Wide.{wide};
+ghost use Rattle.float.specs.Wide.{wide, Merging};
 
 // The number hi * 2^64 + lo.
 pub(crate) struct Wide {
@@ -23,11 +24,7 @@ pub(crate) fn leading(hi: u64, lo: u64, l: u64) -> u64
     requires { ⌜ (l < 64) × (hi * 2 ^ l < 2 ^ 64) ⌝ }
     ensures { λ r. ⌜ Jam (hi * 2 ^ 64 + lo) r (2 ^ (64 - l)) × (hi * 2 ^ l ≤ r) ⌝ }
 {
-    if l == 0 {
-        sticky(hi, lo)
-    } else {
-        sticky((hi << l) + (lo >> (64 - l)), lo << l)
-    }
+    sticky((hi << l) + (lo / 2 >> (63 - l)), lo << l)
 }
 
 // (hi * 2^64 + lo) / 2^d for a d below 64, with what is cut off marked in the lowest bit.
@@ -60,46 +57,70 @@ pub(crate) fn shift_right_jam(hi: u64, lo: u64, d: u64) -> Wide
     }
 }
 
-// Whether a < b.
-pub(crate) fn wide_lt(ah: u64, al: u64, bh: u64, bl: u64) -> bool
-    ensures { λ r. ⌜ r ≡ ltb (ah * 2 ^ 64 + al) (bh * 2 ^ 64 + bl) ⌝ }
+// h * 2^64 / 2^d, where nothing is cut off.
+pub(crate) fn shifted_right(h: u64, d: u64) -> Wide
+    requires { ⌜ (h < 2 ^ 62) × (d < 64) ⌝ }
+    ensures { λ r. ⌜ wide r * 2 ^ d ≡ h * 2 ^ 64 ⌝ }
 {
-    if ah == bh { al < bl } else { ah < bh }
-}
-
-// a + b.
-pub(crate) fn wide_add(ah: u64, al: u64, bh: u64, bl: u64) -> Wide
-    requires { ⌜ (ah < 2 ^ 62) × (bh < 2 ^ 62) ⌝ }
-    ensures { λ r. ⌜ wide r ≡ ah * 2 ^ 64 + al + (bh * 2 ^ 64 + bl) ⌝ }
-{
-    if bl <= 0xffff_ffff_ffff_ffff - al {
-        Wide {
-            hi: ah + bh,
-            lo: al + bl,
-        }
-    } else {
-        Wide {
-            hi: ah + bh + 1,
-            lo: al - (0xffff_ffff_ffff_ffff - bl) - 1,
-        }
+    Wide {
+        hi: h >> d,
+        lo: (h * 2) << (63 - d),
     }
 }
 
-// a - b.
-pub(crate) fn wide_sub(ah: u64, al: u64, bh: u64, bl: u64) -> Wide
-    requires { ⌜ bh * 2 ^ 64 + bl ≤ ah * 2 ^ 64 + al ⌝ }
-    ensures { λ r. ⌜ wide r ≡ ah * 2 ^ 64 + al - (bh * 2 ^ 64 + bl) ⌝ }
+// a + b: the upper word is the carry.
+fn carried(a: u64, b: u64) -> Wide
+    ensures { λ r. ⌜ wide r ≡ a + b ⌝ }
 {
-    if bl <= al {
-        Wide {
-            hi: ah - bh,
-            lo: al - bl,
-        }
-    } else {
-        Wide {
-            hi: ah - bh - 1,
-            lo: al + (0xffff_ffff_ffff_ffff - bl) + 1,
-        }
+    let s = std::num::wrapping_add_u64(a, b);
+    Wide {
+        hi: if s < a { 1 } else { 0 },
+        lo: s,
+    }
+}
+
+// Every bit of x turned round, where n.
+fn flipped(n: bool, x: u64) -> u64
+    ensures { λ r. ⌜ r ≡ cond n (0xffff_ffff_ffff_ffff - x) x ⌝ }
+{
+    if n { 0xffff_ffff_ffff_ffff - x } else { x }
+}
+
+// Whether hi * 2^64 + lo is 0.
+pub(crate) fn wide_is_zero(hi: u64, lo: u64) -> bool
+    ensures { λ r. ⌜ r ≡ eqb (hi * 2 ^ 64 + lo) 0 ⌝ }
+{
+    if hi == 0 { lo == 0 } else { false }
+}
+
+// What `merged` lacks where b was turned round and the sum was not.
+fn missing(apart: bool, under: bool) -> u64
+    ensures { λ r. ⌜ r ≡ cond apart (cond under 0 1) 0 ⌝ }
+{
+    if apart { if under { 0 } else { 1 } } else { 0 }
+}
+
+// A number of two words, and whether it was taken the other way round.
+pub(crate) struct Side {
+    pub under: bool,
+    pub hi: u64,
+    pub lo: u64,
+}
+
+// a + b; or how far apart a and b are, and whether a is not above b. a + (-1 - b) turns round at its highest bit; where it
+// does not, 1 is missing.
+pub(crate) fn merged(apart: bool, ah: u64, al: u64, bh: u64, bl: u64) -> Side
+    requires { ⌜ (ah < 2 ^ 62) × (bh < 2 ^ 62) ⌝ }
+    ensures { λ r. ⌜ Merging apart (ah * 2 ^ 64 + al) (bh * 2 ^ 64 + bl) (r .under) (r .hi * 2 ^ 64 + r .lo) ⌝ }
+{
+    let s = carried(al, flipped(apart, bl));
+    let t = carried(ah + s.hi, flipped(apart, bh));
+    let under = t.lo >= 0x8000_0000_0000_0000;
+    let w = carried(flipped(under, s.lo), missing(apart, under));
+    Side {
+        under: under,
+        hi: flipped(under, t.lo) + w.hi,
+        lo: w.lo,
     }
 }
 

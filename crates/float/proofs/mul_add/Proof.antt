@@ -1,12 +1,11 @@
 -- `mul_add` meets its contract. Assumes nothing.
-use mathlib.Core.Path.{_≡_, sym, ap, _∙_, subst}
-use mathlib.Core.Bool.{Bool, true, false, not}
+use mathlib.Core.Path.{_≡_, sym, _∙_, subst}
 use borrow.Author.Needs.{needs}
-use borrow.Author.Tests.{not-true, not-false}
 use lib.Dec.{T}
-use lib.Ieee.{Float, binary64, eq, fits, toBits, ofBits}
-use Rattle.float.specs.FusedMultiplyAdd.{fusedMultiplyAdd, plainly}
-use Rattle.float.proofs.Special.{zero-is, special-left, special-right, zero-third, other-third, plain-no-nan, plain-bits, fma-read, fma-bits, own}
+use lib.Ieee.{binary64, fits, toBits}
+use Rattle.float.specs.FusedMultiplyAdd.{fusedMultiplyAdd}
+use Rattle.float.specs.Split.{Near}
+use Rattle.float.proofs.Special.{not-nan, normal-finite, fma-read, fma-bits, own}
 use Rattle.float.proofs.mul_add.Statement.{statement}
 use Rattle.float.proofs.mul_add.Tie as tie
 
@@ -20,90 +19,62 @@ held-b c = subst T (sym (c .good .1 .0 .1)) tt
 held-c : (c : tie.Start) → T (fits binary64 (c .args .c))
 held-c c = subst T (sym (c .good .1 .1 .0 .1)) tt
 
--- what the tests say
-plain-a : (c : tie.Else1) → plainly (c .before .before .args .a) ≡ true
-plain-a c = sym (c .before .is-plain .ensures) ∙ not-false (c .before .is-plain .result) (c .if1 .left)
+-- what the test says
+near : (c : tie.Then4) → Near (toBits binary64 (c .before .before .before .before .before .args .a)) (toBits binary64 (c .before .before .before .before .before .args .b)) (toBits binary64 (c .before .before .before .before .before .args .c))
+near c = c .before .are-near .ensures (c .if4 .taken)
 
-plain-b : (c : tie.Else2) → plainly (c .before .before .before .before .args .b) ≡ true
-plain-b c = sym (c .before .is-plain2 .ensures) ∙ not-false (c .before .is-plain2 .result) (c .if2 .left)
+-- what `fused_near` gives
+bits : (c : tie.After-fused-near) → c .fused-near .result ≡ toBits binary64 (fusedMultiplyAdd binary64 (c .before .before .before .before .before .before .args .a) (c .before .before .before .before .before .before .args .b) (c .before .before .before .before .before .before .args .c))
+bits c = let s = c .before .before .before .before .before .before in c .fused-near .ensures ∙ own (s .args .a) (s .args .b) (s .args .c) (held-a s) (held-b s) (held-c s)
 
-plain-c : (c : tie.Then3) → plainly (c .before .before .before .before .before .before .args .c) ≡ true
-plain-c c = sym (c .before .is-plain3 .ensures) ∙ c .if3 .taken
-
-other-c : (c : tie.Else3) → plainly (c .before .before .before .before .before .before .args .c) ≡ false
-other-c c = sym (c .before .is-plain3 .ensures) ∙ c .if3 .left
-
-is-plain-requires : tie.Need-is-plain-requires
-is-plain-requires c κs = search needs
+mul-add-any-requires : tie.Need-mul-add-any-requires
+mul-add-any-requires c κs = search needs
 
 returns : tie.Need-returns
-returns c = let a = c .before .before .args in special-left (a .a) (a .b) (a .c) (sym (c .before .is-plain .ensures) ∙ not-true (c .before .is-plain .result) (c .if1 .taken))
+returns c = search needs
 
-is-plain-requires-2 : tie.Need-is-plain-requires-2
-is-plain-requires-2 c κs = search needs
+float-to-bits-x : tie.Need-float-to-bits-x
+float-to-bits-x c = not-nan (c .before .before .before .args .a) (c .before .before .if1 .left)
 
-returns-2 : tie.Need-returns-2
-returns-2 c = let a = c .before .before .before .before .args in special-right (a .a) (a .b) (a .c) (sym (c .before .is-plain2 .ensures) ∙ not-true (c .before .is-plain2 .result) (c .if2 .taken))
+float-to-bits-y : tie.Need-float-to-bits-y
+float-to-bits-y c = not-nan (c .before .before .before .args .b) (c .before .if2 .left)
 
-is-plain-requires-3 : tie.Need-is-plain-requires-3
-is-plain-requires-3 c κs = search needs
+float-to-bits-z : tie.Need-float-to-bits-z
+float-to-bits-z c = not-nan (c .before .before .before .args .c) (c .if3 .left)
 
-float-to-bits-fused : tie.Need-float-to-bits-fused
-float-to-bits-fused c = plain-no-nan (c .before .before .before .before .before .before .args .a) (plain-a (c .before .before .before .before))
+are-near-requires : tie.Need-are-near-requires
+are-near-requires c κs = search needs
 
-float-to-bits-fused-2 : tie.Need-float-to-bits-fused-2
-float-to-bits-fused-2 c = plain-no-nan (c .before .before .before .before .before .before .args .b) (plain-b (c .before .before))
-
-float-to-bits-fused-3 : tie.Need-float-to-bits-fused-3
-float-to-bits-fused-3 c = plain-no-nan (c .before .before .before .before .before .before .args .c) (plain-c c)
-
-fused-requires : tie.Need-fused-requires
-fused-requires c κs =
-    let s = c .before .before .before .before .before .before in (
-      plain-bits (s .args .a) (held-a s) (plain-a (c .before .before .before .before)),
-      plain-bits (s .args .b) (held-b s) (plain-b (c .before .before)),
-      plain-bits (s .args .c) (held-c s) (plain-c c),
-    )
-
--- what `fused` gives
-bits : (c : tie.After-fused)
-    → c .fused .result ≡ toBits binary64 (fusedMultiplyAdd binary64 (c .before .before .before .before .before .before .before .args .a) (c .before .before .before .before .before .before .before .args .b) (c .before .before .before .before .before .before .before .args .c))
-bits c =
-    let s = c .before .before .before .before .before .before .before in
-    c .fused .ensures ∙ own (s .args .a) (s .args .b) (s .args .c) (held-a s) (held-b s) (held-c s)
+fused-near-requires : tie.Need-fused-near-requires
+fused-near-requires c κs = near c
 
 float-from-bits-result : tie.Need-float-from-bits-result
 float-from-bits-result c =
-    let a = c .before .before .before .before .before .before .before .args in
-    fma-bits (a .a) (a .b) (a .c) (c .fused .result) (plain-a (c .before .before .before .before .before)) (plain-b (c .before .before .before)) (plain-c (c .before)) (bits c)
+    let s = c .before .before .before .before .before .before in
+    let n = near (c .before) in
+    fma-bits (s .args .a) (s .args .b) (s .args .c) (c .fused-near .result) (normal-finite (s .args .a) (held-a s) (n .first)) (normal-finite (s .args .b) (held-b s) (n .second)) (normal-finite (s .args .c) (held-c s) (n .third)) (bits c)
+
+returns-2 : tie.Need-returns-2
+returns-2 c = let a = c .before .before .before .before .before .before .args in fma-read (a .a) (a .b) (a .c) (c .fused-near .result) (bits c)
+
+mul-add-any-requires-2 : tie.Need-mul-add-any-requires-2
+mul-add-any-requires-2 c κs = search needs
 
 returns-3 : tie.Need-returns-3
-returns-3 c = let a = c .before .before .before .before .before .before .before .args in fma-read (a .a) (a .b) (a .c) (c .fused .result) (bits c)
-
-returns-4 : tie.Need-returns-4
-returns-4 c =
-    let a = c .before .before .before .before .before .before .before .args in
-    zero-third (a .a) (a .b) (a .c) (plain-a (c .before .before .before .before .before)) (plain-b (c .before .before .before)) (other-c (c .before)) (ap (eq (a .c)) (sym zero-is) ∙ c .if4 .taken)
-
-returns-5 : tie.Need-returns-5
-returns-5 c =
-    let a = c .before .before .before .before .before .before .before .args in
-    other-third (a .a) (a .b) (a .c) (plain-a (c .before .before .before .before .before)) (plain-b (c .before .before .before)) (other-c (c .before)) (ap (eq (a .c)) (sym zero-is) ∙ c .if4 .left)
+returns-3 c = search needs
 
 pub mul-add-spec : {M : Type 1} → statement M
 mul-add-spec =
     tie.close
     (tie.spec
-    is-plain-requires
+    mul-add-any-requires
     returns
-    is-plain-requires-2
-    returns-2
-    is-plain-requires-3
-    float-to-bits-fused
-    float-to-bits-fused-2
-    float-to-bits-fused-3
-    fused-requires
+    float-to-bits-x
+    float-to-bits-y
+    float-to-bits-z
+    are-near-requires
+    fused-near-requires
     float-from-bits-result
-    returns-3
-    returns-4
-    returns-5)
+    returns-2
+    mul-add-any-requires-2
+    returns-3)

@@ -23,14 +23,14 @@ pattern-requires-2 c κs =
     let a = c .before .before .before in
     (subst (λ (z : ℕ). z ≤ 2 ^ 53) (sym (c .nearest-even .ensures)) (closest-le (a .args .w) (1262 - a .args .x) (a .fits .w .fits) (omega arith)), inl refl)
 
-nearest-even-requires-2 : tie.Need-nearest-even-requires-2
-nearest-even-requires-2 c κs = search needs
+nearest-even-53-requires : tie.Need-nearest-even-53-requires
+nearest-even-53-requires c κs = search needs
 
 pattern-requires-3 : tie.Need-pattern-requires-3
 pattern-requires-3 c κs =
     let a = c .before .before .before in (
-      subst (λ (z : ℕ). z ≤ 2 ^ 53) (sym (c .nearest-even2 .ensures)) (closest-le (a .args .w) 11 (a .fits .w .fits) (omega arith)),
-      inr (subst (λ (z : ℕ). 2 ^ 52 ≤ z) (sym (c .nearest-even2 .ensures)) (closest-ge (a .args .w) (a .pre .0))),
+      subst (λ (z : ℕ). z ≤ 2 ^ 53) (sym (c .nearest-even-53 .ensures)) (closest-le (a .args .w) 11 (a .fits .w .fits) (omega arith)),
+      inr (subst (λ (z : ℕ). 2 ^ 52 ≤ z) (sym (c .nearest-even-53 .ensures)) (closest-ge (a .args .w) (a .pre .0))),
     )
 
 returns : tie.Need-returns
@@ -49,7 +49,7 @@ returns-3 : tie.Need-returns-3
 returns-3 c m j =
     let a = c .before .before .before .before in
     c .pattern3 .ensures
-    ∙ ap (λ (z : ℕ). toBits binary64 (units binary64 (a .args .neg) z (a .args .x - 1251))) (c .before .nearest-even2 .ensures)
+    ∙ ap (λ (z : ℕ). toBits binary64 (units binary64 (a .args .neg) z (a .args .x - 1251))) (c .before .nearest-even-53 .ensures)
     ∙ ap (toBits binary64) (sym (at-normal (a .args .neg) m (a .args .w) (a .args .x) j (a .pre .0) (a .fits .w .fits) (c .before .before .if2 .left)))
 
 pub rounded-spec : {M : Type 1} → statement M
@@ -60,7 +60,7 @@ rounded-spec =
     sub-nearest-even
     nearest-even-requires
     pattern-requires-2
-    nearest-even-requires-2
+    nearest-even-53-requires
     pattern-requires-3
     returns
     returns-2
