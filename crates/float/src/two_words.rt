@@ -124,7 +124,8 @@ pub(crate) fn merged(apart: bool, ah: u64, al: u64, bh: u64, bl: u64) -> Side
     }
 }
 
-// u * v, from products of 32-bit halves, column by column.
+// u * v, from products of 32-bit halves: the upper word column by column, the lower one without its carries. The compiler makes
+// one multiplication of it.
 pub(crate) fn wide_mul(u: u64, v: u64) -> Wide
     ensures { λ r. ⌜ wide r ≡ u * v ⌝ }
 {
@@ -133,9 +134,11 @@ pub(crate) fn wide_mul(u: u64, v: u64) -> Wide
     let v0 = v % 0x1_0000_0000;
     let v1 = v / 0x1_0000_0000;
     let w0 = u0 * v0;
-    let t = u1 * v0 + w0 / 0x1_0000_0000;
-    let w1 = t % 0x1_0000_0000 + u0 * v1;
+    let x = u1 * v0;
+    let y = u0 * v1;
+    let t = x + w0 / 0x1_0000_0000;
+    let w1 = t % 0x1_0000_0000 + y;
     let hi = u1 * v1 + t / 0x1_0000_0000 + w1 / 0x1_0000_0000;
-    let lo = w1 % 0x1_0000_0000 * 0x1_0000_0000 + w0 % 0x1_0000_0000;
+    let lo = std::num::wrapping_add_u64(std::num::wrapping_add_u64(x, y) << 32, w0);
     Wide { hi: hi, lo: lo }
 }
