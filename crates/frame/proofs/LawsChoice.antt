@@ -14,13 +14,16 @@ use mir.Syntax.{w16}
 use mir.Val.{SFits}
 use Rattle.frame.specs.declared.History.{History}
 use Rattle.frame.specs.declared.search.Candidate.{Candidate}
+use Rattle.frame.specs.declared.search.Trial.{Trial}
 use Rattle.frame.specs.declared.choice.Best.{Best}
-use Rattle.frame.specs.Pass.{passOf}
+use Rattle.frame.specs.Pass.{Bounded, passOf}
 use Rattle.frame.specs.Search.{finished, tryCoefficients}
 use Rattle.frame.specs.Choice.{c0At, c1At, candidateAt, winner, passesOf, bestOf}
 use Rattle.frame.specs.Frame.{InNibble}
-use Rattle.frame.proofs.LawsPass.{pass-nibble}
-use Rattle.frame.proofs.LawsSearch.{Shape, try-shape}
+use Rattle.frame.specs.Lanes.{trialOf}
+use Rattle.frame.proofs.LawsArrays.{Fit}
+use Rattle.frame.proofs.LawsPass.{FitHistory, pass-nibble}
+use Rattle.frame.proofs.LawsSearch.{Shape, try-shape, Found, try-found}
 
 abbrev pub best : Candidate → ℕ → ℕ → Best
 best c i n = record { candidate = c; index = i; passes = n }
@@ -29,6 +32,10 @@ module _ (h : History) (xs : List ℤ) (cs : List ℤ) where
   pub candidate-shape : (i : ℕ) → Shape (c0At cs i) (c1At cs i) h xs 0 13 (candidateAt h xs cs i)
   unfolding candidateAt
   candidate-shape i = try-shape (c0At cs i) (c1At cs i) h xs
+
+  pub candidate-found : (i : ℕ) → Bounded (c0At cs i) (c1At cs i) → FitHistory h → Fit 14 xs → Found (c0At cs i) (c1At cs i) h xs (candidateAt h xs cs i)
+  unfolding candidateAt
+  candidate-found i b f x = try-found (c0At cs i) (c1At cs i) h xs b f x
 
   pub candidate-nibble : (i j : ℕ) → j < 14 → InNibble (getD (candidateAt h xs cs i .nibbles) j (pos 0))
   unfolding finished
@@ -132,3 +139,20 @@ module _ (h : History) (xs : List ℤ) (cs : List ℤ) where
 
     pub best-left : b .distance ≤ c .distance → best b j (n + c .passes) ≡ bestOf h xs cs ((i + 1) - 1)
     best-left m = left (i - 1) b c j n e (f ∙ ap (candidateAt h xs cs) here) m ∙ ap (bestOf h xs cs) there
+
+  -- the same of trials
+  module _ (i : ℕ) (t b : Trial) (j n : ℕ) (l : 1 ≤ i) (f : t ≡ trialOf (candidateAt h xs cs i)) (g : b ≡ trialOf (candidateAt h xs cs j)) (e : best (candidateAt h xs cs j) j n ≡ bestOf h xs cs (i - 1)) where
+    far : t .distance ≡ distanceAt i
+    far = ap (λ (w : Trial). w .distance) f
+
+    near : b .distance ≡ distanceAt j
+    near = ap (λ (w : Trial). w .distance) g
+
+    count : t .passes ≡ candidateAt h xs cs i .passes
+    count = ap (λ (w : Trial). w .passes) f
+
+    pub trial-taken : t .distance < b .distance → best (candidateAt h xs cs i) i (n + t .passes) ≡ bestOf h xs cs ((i + 1) - 1)
+    trial-taken m = ap (λ (k : ℕ). best (candidateAt h xs cs i) i (n + k)) count ∙ best-taken i (candidateAt h xs cs j) (candidateAt h xs cs i) j n l e refl (omega (arith, far, near))
+
+    pub trial-left : b .distance ≤ t .distance → best (candidateAt h xs cs j) j (n + t .passes) ≡ bestOf h xs cs ((i + 1) - 1)
+    trial-left m = ap (λ (k : ℕ). best (candidateAt h xs cs j) j (n + k)) count ∙ best-left i (candidateAt h xs cs j) (candidateAt h xs cs i) j n l e refl (omega (arith, far, near))

@@ -13,9 +13,11 @@ use borrow.Author.Tests.{eqb-true, eqb-false, leb-true, lt-ltb, le-ltb}
 use Rattle.frame.specs.declared.History.{History}
 use Rattle.frame.specs.declared.search.Candidate.{Candidate}
 use Rattle.frame.specs.declared.pass.Pass.{Pass}
+use Rattle.frame.specs.declared.search.Trial.{Trial}
 use Rattle.frame.specs.Estimate.{firstExponent}
 use Rattle.frame.specs.Pass.{Bounded, passOf}
 use Rattle.frame.specs.Search.{raisedWithin, raised, ends, finished, searchWithin, tryCoefficients}
+use Rattle.frame.specs.Lanes.{trialOf}
 use Rattle.frame.proofs.LawsArrays.{Fit}
 use Rattle.frame.proofs.LawsEstimate.{first-le}
 use Rattle.frame.proofs.LawsPass.{FitHistory, overflow-le, overflow-12}
@@ -219,3 +221,15 @@ module _ (c0 c1 : ℤ) (h : History) (xs : List ℤ) (b : Bounded c0 c1) (f : Fi
   pub try-bound : (j : ℕ) → searchWithin (13 + j) c0 c1 h xs (firstExponent c0 c1 h xs) 0 ≡ tryCoefficients c0 c1 h xs
   unfolding tryCoefficients
   try-bound j = search-bound j 13 (firstExponent c0 c1 h xs) 0 (omega (arith, first-le c0 c1 h xs)) (omega arith)
+
+-- ---- a candidate from its trial and one more pass
+
+pub again : (c0 c1 : ℤ) (h : History) (xs : List ℤ) (c : Candidate) → Found c0 c1 h xs c → (t : Pass) (b : Trial) → b ≡ trialOf c → t ≡ passOf c0 c1 h xs (b .exponent) → _≡_ {A = Candidate} (record { nibbles = t .nibbles; samples = t .samples; distance = b .distance; exponent = b .exponent; passes = b .passes }) c
+unfolding finished
+again c0 c1 h xs c f t b e g =
+    let p = passOf c0 c1 h xs (c .exponent) in
+    let k : t ≡ p = g ∙ ap (λ (w : Trial). passOf c0 c1 h xs (w .exponent)) e in
+    ap (λ (w : Pass). made w b) k ∙ ap (made p) e ∙ ap (λ (d : ℕ). finished (record { nibbles = p .nibbles; samples = p .samples; overflow = p .overflow; distance = d }) (c .exponent) (c .passes)) (ap (λ (w : Candidate). w .distance) (f .is)) ∙ sym (f .is)
+  where
+    made : Pass → Trial → Candidate
+    made w v = record { nibbles = w .nibbles; samples = w .samples; distance = v .distance; exponent = v .exponent; passes = v .passes }

@@ -12,3 +12,5 @@ pub mod LawsDistance
 pub mod LawsFloat
 pub mod LawsNearHalf
 pub mod LawsUnclamped
+pub mod LawsLane
+pub mod LawsLanes

@@ -7,3 +7,4 @@ pub mod Choice
 pub mod Frame
 pub mod Worked
 pub mod Unclamped
+pub mod Lanes

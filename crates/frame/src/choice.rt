@@ -1,9 +1,19 @@
 // The choice among the eight pairs of coefficients.
 ghost use mathlib.Core.Path.{_≡_};
-ghost use Prim.Native.Nat.{_<_};
+ghost use Prim.Native.Nat.{_<_, _≤_, _-_};
 ghost use Rattle.frame.specs.Choice.{AllBounded, candidateAt, bestOf};
+ghost use Rattle.frame.specs.Lanes.{Firsts, LanesTell, Shown, laneAt, seenOf, trialOf};
 use crate::History;
+use crate::estimate::first_exponent;
+use crate::lanes::Lanes;
+use crate::lanes::fresh;
+use crate::lanes::run_lanes;
+use crate::lanes::split;
+use crate::lanes::units_of;
+use crate::pass::run_pass;
 use crate::search::Candidate;
+use crate::search::Seen;
+use crate::search::Trial;
 use crate::search::try_coefficients;
 
 // The best candidate, its index, and the passes of all.
@@ -13,15 +23,128 @@ pub(crate) struct Best {
     pub passes: u32,
 }
 
-// The candidate of pair i.
-fn candidate(history: History, samples: [i16; 14], coefs: [i16; 16], i: usize) -> Candidate
-    requires { ⌜ AllBounded coefs ⌝ }
-    requires { ⌜ i < 8 ⌝ }
-    ensures { λ r. ⌜ r ≡ candidateAt history samples coefs i ⌝ }
+// The first exponent of each pair.
+fn first_exponents(history: History, samples: [i16; 14], coefs: [i16; 16]) -> [u8; 8]
+    ensures { λ r. ⌜ Firsts history samples coefs r ⌝ }
 {
-    let c0 = coefs[2 * i];
-    let c1 = coefs[2 * i + 1];
-    try_coefficients(c0, c1, history, samples)
+    let mut out = [0u8; 8];
+    let mut k: usize = 0;
+    while k < 8 {
+        let c0 = coefs[2 * k];
+        let c1 = coefs[2 * k + 1];
+        out[k] = first_exponent(c0, c1, history, samples);
+        k = k + 1;
+    }
+    out
+}
+
+// The passes of all pairs at their first exponents, raised by `more`.
+fn lanes_at(
+    history: History,
+    samples: [i16; 14],
+    coefs: [i16; 16],
+    firsts: [u8; 8],
+    more: u8,
+) -> Lanes
+    requires { ⌜ AllBounded coefs ⌝ }
+    requires { ⌜ Firsts history samples coefs firsts ⌝ }
+    requires { ⌜ more ≤ 1 ⌝ }
+    ensures { λ r. ⌜ LanesTell history samples coefs more r ⌝ }
+{
+    run_lanes(
+        fresh(history),
+        split(coefs),
+        units_of(firsts, more),
+        samples,
+    )
+}
+
+// m - 7, or 0.
+fn above_seven(m: u64) -> u64
+    ensures { λ r. ⌜ r ≡ m - 7 ⌝ }
+{
+    if m < 7 {
+        return 0;
+    }
+    m - 7
+}
+
+// What lane k tells of its pass at exponent p.
+fn seen(t: Lanes, k: usize, p: u8) -> Seen
+    requires { ⌜ k < 8 ⌝ }
+    requires { ⌜ p ≤ 12 ⌝ }
+    requires { ⌜ Shown (laneAt t k) ⌝ }
+    ensures { λ r. ⌜ r ≡ seenOf (laneAt t k) p ⌝ }
+{
+    let tops = t.top;
+    let highs = t.high;
+    let lows = t.low;
+    let top = tops[k];
+    let high = highs[k];
+    let low = lows[k];
+    Seen {
+        overflow: above_seven((top >> p) as u64),
+        distance: (high as u64) * 65536 + (low as u64),
+        sure: top < 1073741824,
+    }
+}
+
+// The search for pair k.
+fn trial(
+    history: History,
+    samples: [i16; 14],
+    coefs: [i16; 16],
+    firsts: [u8; 8],
+    known: Lanes,
+    next: Lanes,
+    k: usize,
+) -> Trial
+    requires { ⌜ AllBounded coefs ⌝ }
+    requires { ⌜ Firsts history samples coefs firsts ⌝ }
+    requires { ⌜ LanesTell history samples coefs 0 known ⌝ }
+    requires { ⌜ LanesTell history samples coefs 1 next ⌝ }
+    requires { ⌜ k < 8 ⌝ }
+    ensures { λ r. ⌜ r ≡ trialOf (candidateAt history samples coefs k) ⌝ }
+{
+    let c0 = coefs[2 * k];
+    let c1 = coefs[2 * k + 1];
+    let p = firsts[k];
+    try_coefficients(
+        c0,
+        c1,
+        history,
+        samples,
+        p,
+        seen(known, k, p),
+        seen(next, k, p + 1),
+    )
+}
+
+// The candidate of pair k whose search found `best`: one more pass gives its nibbles and samples.
+fn finish(
+    history: History,
+    samples: [i16; 14],
+    coefs: [i16; 16],
+    best: Trial,
+    k: usize,
+) -> Candidate
+    requires { ⌜ AllBounded coefs ⌝ }
+    requires { ⌜ k < 8 ⌝ }
+    requires { ⌜ best ≡ trialOf (candidateAt history samples coefs k) ⌝ }
+    ensures { λ r. ⌜ r ≡ candidateAt history samples coefs k ⌝ }
+{
+    let c0 = coefs[2 * k];
+    let c1 = coefs[2 * k + 1];
+    let pass = run_pass(c0, c1, history, samples, best.exponent);
+    let nibbles = pass.nibbles;
+    let kept = pass.samples;
+    Candidate {
+        nibbles: nibbles,
+        samples: kept,
+        distance: best.distance,
+        exponent: best.exponent,
+        passes: best.passes,
+    }
 }
 
 // The least distance, the lowest index among equals.
@@ -29,22 +152,25 @@ pub(crate) fn choose(history: History, samples: [i16; 14], coefs: [i16; 16]) -> 
     requires { ⌜ AllBounded coefs ⌝ }
     ensures { λ r. ⌜ r ≡ bestOf history samples coefs 7 ⌝ }
 {
-    let mut best = candidate(history, samples, coefs, 0);
-    let mut index: u8 = 0;
+    let firsts = first_exponents(history, samples, coefs);
+    let known = lanes_at(history, samples, coefs, firsts, 0);
+    let next = lanes_at(history, samples, coefs, firsts, 1);
+    let mut best = trial(history, samples, coefs, firsts, known, next, 0);
+    let mut index: usize = 0;
     let mut passes: u32 = best.passes;
     let mut i: usize = 1;
     while i < 8 {
-        let tried = candidate(history, samples, coefs, i);
+        let tried = trial(history, samples, coefs, firsts, known, next, i);
         passes = passes + tried.passes;
         if tried.distance < best.distance {
             best = tried;
-            index = i as u8;
+            index = i;
         }
         i = i + 1;
     }
     Best {
-        candidate: best,
-        index: index,
+        candidate: finish(history, samples, coefs, best, index),
+        index: index as u8,
         passes: passes,
     }
 }

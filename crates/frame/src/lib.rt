@@ -7,6 +7,8 @@ ghost use Rattle.frame.specs.Frame.{encodeFrame, encodeOneFrame, history
 
 mod choice;
 mod estimate;
+mod lane;
+mod lanes;
 mod nibbles;
 mod pass;
 mod quantise;

@@ -1,10 +1,11 @@
 // The scale search for one pair of coefficients.
 ghost use mathlib.Core.Path.{_≡_};
-ghost use Prim.Native.Nat.{_≤_, _<_};
-ghost use Rattle.frame.specs.Pass.{Bounded};
+ghost use Prim.Native.Nat.{_≤_, _<_, _+_};
+ghost use Rattle.frame.specs.Estimate.{firstExponent};
+ghost use Rattle.frame.specs.Pass.{Bounded, passOf};
 ghost use Rattle.frame.specs.Search.{raised, ends, tryCoefficients};
+ghost use Rattle.frame.specs.Lanes.{Tells, seenIn, trialOf};
 use crate::History;
-use crate::estimate::first_exponent;
 use crate::pass::run_pass;
 
 // What the search for one pair found.
@@ -14,6 +15,20 @@ pub(crate) struct Candidate {
     pub distance: u64,
     pub exponent: u8,
     pub passes: u32,
+}
+
+// The same without what one more pass at its exponent gives.
+pub(crate) struct Trial {
+    pub distance: u64,
+    pub exponent: u8,
+    pub passes: u32,
+}
+
+// What the search asks of a pass, and whether it is known.
+pub(crate) struct Seen {
+    pub overflow: u64,
+    pub distance: u64,
+    pub sure: bool,
 }
 
 // While y is above 256 it is halved, and p rises, to 11 at most.
@@ -42,23 +57,70 @@ fn is_last(p: u8, overflow: u64) -> bool
     p == 12 || overflow <= 1
 }
 
-// Passes at rising exponents: the first that meets the test ends the search.
-pub(crate) fn try_coefficients(c0: i16, c1: i16, history: History, samples: [i16; 14]) -> Candidate
+// What is seen of a pass that is run.
+fn plain(c0: i16, c1: i16, history: History, samples: [i16; 14], p: u8) -> Seen
     requires { ⌜ Bounded c0 c1 ⌝ }
-    ensures { λ r. ⌜ r ≡ tryCoefficients c0 c1 history samples ⌝ }
+    requires { ⌜ p ≤ 12 ⌝ }
+    ensures { λ r. ⌜ r ≡ seenIn (passOf c0 c1 history samples p) ⌝ }
 {
-    let mut p = first_exponent(c0, c1, history, samples);
+    let pass = run_pass(c0, c1, history, samples, p);
+    Seen {
+        overflow: pass.overflow,
+        distance: pass.distance,
+        sure: true,
+    }
+}
+
+// What is seen of a pass: known at the first exponent and the next, unless it is not sure.
+fn look(
+    c0: i16,
+    c1: i16,
+    history: History,
+    samples: [i16; 14],
+    p: u8,
+    first: u8,
+    known: Seen,
+    next: Seen,
+) -> Seen
+    requires { ⌜ Bounded c0 c1 ⌝ }
+    requires { ⌜ (p ≤ 12) × (first ≤ 11) ⌝ }
+    requires { ⌜ Tells c0 c1 history samples first known ⌝ }
+    requires { ⌜ Tells c0 c1 history samples (first + 1) next ⌝ }
+    ensures { λ r. ⌜ r ≡ seenIn (passOf c0 c1 history samples p) ⌝ }
+{
+    if p == first && known.sure {
+        return known;
+    }
+    if p == first + 1 && next.sure {
+        return next;
+    }
+    plain(c0, c1, history, samples, p)
+}
+
+// Passes at rising exponents: the first that meets the test ends the search.
+pub(crate) fn try_coefficients(
+    c0: i16,
+    c1: i16,
+    history: History,
+    samples: [i16; 14],
+    first: u8,
+    known: Seen,
+    next: Seen,
+) -> Trial
+    requires { ⌜ Bounded c0 c1 ⌝ }
+    requires { ⌜ first ≡ firstExponent c0 c1 history samples ⌝ }
+    requires { ⌜ Tells c0 c1 history samples first known ⌝ }
+    requires { ⌜ Tells c0 c1 history samples (first + 1) next ⌝ }
+    ensures { λ r. ⌜ r ≡ trialOf (tryCoefficients c0 c1 history samples) ⌝ }
+{
+    let mut p = first;
     let mut passes: u32 = 0;
     loop {
-        let pass = run_pass(c0, c1, history, samples, p);
+        let pass = look(c0, c1, history, samples, p, first, known, next);
         passes = passes + 1;
         let q = raise(p, pass.overflow);
         if is_last(q, pass.overflow) {
-            let nibbles = pass.nibbles;
-            let kept = pass.samples;
-            break Candidate {
-                nibbles: nibbles,
-                samples: kept,
+            break Trial {
                 distance: pass.distance,
                 exponent: q,
                 passes: passes,

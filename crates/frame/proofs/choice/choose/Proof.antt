@@ -1,80 +1,118 @@
 -- `choose` meets its contract. The invariant: the best so far is the winner among the pairs tried.
-use mathlib.Core.Path.{_≡_, refl, sym, ap, _∙_}
+use mathlib.Core.Path.{_≡_, refl, sym, ap, ap₂, _∙_, subst}
 use mathlib.Core.Logic.{⊎-elim}
+use mathlib.Core.List.{List}
 use Prim.Native.Nat.{ℕ, _+_, _-_, _*_, _≤_, _<_}
 use native.Mathlib.Omega.{arith}
+use lib.IntN.{ℤ}
+use Rattle.frame.specs.declared.History.{History}
 use Rattle.frame.specs.declared.search.Candidate.{Candidate}
+use Rattle.frame.specs.declared.search.Trial.{Trial}
 use Rattle.frame.specs.declared.choice.Best.{Best}
-use Rattle.frame.specs.Choice.{bestOf}
+use Rattle.frame.specs.Choice.{candidateAt, bestOf}
+use Rattle.frame.specs.Lanes.{trialOf}
 use Rattle.frame.proofs.LawsSearch.{Shape}
-use Rattle.frame.proofs.LawsChoice.{candidate-shape, best-first, best-taken, best-left}
+use Rattle.frame.proofs.LawsChoice.{candidate-shape, best-first, trial-taken, trial-left}
 use Rattle.frame.proofs.LawsChoice as Choice
 use Rattle.frame.proofs.choice.choose.Statement.{statement}
 use Rattle.frame.proofs.choice.choose.Tie as tie
 
 abbrev Inv-loop : tie.InvT-loop
-Inv-loop history samples coefs best₀ index₀ passes₀ i₀ best index passes i =
-    (1 ≤ i) × (i ≤ 8) × (passes ≤ i * 13) × (Choice.best best index passes ≡ bestOf history samples coefs (i - 1))
+Inv-loop history samples coefs firsts known next best₀ index₀ passes₀ i₀ best index passes i =
+    (1 ≤ i)
+    × (i ≤ 8)
+    × (index < i)
+    × (passes ≤ i * 13)
+    × (best ≡ trialOf (candidateAt history samples coefs index))
+    × (Choice.best (candidateAt history samples coefs index) index passes ≡ bestOf history samples coefs (i - 1))
 
 abbrev μ-loop : tie.MeasureT-loop
-μ-loop history samples coefs best₀ index₀ passes₀ i₀ best index passes i = 8 - i
+μ-loop history samples coefs firsts known next best₀ index₀ passes₀ i₀ best index passes i = 8 - i
 
-candidate-requires : tie.Need-candidate-requires Inv-loop μ-loop
-candidate-requires c κs = (c .pre, omega arith)
+few : (h : History) (xs cs : List ℤ) (t : Trial) (i : ℕ) → t ≡ trialOf (candidateAt h xs cs i) → t .passes ≤ 13
+few h xs cs t i e = omega (arith, ap (λ (w : Trial). w .passes) e, candidate-shape h xs cs i .passes-le)
+
+first-exponents-requires : tie.Need-first-exponents-requires Inv-loop μ-loop
+first-exponents-requires c κs = tt
+
+lanes-at-requires : tie.Need-lanes-at-requires Inv-loop μ-loop
+lanes-at-requires c κs = (c .before .pre, (c .first-exponents .ensures, omega arith))
+
+lanes-at-requires-2 : tie.Need-lanes-at-requires-2 Inv-loop μ-loop
+lanes-at-requires-2 c κs = (c .before .before .pre, (c .before .first-exponents .ensures, omega arith))
+
+trial-requires : tie.Need-trial-requires Inv-loop μ-loop
+trial-requires c κs = let f = c .before .before in (f .before .pre, (f .first-exponents .ensures, (c .before .lanes-at .ensures, (c .lanes-at2 .ensures, omega arith))))
 
 loop-holds : tie.Need-loop-holds Inv-loop μ-loop
 loop-holds c =
-    let s = c .before .args in
-    let t = c .candidate .ensures in (
+    let s = c .before .before .before .before .args in
+    let e = c .trial .ensures in (
       omega arith,
       omega arith,
-      omega (arith, ap (λ (x : Candidate). x .passes) t, candidate-shape (s .history) (s .samples) (s .coefs) 0 .passes-le),
-      best-first (s .history) (s .samples) (s .coefs) (c .candidate .result) t,
+      omega arith,
+      omega (arith, few (s .history) (s .samples) (s .coefs) (c .trial .result) 0 e),
+      e,
+      ap (λ (n : ℕ). Choice.best (candidateAt (s .history) (s .samples) (s .coefs) 0) 0 n) (ap (λ (w : Trial). w .passes) e) ∙ best-first (s .history) (s .samples) (s .coefs) (candidateAt (s .history) (s .samples) (s .coefs) 0) refl,
     )
 
-candidate-requires-2 : tie.Need-candidate-requires-2 Inv-loop μ-loop
-candidate-requires-2 c κs = (c .before .before .before .pre, omega arith)
-
-tried-few : (c : tie.After-candidate2 Inv-loop μ-loop) → c .candidate2 .result .passes ≤ 13
-tried-few c =
-    let s = c .before .before .before .before .args in
-    omega (arith, ap (λ (x : Candidate). x .passes) (c .candidate2 .ensures), candidate-shape (s .history) (s .samples) (s .coefs) (c .before .before .loop .i) .passes-le)
+trial-requires-2 : tie.Need-trial-requires-2 Inv-loop μ-loop
+trial-requires-2 c κs =
+    let n = c .before .before .before in
+    let f = n .before .before in
+    (f .before .pre, (f .first-exponents .ensures, (n .before .lanes-at .ensures, (n .lanes-at2 .ensures, c .loop-test .taken))))
 
 add-passes : tie.Need-add-passes Inv-loop μ-loop
-add-passes c = omega (arith, tried-few (c .before))
-
-cast-index : tie.Need-cast-index Inv-loop μ-loop
-cast-index c = omega arith
+add-passes c =
+    let a = c .before in
+    let l = a .before .before in
+    let s = l .before .before .before .before .before .args in
+    omega (arith, few (s .history) (s .samples) (s .coefs) (a .trial2 .result) (l .loop .i) (a .trial2 .ensures), l .loop .inv .3, l .loop .inv .1)
 
 add-i : tie.Need-add-i Inv-loop μ-loop
-add-i c = omega arith
+add-i c = omega (arith, c .before .before .before .before .before .loop-test .taken)
 
 loop-less : tie.Need-loop-less Inv-loop μ-loop
-loop-less c = omega arith
+loop-less c = omega (arith, c .before .before .before .before .before .loop-test .taken)
 
 loop-again : tie.Need-loop-again Inv-loop μ-loop
 loop-again c =
     let a = c .before .before .before .before in
     let l = a .before .before in
-    let s = l .before .before .args in
-    let new = a .candidate2 .result in
+    let s = l .before .before .before .before .before .args in
+    let new = a .trial2 .result in
     let inv = l .loop .inv in
-    let step : Choice.best (c .if1 .best) (c .if1 .index) (l .loop .passes + new .passes) ≡ bestOf (s .history) (s .samples) (s .coefs) ((l .loop .i + 1) - 1) =
+    let i = l .loop .i in
+    let less : i < 8 = a .before .loop-test .taken in
+    let e = a .trial2 .ensures in
+    let step : (c .if1 .index < i + 1) × (c .if1 .best ≡ trialOf (candidateAt (s .history) (s .samples) (s .coefs) (c .if1 .index))) × (Choice.best (candidateAt (s .history) (s .samples) (s .coefs) (c .if1 .index)) (c .if1 .index) (l .loop .passes + new .passes) ≡ bestOf (s .history) (s .samples) (s .coefs) ((i + 1) - 1)) =
     ⊎-elim
-    (λ w. rw (w .1, w .2) (best-taken _ _ _ (l .loop .i) (l .loop .best) new (l .loop .index) (l .loop .passes) (inv .0) (inv .3) (a .candidate2 .ensures) (w .0 .taken)))
-    (λ w. rw (w .1, w .2) (best-left _ _ _ (l .loop .i) (l .loop .best) new (l .loop .index) (l .loop .passes) (inv .0) (inv .3) (a .candidate2 .ensures) (w .0 .left)))
+    (λ w. rw (w .1, w .2) (omega arith, e, trial-taken (s .history) (s .samples) (s .coefs) i new (l .loop .best) (l .loop .index) (l .loop .passes) (inv .0) e (inv .4) (inv .5) (w .0 .taken)))
+    (λ w. rw (w .1, w .2) (omega (arith, inv .2), inv .4, trial-left (s .history) (s .samples) (s .coefs) i new (l .loop .best) (l .loop .index) (l .loop .passes) (inv .0) e (inv .4) (inv .5) (w .0 .left)))
     (c .if1 .came) in (
-      omega arith,
-      omega arith,
-      omega (arith, tried-few a),
-      step,
+      omega (arith, inv .0),
+      omega (arith, less),
+      step .0,
+      omega (arith, few (s .history) (s .samples) (s .coefs) new i e, inv .3),
+      step .1,
+      step .2,
     )
+
+finish-requires : tie.Need-finish-requires Inv-loop μ-loop
+finish-requires c κs =
+    let l = c .before in
+    let s = l .before .before .before .before .before in
+    (s .pre, (omega (arith, l .loop .inv .1, l .loop .inv .2), l .loop .inv .4))
+
+cast-t14 : tie.Need-cast-t14 Inv-loop μ-loop
+cast-t14 c = let inv = c .before .before .loop .inv in omega (arith, inv .1, inv .2)
 
 returns : tie.Need-returns Inv-loop μ-loop
 returns c =
-    let s = c .before .before .before .args in
-    let e : c .before .loop .i - 1 ≡ 7 = omega arith in
-    c .before .loop .inv .3 ∙ ap (bestOf (s .history) (s .samples) (s .coefs)) e
+    let l = c .before .before in
+    let s = l .before .before .before .before .before .args in
+    let e : l .loop .i - 1 ≡ 7 = omega (arith, c .before .loop-test .left, l .loop .inv .1) in
+    ap (λ (d : Candidate). Choice.best d (l .loop .index) (l .loop .passes)) (c .finish .ensures) ∙ l .loop .inv .5 ∙ ap (bestOf (s .history) (s .samples) (s .coefs)) e
 
 pub choose-spec : {M : Type 1} → statement M
 choose-spec =
@@ -82,12 +120,16 @@ choose-spec =
     (tie.spec
     Inv-loop
     μ-loop
-    candidate-requires
+    first-exponents-requires
+    lanes-at-requires
+    lanes-at-requires-2
+    trial-requires
     loop-holds
-    candidate-requires-2
+    trial-requires-2
     add-passes
-    cast-index
     add-i
     loop-less
     loop-again
+    finish-requires
+    cast-t14
     returns)

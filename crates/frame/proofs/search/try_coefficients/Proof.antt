@@ -8,9 +8,13 @@ use mir.Val.{SFits, toZ, ofZ}
 use mir.Facts.{toZ-ofZ}
 use Rattle.frame.specs.declared.History.{History}
 use Rattle.frame.specs.declared.pass.Pass.{Pass}
+use Rattle.frame.specs.declared.search.Candidate.{Candidate}
+use Rattle.frame.specs.declared.search.Seen.{Seen}
+use Rattle.frame.specs.declared.search.Trial.{Trial}
 use Rattle.frame.specs.Estimate.{firstExponent}
 use Rattle.frame.specs.Pass.{Bounded, passOf}
 use Rattle.frame.specs.Search.{raised, ends, finished, searchWithin, tryCoefficients}
+use Rattle.frame.specs.Lanes.{trialOf}
 use Rattle.frame.proofs.LawsArrays.{Fit, array-fits}
 use Rattle.frame.proofs.LawsEstimate.{first-le}
 use Rattle.frame.proofs.LawsPass.{FitHistory, overflow-le}
@@ -19,53 +23,53 @@ use Rattle.frame.proofs.search.try_coefficients.Statement.{statement}
 use Rattle.frame.proofs.search.try_coefficients.Tie as tie
 
 abbrev Inv-loop : tie.InvT-loop
-Inv-loop c0 c1 history samples p₀ passes₀ p passes =
+Inv-loop c0 c1 history samples first known next p₀ passes₀ p passes =
     (p ≤ 12)
     × (passes + p₀ ≤ p)
     × (searchWithin (13 - passes) (toZ w16 c0) (toZ w16 c1) history samples p passes ≡ tryCoefficients (toZ w16 c0) (toZ w16 c1) history samples)
 
 abbrev μ-loop : tie.MeasureT-loop
-μ-loop c0 c1 history samples p₀ passes₀ p passes = 12 - p
+μ-loop c0 c1 history samples first known next p₀ passes₀ p passes = 12 - p
+
+abbrev trial : ℕ → ℕ → ℕ → Trial
+trial d p n = record { distance = d; exponent = p; passes = n }
 
 -- the coefficients, as the code reads them
 abbrev a0 : tie.At-loop Inv-loop μ-loop → ℤ
-a0 l = toZ w16 (ofZ w16 (l .before .before .args .c0))
+a0 l = toZ w16 (ofZ w16 (l .before .args .c0))
 
 abbrev a1 : tie.At-loop Inv-loop μ-loop → ℤ
-a1 l = toZ w16 (ofZ w16 (l .before .before .args .c1))
+a1 l = toZ w16 (ofZ w16 (l .before .args .c1))
 
 abbrev passAt : tie.At-loop Inv-loop μ-loop → Pass
-passAt l = passOf (a0 l) (a1 l) (l .before .before .args .history) (l .before .before .args .samples) (l .loop .p)
+passAt l = passOf (a0 l) (a1 l) (l .before .args .history) (l .before .args .samples) (l .loop .p)
 
 bounded : (l : tie.At-loop Inv-loop μ-loop) → Bounded (a0 l) (a1 l)
-bounded l = let s = l .before .before in rw (toZ-ofZ (s .fits .c0), toZ-ofZ (s .fits .c1)) (s .pre)
+bounded l = let s = l .before in rw (toZ-ofZ (s .fits .c0), toZ-ofZ (s .fits .c1)) (s .pre .0)
 
-fit-history : (l : tie.At-loop Inv-loop μ-loop) → FitHistory (l .before .before .args .history)
-fit-history l = let g = l .before .before .good .1 .1 .0 .1 .1 in record { newest-fits = record { sfits = g .0 .1 }; older-fits = record { sfits = g .1 .0 .1 } }
+fit-history : (l : tie.At-loop Inv-loop μ-loop) → FitHistory (l .before .args .history)
+fit-history l = let g = l .before .good .1 .1 .0 .1 .1 in record { newest-fits = record { sfits = g .0 .1 }; older-fits = record { sfits = g .1 .0 .1 } }
 
-fit-samples : (l : tie.At-loop Inv-loop μ-loop) → Fit 14 (l .before .before .args .samples)
-fit-samples l = array-fits 14 _ _ (l .before .before .good .1 .1 .1 .0)
+fit-samples : (l : tie.At-loop Inv-loop μ-loop) → Fit 14 (l .before .args .samples)
+fit-samples l = array-fits 14 _ _ (l .before .good .1 .1 .1 .0)
 
-first-exponent-requires : tie.Need-first-exponent-requires Inv-loop μ-loop
-first-exponent-requires c κs = tt
+first-small : (s : tie.Start Inv-loop μ-loop) → s .args .first ≤ 11
+first-small s = omega (arith, s .pre .1 .0, first-le (s .args .c0) (s .args .c1) (s .args .history) (s .args .samples))
 
 loop-holds : tie.Need-loop-holds Inv-loop μ-loop
 unfolding tryCoefficients
-loop-holds c =
-    let e = c .first-exponent .ensures in (
-      omega (arith, first-le (toZ w16 (ofZ w16 (c .before .args .c0))) (toZ w16 (ofZ w16 (c .before .args .c1))) (c .before .args .history) (c .before .args .samples)),
-      omega arith,
-      rw e,
-    )
+loop-holds c = (omega (arith, first-small c), omega arith, rw (toZ-ofZ (c .fits .c0), toZ-ofZ (c .fits .c1), c .pre .1 .0))
 
-run-pass-requires : tie.Need-run-pass-requires Inv-loop μ-loop
-run-pass-requires c κs = (bounded c, c .loop .inv .0)
+look-requires : tie.Need-look-requires Inv-loop μ-loop
+look-requires c κs =
+    let s = c .before in
+    rw (toZ-ofZ (s .fits .c0), toZ-ofZ (s .fits .c1)) (s .pre .0, ((c .loop .inv .0, first-small s), s .pre .1 .1))
 
 add-passes : tie.Need-add-passes Inv-loop μ-loop
 add-passes c = omega arith
 
-overflow-is : (c : tie.After-run-pass Inv-loop μ-loop) → c .run-pass .result .overflow ≡ passAt (c .before) .overflow
-overflow-is c = ap (λ (t : Pass). t .overflow) (c .run-pass .ensures)
+overflow-is : (c : tie.After-look Inv-loop μ-loop) → c .look .result .overflow ≡ passAt (c .before) .overflow
+overflow-is c = ap (λ (t : Seen). t .overflow) (c .look .ensures)
 
 raise-requires : tie.Need-raise-requires Inv-loop μ-loop
 raise-requires c κs = let l = c .before in (l .loop .inv .0, omega (arith, overflow-is c, overflow-le (a0 l) (a1 l) _ _ (bounded l) (fit-history l) (fit-samples l) (l .loop .p)))
@@ -103,12 +107,14 @@ loop-again c =
 returns : tie.Need-returns Inv-loop μ-loop
 unfolding finished
 returns c =
-    let a = c .before .before .before in
+    let a = c .before in
     let l = a .before .before .before in
-    let f = l .before .before .fits in
+    let f = l .before .fits in
+    let q = a .before .raise .result in
+    let n = l .loop .passes + 1 in
     rw (toZ-ofZ (f .c0), toZ-ofZ (f .c1)) at
-    (ap (λ (t : Pass). finished t (a .before .raise .result) (l .loop .passes + 1)) (a .before .before .run-pass .ensures)
-    ∙ search-last (a0 l) (a1 l) _ _ (l .loop .p) (l .loop .passes) (a .before .raise .result) _ (omega arith) (raise-is (a .before)) (l .loop .inv .2) (sym (test-is a) ∙ c .before .before .if1 .taken))
+    (ap (λ (t : Seen). trial (t .distance) q n) (a .before .before .look .ensures)
+    ∙ ap trialOf (search-last (a0 l) (a1 l) _ _ (l .loop .p) (l .loop .passes) q _ (omega arith) (raise-is (a .before)) (l .loop .inv .2) (sym (test-is a) ∙ c .if1 .taken)))
 
 pub try-coefficients-spec : {M : Type 1} → statement M
 try-coefficients-spec =
@@ -116,9 +122,8 @@ try-coefficients-spec =
     (tie.spec
     Inv-loop
     μ-loop
-    first-exponent-requires
     loop-holds
-    run-pass-requires
+    look-requires
     add-passes
     raise-requires
     is-last-requires
