@@ -1,6 +1,6 @@
 -- Plain contrasts that leave no doubt choose the vector that exact ones choose.
-use mathlib.Core.Path.{_≡_, refl, sym, ap, _∙_, subst}
-use mathlib.Core.Bool.{Bool, true, false, not, cond}
+use mathlib.Core.Path.{_≡_, refl, sym, subst}
+use mathlib.Core.Bool.{Bool, true, false, not}
 use mathlib.Core.List.{List}
 use Prim.Native.Nat.{ℕ, zero, suc, _+_, _*_, _^_, _≤_, _<_}
 use native.Mathlib.Decide.{ℕ-discrete}
@@ -9,12 +9,13 @@ use native.Mathlib.Omega.{arith}
 use native.Mathlib.Numerals.{add-one}
 use lib.Arith.{lt-of-le-ne}
 use lib.Dec.{T, lit<, lit≤}
-use lib.Ieee.{Float, fin, binary64, ofBits, neg, lt, fits}
-use lib.IntN.{pos, negsuc}
+use lib.Ieee.{Float, binary64, ofBits, neg, lt, fits}
+use lib.IntN.{pos}
 use lib.ListN.{getD}
 use Rattle.float.specs.Operations.{negative}
-use Rattle.float.proofs.Counts.{Held, Own, over, under, mag, held-sides, held-between, held-literal, neg-held, lt-true, lt-false, true-lt}
-use Rattle.float.proofs.Errors.{Close, Apart, ample64, slack, apart-same, add-held, mul-held, fma-held, mul-apart, fma-apart, add-near}
+use Rattle.float.proofs.Counts.{Held, Own, over, under, mag, held-sides, held-between, held-literal, neg-held, lt-true, true-lt}
+use Rattle.float.proofs.Drifts.{Apart, apart-same, add-held, mul-held, fma-held, mul-apart, fma-apart, add-near}
+use Rattle.float.proofs.Errors.{ample64, slack}
 use Rattle.coefficients.specs.declared.filter.Lead.{Lead}
 use Rattle.coefficients.specs.declared.merging.Record.{Record}
 use Rattle.coefficients.specs.declared.merging.Side.{Side}
@@ -23,7 +24,7 @@ use Rattle.coefficients.specs.Kit.{fma}
 use Rattle.coefficients.specs.Constants.{f2, fE30, _*f_, _+f_}
 use Rattle.coefficients.specs.Hoisted.{sideOf, contrastOf, leastOf, blankTerms}
 use Rattle.coefficients.proofs.Leads.{Below, Finds, Leads, finds-first, finds-next, leads-first, leads-next}
-use Rattle.coefficients.specs.Filtered.{f16, gap, Small, Smalls, SmallTerms, AllSmall, plainSide, plainContrast, closer, leadOf}
+use Rattle.coefficients.specs.Filtered.{f16, Small, Smalls, SmallTerms, AllSmall, plainSide, plainContrast, closer, leadOf}
 
 pub never : {P : Type 0} → false ≡ true → P
 never e = absurd (subst (λ (b : Bool). T (not b)) e tt)
@@ -50,10 +51,6 @@ f2-held = held-literal {e = pos 1} 2 tt (lit≤ tt)
 f16-held : Held binary64 f16 16
 unfolding ofBits fits
 f16-held = held-literal {e = pos 4} 16 tt (lit≤ tt)
-
-gap-held : Held binary64 gap 1
-unfolding ofBits fits
-gap-held = held-literal {e = negsuc 26} 1 tt (lit≤ tt)
 
 -- ---- contrasts
 
@@ -131,12 +128,12 @@ far {x} {n} h l =
     beyond : (a b n u c d : ℕ) → a + b ≤ n * u → n * u ≤ 9332 * u → 0 < u → 9333 * u + d ≤ c → a + d < c + b
     beyond a b n u c d h l p q = omega arith
 
--- twice what two contrasts can be apart, and the rounding of the sum
-gap-wide : 269 * slack binary64 15 + under binary64 gap ≤ over binary64 gap
-unfolding ofBits over under mag negative slack
-gap-wide = lit≤ tt
+-- at least twice what an exact and a plain contrast can be apart, and what the rounding of a sum can move
+pub record Wide (g : Float) : Type 0 where
+  pub held : Held binary64 g 1
+  pub wide : 269 * slack binary64 15 + under binary64 g ≤ over binary64 g
 
--- a is exact and p plain, and so are c and q; s is p and the gap, t the second of the plain ones
+-- a is exact and p plain, and so are c and q; s is p and the gap g, t the second of the plain ones
 clash : (a a' p p' c c' q q' s s' t t' g g' e : ℕ) → a + p' ≤ a' + p + 134 * e → c' + q ≤ c + q' + 134 * e → s' + (p + g) ≤ s + (p' + g') + e → s + t' < t + s' → t + q' ≤ q + t' → 269 * e + g' ≤ g → c + a' ≤ a + c' → ⊥
 clash a a' p p' c c' q q' s s' t t' g g' e A B C D E F G = omega arith
 
@@ -164,30 +161,30 @@ module _ (ts : List VectorTerms) (n : ℕ) (b : Record) (val : Float) (sv : AllS
   leads (suc k) h = leads-next plain n (λ j h. plain-at j h .is) (suc k) _ h (leads k (omega arith))
 
   -- no other place i than that of the least plain one has an exact one that is as small
-  no-other : (m i : ℕ) (l : Lead) → m ≤ n → i < m → Leads plain n (λ j h. plain-at j h .is) m l → lt (l .least +f gap) (l .second) ≡ true → Below (exact i) (exact (l .index)) → (i ≡ l .index → ⊥) → ⊥
-  no-other m i l M h r d g q =
+  no-other : (m i : ℕ) (l : Lead) (f : Float) → Wide f → m ≤ n → i < m → Leads plain n (λ j h. plain-at j h .is) m l → lt (l .least +f f) (l .second) ≡ true → Below (exact i) (exact (l .index)) → (i ≡ l .index → ⊥) → ⊥
+  no-other m i l f w M h r d g q =
       let k = l .index in
       let K : k < n = omega (arith, r .place) in
       let I : i < n = omega arith in
       let e : Held binary64 (l .least) 9332 = rw (r .value) (plain-at k K) in
       let A : Apart binary64 15 (exact k) (l .least) 134 = rw (r .value) (contrasts-apart (getD ts k blankTerms) b val (sv k K) sb) in
       let B = contrasts-apart (getD ts i blankTerms) b val (sv i I) sb in
-      let C = add-near ample64 e gap-held (lit≤ tt) in
-      let D = lt-true binary64 (l .least +f gap) (l .second) (add-held ample64 e gap-held (lit≤ tt) .is) (r .own2) d in
+      let C = add-near ample64 e (w .held) (lit≤ tt) in
+      let D = lt-true binary64 (l .least +f f) (l .second) (add-held ample64 e (w .held) (lit≤ tt) .is) (r .own2) d in
       clash (over binary64 (exact k)) (under binary64 (exact k)) (over binary64 (l .least)) (under binary64 (l .least)) (over binary64 (exact i)) (under binary64 (exact i)) (over binary64 (plain i)) (under binary64 (plain i))
-      (over binary64 (l .least +f gap)) (under binary64 (l .least +f gap)) (over binary64 (l .second)) (under binary64 (l .second)) (over binary64 gap) (under binary64 gap) (slack binary64 15)
-      (A .is .le) (B .is .ge) (C .ge) D (r .others i h q) gap-wide g
+      (over binary64 (l .least +f f)) (under binary64 (l .least +f f)) (over binary64 (l .second)) (under binary64 (l .second)) (over binary64 f) (under binary64 f) (slack binary64 15)
+      (A .is .le) (B .is .ge) (C .ge) D (r .others i h q) (w .wide) g
 
-  pub clear : lt (leadOf ts (plainSide b val) n .least +f gap) (leadOf ts (plainSide b val) n .second) ≡ true → leadOf ts (plainSide b val) n .index ≡ leastOf ts (sideOf b val) n .index
+  pub clear : (g : Float) → Wide g → lt (leadOf ts (plainSide b val) n .least +f g) (leadOf ts (plainSide b val) n .second) ≡ true → leadOf ts (plainSide b val) n .index ≡ leastOf ts (sideOf b val) n .index
   unfolding leadOf leastOf
-  clear d = go n refl d
+  clear g w d = go n refl d
     where
-      go : (m : ℕ) → m ≡ n → lt (leadOf ts (plainSide b val) m .least +f gap) (leadOf ts (plainSide b val) m .second) ≡ true → leadOf ts (plainSide b val) m .index ≡ leastOf ts (sideOf b val) m .index
+      go : (m : ℕ) → m ≡ n → lt (leadOf ts (plainSide b val) m .least +f g) (leadOf ts (plainSide b val) m .second) ≡ true → leadOf ts (plainSide b val) m .index ≡ leastOf ts (sideOf b val) m .index
       go zero e d = refl
       go (suc k) e d =
           let L = leads k (omega arith) in
           let F = finds k (omega arith) in
           elim (ℕ-discrete (leastOf ts (sideOf b val) (suc k) .index) (leadOf ts (plainSide b val) (suc k) .index)) [
             | yes p ↦ sym p
-            | no q ↦ absurd (no-other (suc k) (leastOf ts (sideOf b val) (suc k) .index) (leadOf ts (plainSide b val) (suc k)) (omega arith) (F .place) L d (rw (F .value) at (F .all (leadOf ts (plainSide b val) (suc k) .index) (L .place))) q)
+            | no q ↦ absurd (no-other (suc k) (leastOf ts (sideOf b val) (suc k) .index) (leadOf ts (plainSide b val) (suc k)) g w (omega arith) (F .place) L d (rw (F .value) at (F .all (leadOf ts (plainSide b val) (suc k) .index) (L .place))) q)
           ]

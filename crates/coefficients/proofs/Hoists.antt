@@ -1,6 +1,6 @@
 -- What is worked out once is what the plain definitions work out.
-use mathlib.Core.Path.{_≡_, refl, sym, ap, ap₂, _∙_, subst}
-use mathlib.Core.Bool.{Bool, true, false, not, cond, Bool·beq}
+use mathlib.Core.Path.{_≡_, refl, sym, ap, ap₂, _∙_}
+use mathlib.Core.Bool.{Bool, true, false, not, cond}
 use mathlib.Core.List.{List}
 use Prim.Native.Nat.{ℕ, zero, suc, _+_, _*_, _≤_, _<_}
 use native.Mathlib.Decide.{ℕ-discrete}
@@ -10,21 +10,22 @@ use native.Mathlib.Numerals.{add-one}
 use lib.Arith.{lt-of-le-ne}
 use lib.Dec.{eqb}
 use lib.Ieee.{Float, nan, inf, fin, binary64, unlike, neg, add, ofBits}
-use lib.IntN.{ℤ, pos, _+ℤ_, +ℤ-idr}
-use lib.ListN.{length, getD, set, replicate, length-set, length-replicate}
+use lib.IntN.{ℤ, _+ℤ_, +ℤ-idr}
+use lib.ListN.{length, getD, set, length-set, length-replicate}
 use lib.Seq.{getD-set-same, getD-set-other}
 use Rattle.float.specs.FusedMultiplyAdd.{times, fusedMultiplyAdd}
 use Rattle.coefficients.specs.declared.clusters.Best.{Best}
 use Rattle.coefficients.specs.declared.clusters.Tally.{Tally}
 use Rattle.coefficients.specs.declared.merging.Record.{Record}
+use Rattle.coefficients.specs.declared.merging.RecordTerms.{RecordTerms}
 use Rattle.coefficients.specs.declared.merging.Side.{Side}
 use Rattle.coefficients.specs.declared.merging.Vec3.{Vec3}
 use Rattle.coefficients.specs.declared.merging.VectorTerms.{VectorTerms}
 use Rattle.coefficients.specs.Kit.{fma}
-use Rattle.coefficients.specs.Constants.{f0, f1, f2, _*f_, _+f_, _/f_}
+use Rattle.coefficients.specs.Constants.{f1, _+f_}
 use Rattle.coefficients.specs.Analysis.{contrast, matrixFilter}
 use Rattle.coefficients.specs.Clusters.{blank, better, least, joined, plus3}
-use Rattle.coefficients.specs.Hoisted.{vectorTerms, recordTerms, sideOf, contrastOf, blankTerms, noTerms, termsOf, leastOf, joinedOf}
+use Rattle.coefficients.specs.Hoisted.{vectorTerms, recordTerms, sideOf, contrastOf, blankTerms, noTerms, termsOf, leastOf}
 
 -- ---- products
 
@@ -103,9 +104,26 @@ least-terms vs r m (suc k) h l =
     ap₂ (λ (b : Best) (v : VectorTerms). better b (contrastOf v (ownSide r)) k) (least-terms vs r m k (omega arith) l) (terms-at vs m k h l)
     ∙ ap (λ (x : Float). better (least vs r k) x k) (contrast-terms (getD vs k blank) r)
 
+-- one record joins
+unfoldable pub joinedOf : List VectorTerms → ℕ → Tally → Record → Tally
+joinedOf vs n t r =
+    let q = recordTerms r in
+    let i = leastOf vs (sideOf r (q .val)) n .index in
+    record {
+      counts = set (t .counts) i (getD (t .counts) i 0 + 1);
+      sums = set (t .sums) i (plus3 (getD (t .sums) i blank) (record { x0 = f1; x1 = q .d1; x2 = q .d2 }));
+    }
+
 pub joined-terms : (vs : List Vec3) (m : ℕ) (t : Tally) (r : Record) → m ≤ 8 → joinedOf (termsOf vs m) m t r ≡ joined vs m t r
 unfolding joinedOf joined
 joined-terms vs m t r l = rw (least-terms vs r m m (omega arith) l, filter-terms r)
+
+-- a tally with one record more, by the parts that are worked out in turn
+pub joined-is : (ts : List VectorTerms) (m : ℕ) (t : Tally) (r : Record) (q : RecordTerms) (i : ℕ) (v : Vec3) → q ≡ recordTerms r → i ≡ leastOf ts (sideOf r (q .val)) m .index
+    → v ≡ plus3 (getD (t .sums) i blank) (record { x0 = f1; x1 = q .d1; x2 = q .d2 })
+    → _≡_ {A = Tally} (record { counts = set (t .counts) i (getD (t .counts) i 0 + 1); sums = set (t .sums) i v }) (joinedOf ts m t r)
+unfolding joinedOf
+joined-is ts m t r q i v a b c = simp (← a, ← b, ← c)
 
 -- ---- one more
 

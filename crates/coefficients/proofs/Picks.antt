@@ -1,5 +1,5 @@
 -- The vector that is picked is one of the eight.
-use mathlib.Core.Path.{_≡_, refl}
+use mathlib.Core.Path.{_≡_}
 use mathlib.Core.Bool.{Bool, true, false, cond}
 use mathlib.Core.List.{List, [], _∷_}
 use Prim.Native.Nat.{ℕ, zero, suc, _+_, _≤_, _<_}
@@ -7,12 +7,11 @@ use native.Mathlib.Omega.{arith}
 use native.Mathlib.Numerals.{add-one}
 use lib.Ieee.{Float, lt}
 use lib.ListN.{getD, set, replicate}
-use Rattle.coefficients.specs.declared.merging.Record.{Record}
 use Rattle.coefficients.specs.declared.merging.Vec3.{Vec3}
 use Rattle.coefficients.specs.declared.clusters.Best.{Best}
 use Rattle.coefficients.specs.declared.clusters.Tally.{Tally}
 use Rattle.coefficients.specs.Analysis.{mergeFinish}
-use Rattle.coefficients.specs.Hoisted.{leastOf, recordTerms, sideOf, joinedOf}
+use Rattle.coefficients.specs.Hoisted.{leastOf}
 use Rattle.coefficients.specs.declared.merging.Side.{Side}
 use Rattle.coefficients.specs.declared.merging.VectorTerms.{VectorTerms}
 use Rattle.coefficients.specs.Clusters.{better, blank, renewed, led, mean, doubled, beside}
@@ -31,19 +30,16 @@ least-below vs t zero m p h = p
 least-below vs t (suc k) m p h = better-below (leastOf vs t k) _ k m (omega arith) (least-below vs t k m p (omega arith))
 
 -- a bound on every element stays one after a store
-pub set-le : (xs : List ℕ) (j v m : ℕ) → v ≤ m → ((i : ℕ) → getD xs i 0 ≤ m) → (i : ℕ) → getD (set xs j v) i 0 ≤ m
+set-le : (xs : List ℕ) (j v m : ℕ) → v ≤ m → ((i : ℕ) → getD xs i 0 ≤ m) → (i : ℕ) → getD (set xs j v) i 0 ≤ m
 set-le [] j v m p h i = h i
 set-le (x ∷ xs) zero v m p h zero = p
 set-le (x ∷ xs) zero v m p h (suc i) = h (suc i)
 set-le (x ∷ xs) (suc j) v m p h zero = h zero
 set-le (x ∷ xs) (suc j) v m p h (suc i) = set-le xs j v m p (λ k. h (suc k)) i
 
--- one record more: each count rises by at most one
-pub joined-le : (vs : List VectorTerms) (n : ℕ) (t : Tally) (r : Record) (k : ℕ) → ((i : ℕ) → getD (t .counts) i 0 ≤ k) → (i : ℕ) → getD (joinedOf vs n t r .counts) i 0 ≤ k + 1
-unfolding joinedOf
-joined-le vs n t r k h i =
-    let j = leastOf vs (sideOf r (recordTerms r .val)) n .index in
-    set-le (t .counts) j (getD (t .counts) j 0 + 1) (k + 1) (omega (arith, h j)) (λ q. omega (arith, h q)) i
+-- one record more: one count rises by one
+pub counts-le : (xs : List ℕ) (j k : ℕ) → ((i : ℕ) → getD xs i 0 ≤ k) → (i : ℕ) → getD (set xs j (getD xs j 0 + 1)) i 0 ≤ k + 1
+counts-le xs j k h i = set-le xs j (getD xs j 0 + 1) (k + 1) (omega (arith, h j)) (λ q. omega (arith, h q)) i
 
 pub zeros-le : (n i k : ℕ) → getD (replicate n 0) i 0 ≤ k
 zeros-le zero i k = omega arith

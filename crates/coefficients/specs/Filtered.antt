@@ -16,10 +16,6 @@ use Rattle.coefficients.specs.Hoisted.{blankTerms}
 abbrev pub f16 : Float
 f16 = ofBits binary64 0x4030_0000_0000_0000
 
--- 2 ^ -27
-abbrev pub gap : Float
-gap = ofBits binary64 0x3e40_0000_0000_0000
-
 -- less than 16 in size
 pub record Small (x : Float) : Type 0 where
   pub held : T (fits binary64 x)

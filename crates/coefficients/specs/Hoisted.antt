@@ -1,11 +1,10 @@
 -- What the gathering of records works out once for each vector and once for each record. proofs/Hoists.antt shows that it is the plain definitions' work.
 use mathlib.Core.List.{List}
-use Prim.Native.Nat.{ℕ, zero, suc, _+_, _<_}
+use Prim.Native.Nat.{ℕ, zero, suc, _<_}
 use mathlib.Core.Path.{_≡_}
 use lib.Ieee.{Float, nan, neg}
 use lib.ListN.{getD, set, replicate}
 use Rattle.coefficients.specs.declared.clusters.Best.{Best}
-use Rattle.coefficients.specs.declared.clusters.Tally.{Tally}
 use Rattle.coefficients.specs.declared.merging.Record.{Record}
 use Rattle.coefficients.specs.declared.merging.RecordTerms.{RecordTerms}
 use Rattle.coefficients.specs.declared.merging.Side.{Side}
@@ -13,7 +12,7 @@ use Rattle.coefficients.specs.declared.merging.Vec3.{Vec3}
 use Rattle.coefficients.specs.declared.merging.VectorTerms.{VectorTerms}
 use Rattle.coefficients.specs.Kit.{fma}
 use Rattle.coefficients.specs.Constants.{f0, f1, f2, fE30, _*f_, _+f_, _/f_}
-use Rattle.coefficients.specs.Clusters.{blank, better, plus3}
+use Rattle.coefficients.specs.Clusters.{blank, better}
 
 -- a vector's part in its contrast with a record
 unfoldable pub vectorTerms : Vec3 → VectorTerms
@@ -58,12 +57,3 @@ leastOf vs s (suc k) = better (leastOf vs s k) (contrastOf (getD vs k blankTerms
 pub record Nearest (vs : List VectorTerms) (n : ℕ) (s : Side) (x : ℕ) : Type 0 where
   pub value : x ≡ leastOf vs s n .index
   pub below : x < 8
-
-unfoldable pub joinedOf : List VectorTerms → ℕ → Tally → Record → Tally
-joinedOf vs n t r =
-    let q = recordTerms r in
-    let i = leastOf vs (sideOf r (q .val)) n .index in
-    record {
-      counts = set (t .counts) i (getD (t .counts) i 0 + 1);
-      sums = set (t .sums) i (plus3 (getD (t .sums) i blank) (record { x0 = f1; x1 = q .d1; x2 = q .d2 }));
-    }

@@ -102,26 +102,6 @@ fn plus3(a: Vec3, b: Vec3) -> Vec3
     }
 }
 
-// A record joins its vector.
-fn joined(ts: [VectorTerms; 8], n: usize, small: bool, t: Tally, r: Record) -> Tally
-    requires { ⌜ n ≤ 8 ⌝ }
-    requires { ⌜ (small ≡ true → AllSmall ts n) ⌝ }
-    requires { ⌜ ((i : ℕ) → getD (t .counts) i 0 < 4294967295) ⌝ }
-    ensures { λ x. ⌜ x ≡ Hoisted.joinedOf ts n t r ⌝ }
-{
-    let q = record_terms(r);
-    let d = Vec3 {
-        x0: 1.0,
-        x1: q.d1,
-        x2: q.d2,
-    };
-    let i = chosen(ts, n, small, r, q.val);
-    let mut u = t;
-    u.counts[i] = u.counts[i] + 1;
-    u.sums[i] = plus3(u.sums[i], d);
-    u
-}
-
 // What each record of the store adds.
 pub(crate) fn gather(vs: [Vec3; 8], m: usize, s: &[f64], n: usize) -> Tally
     requires { ⌜ (m ≤ 8) × (2 * n ≤ length (now s)) × (n ≤ 1048576) ⌝ }
@@ -140,7 +120,16 @@ pub(crate) fn gather(vs: [Vec3; 8], m: usize, s: &[f64], n: usize) -> Tally
     let small = all_small(ts, m);
     let mut k: usize = 0;
     while k < n {
-        t = joined(ts, m, small, t, crate::store::read_record(s, k));
+        let r = crate::store::read_record(s, k);
+        let q = record_terms(r);
+        let i = chosen(ts, m, small, r, q.val);
+        let d = Vec3 {
+            x0: 1.0,
+            x1: q.d1,
+            x2: q.d2,
+        };
+        t.counts[i] = t.counts[i] + 1;
+        t.sums[i] = plus3(t.sums[i], d);
         k += 1;
     }
     t

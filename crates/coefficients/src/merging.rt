@@ -101,23 +101,6 @@ pub(crate) fn contrast_of(v: VectorTerms, s: Side) -> f64
     float::mul_add(s.last, v.val3, float::mul_add(s.twice, v.val2, v.val1))
 }
 
-// What a record adds to the sums of its vector.
-pub(crate) fn matrix_filter(s: Record) -> Vec3
-    ensures { λ r. ⌜ r ≡ Analysis.matrixFilter s ⌝ }
-{
-    let m21 = -s.v1;
-    let m22 = -s.v2;
-    let val = float::mul_add(m22, -m22, 1.0);
-    let m11 = float::mul_add(m22, m21, m21) / val;
-    let d1 = float::mul_add(m11, 1.0, 0.0);
-    let d2 = float::mul_add(m21, d1, 0.0);
-    Vec3 {
-        x0: 1.0,
-        x1: d1,
-        x2: float::mul_add(m22, 1.0, d2),
-    }
-}
-
 // -x / val where val is above 0, and 0 where it is not.
 fn quotient(val: f64, x: f64) -> f64
     ensures { λ r. ⌜ r ≡ Analysis.quotient val x ⌝ }

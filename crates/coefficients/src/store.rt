@@ -32,11 +32,11 @@ pub(crate) fn write_record(s: &mut [f64], k: usize, r: Record)
 fn add_filtered(a: Vec3, r: Record) -> Vec3
     ensures { λ x. ⌜ x ≡ Store.addFiltered a r ⌝ }
 {
-    let d = crate::merging::matrix_filter(r);
+    let d = crate::merging::record_terms(r);
     Vec3 {
         x0: a.x0,
-        x1: a.x1 + d.x1,
-        x2: a.x2 + d.x2,
+        x1: a.x1 + d.d1,
+        x2: a.x2 + d.d2,
     }
 }
 

@@ -3,14 +3,14 @@ use mathlib.Core.Path.{_≡_, refl, sym, ap, _∙_, subst}
 use mathlib.Core.Bool.{Bool, true, false, not, cond, _&&_}
 use Prim.Native.Nat.{ℕ, zero, suc, _+_, _-_, _*_, _/_, _%_, _^_, _≤_, _<_}
 use native.Mathlib.Decide.{decLe}
-use native.Mathlib.Nat.{le-trans, le-of-eq, lt-of-le-of-lt, lt-of-lt-of-le, lt-of-not-le, not-le-of-lt, mul-right-comm, mul-comm, mul-assoc, mul-pos, mul-le-mul-right, le-of-mul-le-mul-right, mul-lt-mul-of-pos-right, lt-of-mul-lt-mul-right, mul-div-cancel, mul-one, one-mul, zero-mul}
+use native.Mathlib.Nat.{le-trans, le-of-eq, lt-of-le-of-lt, lt-of-lt-of-le, lt-of-not-le, not-le-of-lt, mul-right-comm, mul-comm, mul-assoc, mul-pos, mul-le-mul-right, le-of-mul-le-mul-right, mul-lt-mul-of-pos-right, lt-of-mul-lt-mul-right, mul-div-cancel, mul-one, zero-mul}
 use native.Mathlib.Omega.{arith}
 use borrow.Author.Tests.{le-ltb, lt-ltb, ltb-true, ltb-false}
 use lib.Dec.{T, ltb, leb, eqb, ltb→lt, lt→ltb, leb→le}
 use lib.IntN.{ℤ, pos, negsuc}
 use lib.Pow.{pow-add, pow-pos, pow-lt}
 use lib.Ieee.{Float, nan, inf, fin, Format, prec, emax, low, up, down, neg, below, lt, fits}
-use lib.Ieee.Fits.{up-pos, down-pos, and-l, and-r}
+use lib.Ieee.Fits.{down-pos, and-l, and-r}
 use lib.Ieee.Exact.{HasValue}
 use Rattle.float.specs.Operations.{negative}
 
@@ -63,9 +63,6 @@ held-sides {f} {x} {n} h = go (negative x) (h .size)
     go : (s : Bool) → mag f x ≤ n * 2 ^ low f → plus s (mag f x) + minus s (mag f x) ≤ n * 2 ^ low f
     go true l = omega arith
     go false l = omega arith
-
-pub held-more : {f : Format} {x : Float} {n : ℕ} (m : ℕ) → n ≤ m → Held f x n → Held f x m
-held-more {f} {x} {n} m l h = record { is = h .is; size = le-trans (h .size) (mul-le-mul-right (2 ^ low f) l) }
 
 -- ---- the negative
 neg-own : (f : Format) (x : Float) → Own f x → (Own f (neg x)) × (mag f (neg x) ≡ mag f x)

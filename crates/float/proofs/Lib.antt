@@ -4,6 +4,7 @@ mod Apart
 pub mod Bounds
 mod Columns
 pub mod Counts
+pub mod Drifts
 pub mod Errors
 mod Frame
 pub mod HalfAway

@@ -7,11 +7,11 @@ use borrow.Author.Needs.{needs}
 use lib.ListN.{getD}
 use Rattle.coefficients.specs.Store.{foldl, records}
 use Rattle.coefficients.specs.Clusters.{tally, empty, none, joined}
-use Rattle.coefficients.specs.Hoisted.{joinedOf, termsOf}
+use Rattle.coefficients.specs.Hoisted.{termsOf}
 use Rattle.coefficients.specs.declared.merging.VectorTerms.{VectorTerms}
-use Rattle.coefficients.proofs.Hoists.{joined-terms}
+use Rattle.coefficients.proofs.Hoists.{joinedOf, joined-is, joined-terms}
 use Rattle.coefficients.proofs.Folds.{foldl-none, foldl-records, foldl-same}
-use Rattle.coefficients.proofs.Picks.{joined-le, zeros-le}
+use Rattle.coefficients.proofs.Picks.{counts-le, zeros-le}
 use Rattle.coefficients.proofs.clusters.gather.Statement.{statement}
 use Rattle.coefficients.proofs.clusters.gather.Tie as tie
 
@@ -21,23 +21,48 @@ Inv-loop m s n t₀ ts small k₀ t k = (k ≤ n) × (t ≡ foldl (joinedOf ts m
 abbrev μ-loop : tie.MeasureT-loop
 μ-loop m s n t₀ ts small k₀ t k = n - k
 
-loop-holds : tie.Need-loop-holds Inv-loop μ-loop
-unfolding empty none
-loop-holds c = (omega arith, sym (foldl-none (joinedOf _ _) empty _), (λ i. zeros-le 8 i 0))
-
 all-terms-requires : tie.Need-all-terms-requires Inv-loop μ-loop
 all-terms-requires c κs = search needs
 
 all-small-requires : tie.Need-all-small-requires Inv-loop μ-loop
 all-small-requires c κs = search needs
 
+loop-holds : tie.Need-loop-holds Inv-loop μ-loop
+unfolding empty none
+loop-holds c = (omega arith, sym (foldl-none (joinedOf _ _) empty _), (λ i. zeros-le 8 i 0))
+
 read-record-requires : tie.Need-read-record-requires Inv-loop μ-loop
 read-record-requires c κs = omega arith
 
-joined-requires : tie.Need-joined-requires Inv-loop μ-loop
-joined-requires c κs =
-    let l = c .before .before in
-    (search needs, (l .before .all-small .ensures, (λ i. omega (arith, l .loop .inv .2 i))))
+chosen-requires : tie.Need-chosen-requires Inv-loop μ-loop
+chosen-requires c κs = (search needs, c .before .before .before .before .all-small .ensures)
+
+mul-t : tie.Need-mul-t Inv-loop μ-loop
+mul-t c = search needs
+
+element-copy-out-t : tie.Need-element-copy-out-t Inv-loop μ-loop
+element-copy-out-t c = search needs
+
+add-t : tie.Need-add-t Inv-loop μ-loop
+add-t c = omega (arith, c .before .before .before .before .before .loop .inv .2 (c .before .chosen .result))
+
+mul-t-2 : tie.Need-mul-t-2 Inv-loop μ-loop
+mul-t-2 c = search needs
+
+element-write-t : tie.Need-element-write-t Inv-loop μ-loop
+element-write-t c = search needs
+
+mul-plus3 : tie.Need-mul-plus3 Inv-loop μ-loop
+mul-plus3 c = search needs
+
+element-copy-out-plus3 : tie.Need-element-copy-out-plus3 Inv-loop μ-loop
+element-copy-out-plus3 c = search needs
+
+mul-t22 : tie.Need-mul-t22 Inv-loop μ-loop
+mul-t22 c = search needs
+
+element-set-from-t : tie.Need-element-set-from-t Inv-loop μ-loop
+element-set-from-t c = search needs
 
 add-k : tie.Need-add-k Inv-loop μ-loop
 add-k c = omega arith
@@ -47,8 +72,12 @@ loop-less c = omega arith
 
 loop-again : tie.Need-loop-again Inv-loop μ-loop
 loop-again c =
-    let l = c .before .before .before in
-    (omega arith, rw (foldl-records, ← l .loop .inv .1, ← c .before .read-record .ensures) (c .joined .ensures), rw (c .joined .ensures) (joined-le _ _ _ _ _ (l .loop .inv .2)))
+    let l = c .before .before .before .before .before .before .before in
+    let q = c .before .before .before .before .record-terms in
+    let r = c .before .before .before .before .before .read-record in
+    let h = c .before .before .before .chosen in
+    let e = joined-is (l .before .before .all-terms .result) (l .before .before .before .before .args .m) (l .loop .t) (r .result) (q .result) (h .result) (c .plus3 .result) (q .ensures) (h .ensures .value) (c .plus3 .ensures) in
+    (omega arith, rw (foldl-records, ← l .loop .inv .1, ← r .ensures) e, counts-le (l .loop .t .counts) (h .result) (l .loop .k) (l .loop .inv .2))
 
 returns : tie.Need-returns Inv-loop μ-loop
 unfolding tally
@@ -72,7 +101,18 @@ gather-spec =
     all-small-requires
     loop-holds
     read-record-requires
-    joined-requires
+    (λ _ _. tt)
+    chosen-requires
+    mul-t
+    element-copy-out-t
+    add-t
+    mul-t-2
+    element-write-t
+    mul-plus3
+    element-copy-out-plus3
+    (λ _ _. tt)
+    mul-t22
+    element-set-from-t
     add-k
     loop-less
     loop-again
