@@ -19,3 +19,6 @@ pub mod Following
 pub mod WholeRuns
 pub mod Cuts
 pub mod Tails
+pub mod Due
+pub mod Agreeing
+pub mod SteppingBack

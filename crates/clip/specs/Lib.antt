@@ -4,3 +4,4 @@ pub mod Image
 pub mod Encoding
 pub mod Facts
 pub mod Runs
+pub mod Steps

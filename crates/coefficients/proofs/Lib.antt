@@ -15,3 +15,5 @@ pub mod Each
 pub mod AnyStore
 pub mod Exactly
 pub mod EmptyVector
+pub mod Agreeing
+pub mod SteppingBack

@@ -11,3 +11,4 @@ pub mod Filtered
 pub mod Finish
 pub mod Measure
 pub mod Runs
+pub mod Steps
