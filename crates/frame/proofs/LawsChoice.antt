@@ -13,19 +13,19 @@ use borrow.Author.Tests.{lt-ltb, le-ltb, ltb-true, ltb-false}
 use mir.Syntax.{w16}
 use mir.Val.{SFits}
 use Rattle.frame.specs.declared.History.{History}
+use Rattle.frame.specs.declared.search.Coded.{Coded}
 use Rattle.frame.specs.declared.search.Candidate.{Candidate}
-use Rattle.frame.specs.declared.search.Trial.{Trial}
 use Rattle.frame.specs.declared.choice.Best.{Best}
 use Rattle.frame.specs.Pass.{Bounded, passOf}
 use Rattle.frame.specs.Search.{finished, tryCoefficients}
 use Rattle.frame.specs.Choice.{c0At, c1At, candidateAt, winner, passesOf, bestOf}
 use Rattle.frame.specs.Frame.{InNibble}
-use Rattle.frame.specs.Lanes.{trialOf}
+use Rattle.frame.specs.Lanes.{candidateOf}
 use Rattle.frame.proofs.LawsArrays.{Fit}
 use Rattle.frame.proofs.LawsPass.{FitHistory, pass-nibble}
 use Rattle.frame.proofs.LawsSearch.{Shape, try-shape, Found, try-found}
 
-abbrev pub best : Candidate → ℕ → ℕ → Best
+abbrev pub best : Coded → ℕ → ℕ → Best
 best c i n = record { candidate = c; index = i; passes = n }
 
 module _ (h : History) (xs : List ℤ) (cs : List ℤ) where
@@ -41,7 +41,7 @@ module _ (h : History) (xs : List ℤ) (cs : List ℤ) where
   unfolding finished
   candidate-nibble i j l =
       let s = candidate-shape i in
-      subst (λ (ns : List ℤ). InNibble (getD ns j (pos 0))) (sym (ap (λ (c : Candidate). c .nibbles) (s .is))) (pass-nibble (c0At cs i) (c1At cs i) h xs (s .at) j l)
+      subst (λ (ns : List ℤ). InNibble (getD ns j (pos 0))) (sym (ap (λ (c : Coded). c .nibbles) (s .is))) (pass-nibble (c0At cs i) (c1At cs i) h xs (s .at) j l)
 
   abbrev distanceAt : ℕ → ℕ
   distanceAt i = candidateAt h xs cs i .distance
@@ -96,7 +96,7 @@ module _ (h : History) (xs : List ℤ) (cs : List ℤ) where
   -- ---- the loop's step
 
   -- the candidate of pair i + 1 against the best of the pairs 0 to i
-  module _ (k : ℕ) (b c : Candidate) (j n : ℕ) (e : best b j n ≡ bestOf h xs cs k) (f : c ≡ candidateAt h xs cs (suc k)) where
+  module _ (k : ℕ) (b c : Coded) (j n : ℕ) (e : best b j n ≡ bestOf h xs cs k) (f : c ≡ candidateAt h xs cs (suc k)) where
     was : b ≡ candidateAt h xs cs (winner h xs cs k)
     unfolding bestOf
     was = ap (λ (x : Best). x .candidate) e
@@ -122,12 +122,12 @@ module _ (h : History) (xs : List ℤ) (cs : List ℤ) where
         rw (f, passes-were, was, index-was, t)
 
   -- the first pair alone
-  pub best-first : (c : Candidate) → c ≡ candidateAt h xs cs 0 → best c 0 (c .passes) ≡ bestOf h xs cs 0
+  pub best-first : (c : Coded) → c ≡ candidateAt h xs cs 0 → best c 0 (c .passes) ≡ bestOf h xs cs 0
   unfolding bestOf winner passesOf
   best-first c e = rw (e, zero-add)
 
   -- the same at the loop's i
-  module _ (i : ℕ) (b c : Candidate) (j n : ℕ) (l : 1 ≤ i) (e : best b j n ≡ bestOf h xs cs (i - 1)) (f : c ≡ candidateAt h xs cs i) where
+  module _ (i : ℕ) (b c : Coded) (j n : ℕ) (l : 1 ≤ i) (e : best b j n ≡ bestOf h xs cs (i - 1)) (f : c ≡ candidateAt h xs cs i) where
     here : i ≡ suc (i - 1)
     here = omega arith
 
@@ -141,15 +141,15 @@ module _ (h : History) (xs : List ℤ) (cs : List ℤ) where
     best-left m = left (i - 1) b c j n e (f ∙ ap (candidateAt h xs cs) here) m ∙ ap (bestOf h xs cs) there
 
   -- the same of trials
-  module _ (i : ℕ) (t b : Trial) (j n : ℕ) (l : 1 ≤ i) (f : t ≡ trialOf (candidateAt h xs cs i)) (g : b ≡ trialOf (candidateAt h xs cs j)) (e : best (candidateAt h xs cs j) j n ≡ bestOf h xs cs (i - 1)) where
+  module _ (i : ℕ) (t b : Candidate) (j n : ℕ) (l : 1 ≤ i) (f : t ≡ candidateOf (candidateAt h xs cs i)) (g : b ≡ candidateOf (candidateAt h xs cs j)) (e : best (candidateAt h xs cs j) j n ≡ bestOf h xs cs (i - 1)) where
     far : t .distance ≡ distanceAt i
-    far = ap (λ (w : Trial). w .distance) f
+    far = ap (λ (w : Candidate). w .distance) f
 
     near : b .distance ≡ distanceAt j
-    near = ap (λ (w : Trial). w .distance) g
+    near = ap (λ (w : Candidate). w .distance) g
 
     count : t .passes ≡ candidateAt h xs cs i .passes
-    count = ap (λ (w : Trial). w .passes) f
+    count = ap (λ (w : Candidate). w .passes) f
 
     pub trial-taken : t .distance < b .distance → best (candidateAt h xs cs i) i (n + t .passes) ≡ bestOf h xs cs ((i + 1) - 1)
     trial-taken m = ap (λ (k : ℕ). best (candidateAt h xs cs i) i (n + k)) count ∙ best-taken i (candidateAt h xs cs j) (candidateAt h xs cs i) j n l e refl (omega (arith, far, near))

@@ -12,7 +12,7 @@ use mir.Val.{SFits}
 use Rattle.whole.specs.Whole.{clamp16, floored, signedNibble}
 use Rattle.frame.specs.declared.History.{History}
 use Rattle.frame.specs.declared.EncodedFrame.{EncodedFrame}
-use Rattle.frame.specs.declared.search.Candidate.{Candidate}
+use Rattle.frame.specs.declared.search.Coded.{Coded}
 use Rattle.frame.specs.Estimate.{weighted}
 use Rattle.frame.specs.Quantise.{scale}
 use Rattle.frame.specs.Pass.{Bounded, reconstruct, stepOf, upto, passOf}
@@ -47,7 +47,7 @@ module _ (h : History) (xs : List ℤ) (cs : List ℤ) where
   unfoldable pub index : ℕ
   index = winner h xs cs 7
 
-  unfoldable pub chosen : Candidate
+  unfoldable pub chosen : Coded
   chosen = candidateAt h xs cs index
 
   pub index-le : index ≤ 7
@@ -72,7 +72,7 @@ module _ (h : History) (xs : List ℤ) (cs : List ℤ) where
   frame-lengths =
       let c = winner h xs cs 7 in
       let s = candidate-shape h xs cs c in
-      (packed-length (header c (candidateAt h xs cs c .exponent)) (candidateAt h xs cs c .nibbles) 7, ap (λ (d : Candidate). length (d .samples)) (s .is) ∙ pass-lengths (c0At cs c) (c1At cs c) h xs (s .at) .1)
+      (packed-length (header c (candidateAt h xs cs c .exponent)) (candidateAt h xs cs c .nibbles) 7, ap (λ (d : Coded). length (d .samples)) (s .is) ∙ pass-lengths (c0At cs c) (c1At cs c) h xs (s .at) .1)
 
   -- at most 13 passes a candidate, 104 a frame
   pub frame-passes : encodeFrame h xs cs .passes ≤ 104
@@ -106,7 +106,7 @@ module _ (h : History) (xs : List ℤ) (cs : List ℤ) where
   frame-fits =
       let c = winner h xs cs 7 in
       let s = candidate-shape h xs cs c in
-      record { at = λ i l. subst (λ (d : Candidate). SFits w16 (getD (d .samples) i (pos 0))) (sym (s .is)) (pass-fits (c0At cs c) (c1At cs c) h xs (s .at) i l) }
+      record { at = λ i l. subst (λ (d : Coded). SFits w16 (getD (d .samples) i (pos 0))) (sym (s .is)) (pass-fits (c0At cs c) (c1At cs c) h xs (s .at) i l) }
 
 -- ---- where the coefficients are bounded and history and samples are of 16 bits
 module _ (h : History) (xs : List ℤ) (cs : List ℤ) (b : AllBounded cs) (f : FitHistory h) (x : Fit 14 xs) where
@@ -119,11 +119,11 @@ module _ (h : History) (xs : List ℤ) (cs : List ℤ) (b : AllBounded cs) (f : 
 
   samples-are : encodeFrame h xs cs .samples ≡ passOf (c0At cs (index h xs cs)) (c1At cs (index h xs cs)) h xs (chosen h xs cs .exponent) .samples
   unfolding finished
-  samples-are = ap (λ (e : EncodedFrame). e .samples) (frame-is h xs cs) ∙ ap (λ (d : Candidate). d .samples) (chosen-found .is)
+  samples-are = ap (λ (e : EncodedFrame). e .samples) (frame-is h xs cs) ∙ ap (λ (d : Coded). d .samples) (chosen-found .is)
 
   nibbles-are : chosen h xs cs .nibbles ≡ passOf (c0At cs (index h xs cs)) (c1At cs (index h xs cs)) h xs (chosen h xs cs .exponent) .nibbles
   unfolding finished
-  nibbles-are = ap (λ (d : Candidate). d .nibbles) (chosen-found .is)
+  nibbles-are = ap (λ (d : Coded). d .nibbles) (chosen-found .is)
 
   -- each sample is reconstructed from its nibble and the two samples before it
   pub frame-sample : (i : ℕ) → i < 14 → getD (encodeFrame h xs cs .samples) i (pos 0) ≡ reconstruct (c0At cs (index h xs cs)) (c1At cs (index h xs cs)) (historyAfter h (encodeFrame h xs cs .samples) i .newest) (historyAfter h (encodeFrame h xs cs .samples) i .older) (getD (chosen h xs cs .nibbles) i (pos 0)) (chosen h xs cs .exponent)

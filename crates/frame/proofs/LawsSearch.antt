@@ -11,13 +11,13 @@ use lib.Dec.{eqb, leb, ltb}
 use lib.IntN.{ℤ}
 use borrow.Author.Tests.{eqb-true, eqb-false, leb-true, lt-ltb, le-ltb}
 use Rattle.frame.specs.declared.History.{History}
-use Rattle.frame.specs.declared.search.Candidate.{Candidate}
+use Rattle.frame.specs.declared.search.Coded.{Coded}
 use Rattle.frame.specs.declared.pass.Pass.{Pass}
-use Rattle.frame.specs.declared.search.Trial.{Trial}
+use Rattle.frame.specs.declared.search.Candidate.{Candidate}
 use Rattle.frame.specs.Estimate.{firstExponent}
 use Rattle.frame.specs.Pass.{Bounded, passOf}
 use Rattle.frame.specs.Search.{raisedWithin, raised, ends, finished, searchWithin, tryCoefficients}
-use Rattle.frame.specs.Lanes.{trialOf}
+use Rattle.frame.specs.Lanes.{candidateOf}
 use Rattle.frame.proofs.LawsArrays.{Fit}
 use Rattle.frame.proofs.LawsEstimate.{first-le}
 use Rattle.frame.proofs.LawsPass.{FitHistory, overflow-le, overflow-12}
@@ -102,7 +102,7 @@ unfolding ends
 ended p o e = ⊎-elim (λ x. inl (eqb-true p 12 x)) (λ y. inr (leb-true o 1 y)) (either (eqb p 12) (leb o 1) e)
 
 -- ---- the loop's step
-module _ (c0 c1 : ℤ) (h : History) (xs : List ℤ) (p n q : ℕ) (E : Candidate) (l : n < 13) (b : q ≡ raised (passOf c0 c1 h xs p .overflow) p) (i : searchWithin (13 - n) c0 c1 h xs p n ≡ E) where
+module _ (c0 c1 : ℤ) (h : History) (xs : List ℤ) (p n q : ℕ) (E : Coded) (l : n < 13) (b : q ≡ raised (passOf c0 c1 h xs p .overflow) p) (i : searchWithin (13 - n) c0 c1 h xs p n ≡ E) where
   one : 13 - n ≡ suc (13 - (n + 1))
   one = omega arith
 
@@ -140,7 +140,7 @@ module _ (c0 c1 : ℤ) (h : History) (xs : List ℤ) (b : Bounded c0 c1) (f : Fi
 -- ---- of whatever the search gives, for any input
 
 -- a finished pass, an exponent of at most 12, between n and n + k passes
-pub record Shape (c0 c1 : ℤ) (h : History) (xs : List ℤ) (n k : ℕ) (c : Candidate) : Type 0 where
+pub record Shape (c0 c1 : ℤ) (h : History) (xs : List ℤ) (n k : ℕ) (c : Coded) : Type 0 where
   pub at : ℕ
   pub is : c ≡ finished (passOf c0 c1 h xs at) (c .exponent) (c .passes)
   pub exponent-le : c .exponent ≤ 12
@@ -171,7 +171,7 @@ module _ (c0 c1 : ℤ) (h : History) (xs : List ℤ) where
 -- ---- what ends the search, where the coefficients are bounded and the samples are of 16 bits
 
 -- a pass that meets the end test at its own exponent
-pub record Found (c0 c1 : ℤ) (h : History) (xs : List ℤ) (c : Candidate) : Type 0 where
+pub record Found (c0 c1 : ℤ) (h : History) (xs : List ℤ) (c : Coded) : Type 0 where
   pub is : c ≡ finished (passOf c0 c1 h xs (c .exponent)) (c .exponent) (c .passes)
   pub met : ends (c .exponent) (passOf c0 c1 h xs (c .exponent) .overflow) ≡ true
 
@@ -224,12 +224,12 @@ module _ (c0 c1 : ℤ) (h : History) (xs : List ℤ) (b : Bounded c0 c1) (f : Fi
 
 -- ---- a candidate from its trial and one more pass
 
-pub again : (c0 c1 : ℤ) (h : History) (xs : List ℤ) (c : Candidate) → Found c0 c1 h xs c → (t : Pass) (b : Trial) → b ≡ trialOf c → t ≡ passOf c0 c1 h xs (b .exponent) → _≡_ {A = Candidate} (record { nibbles = t .nibbles; samples = t .samples; distance = b .distance; exponent = b .exponent; passes = b .passes }) c
+pub again : (c0 c1 : ℤ) (h : History) (xs : List ℤ) (c : Coded) → Found c0 c1 h xs c → (t : Pass) (b : Candidate) → b ≡ candidateOf c → t ≡ passOf c0 c1 h xs (b .exponent) → _≡_ {A = Coded} (record { nibbles = t .nibbles; samples = t .samples; distance = b .distance; exponent = b .exponent; passes = b .passes }) c
 unfolding finished
 again c0 c1 h xs c f t b e g =
     let p = passOf c0 c1 h xs (c .exponent) in
-    let k : t ≡ p = g ∙ ap (λ (w : Trial). passOf c0 c1 h xs (w .exponent)) e in
-    ap (λ (w : Pass). made w b) k ∙ ap (made p) e ∙ ap (λ (d : ℕ). finished (record { nibbles = p .nibbles; samples = p .samples; overflow = p .overflow; distance = d }) (c .exponent) (c .passes)) (ap (λ (w : Candidate). w .distance) (f .is)) ∙ sym (f .is)
+    let k : t ≡ p = g ∙ ap (λ (w : Candidate). passOf c0 c1 h xs (w .exponent)) e in
+    ap (λ (w : Pass). made w b) k ∙ ap (made p) e ∙ ap (λ (d : ℕ). finished (record { nibbles = p .nibbles; samples = p .samples; overflow = p .overflow; distance = d }) (c .exponent) (c .passes)) (ap (λ (w : Coded). w .distance) (f .is)) ∙ sym (f .is)
   where
-    made : Pass → Trial → Candidate
+    made : Pass → Candidate → Coded
     made w v = record { nibbles = w .nibbles; samples = w .samples; distance = v .distance; exponent = v .exponent; passes = v .passes }

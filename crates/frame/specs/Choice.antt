@@ -6,7 +6,7 @@ use lib.Dec.{ltb}
 use lib.IntN.{ℤ, pos}
 use lib.ListN.{getD}
 use Rattle.frame.specs.declared.History.{History}
-use Rattle.frame.specs.declared.search.Candidate.{Candidate}
+use Rattle.frame.specs.declared.search.Coded.{Coded}
 use Rattle.frame.specs.declared.choice.Best.{Best}
 use Rattle.frame.specs.Pass.{Bounded}
 use Rattle.frame.specs.Search.{tryCoefficients}
@@ -23,7 +23,7 @@ pub record AllBounded (cs : List ℤ) : Type 0 where
   pub pair : (i : ℕ) → i < 8 → Bounded (c0At cs i) (c1At cs i)
 
 -- "`try_coefficients`, for each pair in turn"
-unfoldable pub candidateAt : History → List ℤ → List ℤ → ℕ → Candidate
+unfoldable pub candidateAt : History → List ℤ → List ℤ → ℕ → Coded
 candidateAt h xs cs i = tryCoefficients (c0At cs i) (c1At cs i) h xs
 
 -- of the pairs 0 to k: "the least sum of squared differences .. the lowest index among equals"

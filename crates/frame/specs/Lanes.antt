@@ -15,8 +15,8 @@ use Rattle.frame.specs.declared.lane.Lane.{Lane}
 use Rattle.frame.specs.declared.lanes.Lanes.{Lanes}
 use Rattle.frame.specs.declared.lanes.Pairs.{Pairs}
 use Rattle.frame.specs.declared.search.Seen.{Seen}
-use Rattle.frame.specs.declared.search.Trial.{Trial}
 use Rattle.frame.specs.declared.search.Candidate.{Candidate}
+use Rattle.frame.specs.declared.search.Coded.{Coded}
 use Rattle.frame.specs.Estimate.{weighted, maxZ, firstExponent}
 use Rattle.frame.specs.Quantise.{clamp4}
 use Rattle.frame.specs.Pass.{Bounded, residual, squareOf, passOf}
@@ -128,5 +128,5 @@ pub record LanesTell (h : History) (xs cs : List ℤ) (m : ℕ) (t : Lanes) : Ty
   pub tells : (k : ℕ) → k < 8 → Tells (c0At cs k) (c1At cs k) h xs (firstExponent (c0At cs k) (c1At cs k) h xs + m) (seenOf (laneAt t k) (firstExponent (c0At cs k) (c1At cs k) h xs + m))
 
 -- a candidate without its nibbles and samples
-abbrev pub trialOf : Candidate → Trial
-trialOf c = record { distance = c .distance; exponent = c .exponent; passes = c .passes }
+abbrev pub candidateOf : Coded → Candidate
+candidateOf c = record { distance = c .distance; exponent = c .exponent; passes = c .passes }

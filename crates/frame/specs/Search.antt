@@ -6,7 +6,7 @@ use lib.Dec.{eqb, leb, ltb}
 use lib.IntN.{ℤ}
 use Rattle.frame.specs.declared.History.{History}
 use Rattle.frame.specs.declared.pass.Pass.{Pass}
-use Rattle.frame.specs.declared.search.Candidate.{Candidate}
+use Rattle.frame.specs.declared.search.Coded.{Coded}
 use Rattle.frame.specs.Estimate.{firstExponent}
 use Rattle.frame.specs.Pass.{passOf}
 
@@ -24,11 +24,11 @@ unfoldable pub ends : ℕ → ℕ → Bool
 ends p o = eqb p 12 || leb o 1
 
 -- a finished pass with its exponent and the passes made
-unfoldable pub finished : Pass → ℕ → ℕ → Candidate
+unfoldable pub finished : Pass → ℕ → ℕ → Coded
 finished t p n = record { nibbles = t .nibbles; samples = t .samples; distance = t .distance; exponent = p; passes = n }
 
 -- from a pass with exponent p, with n passes made; k more at most: "the first pass that meets it ends the search; else p rises by 1 and another pass runs"
-unfoldable pub searchWithin : ℕ → ℤ → ℤ → History → List ℤ → ℕ → ℕ → Candidate
+unfoldable pub searchWithin : ℕ → ℤ → ℤ → History → List ℤ → ℕ → ℕ → Coded
 searchWithin zero c0 c1 h xs p n = finished (passOf c0 c1 h xs p) p n
 searchWithin (suc k) c0 c1 h xs p n =
     let t = passOf c0 c1 h xs p in
@@ -36,5 +36,5 @@ searchWithin (suc k) c0 c1 h xs p n =
     cond (ends q (t .overflow)) (finished t q (n + 1)) (searchWithin k c0 c1 h xs (q + 1) (n + 1))
 
 -- `try_coefficients`; "At most 13 passes" is never what ends it (`try-bound`)
-unfoldable pub tryCoefficients : ℤ → ℤ → History → List ℤ → Candidate
+unfoldable pub tryCoefficients : ℤ → ℤ → History → List ℤ → Coded
 tryCoefficients c0 c1 h xs = searchWithin 13 c0 c1 h xs (firstExponent c0 c1 h xs) 0

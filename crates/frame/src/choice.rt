@@ -2,7 +2,7 @@
 ghost use mathlib.Core.Path.{_≡_};
 ghost use Prim.Native.Nat.{_<_, _≤_, _-_};
 ghost use Rattle.frame.specs.Choice.{AllBounded, candidateAt, bestOf};
-ghost use Rattle.frame.specs.Lanes.{Firsts, LanesTell, Shown, laneAt, seenOf, trialOf};
+ghost use Rattle.frame.specs.Lanes.{Firsts, LanesTell, Shown, laneAt, seenOf, candidateOf};
 use crate::History;
 use crate::estimate::first_exponent;
 use crate::lanes::Lanes;
@@ -12,13 +12,13 @@ use crate::lanes::split;
 use crate::lanes::units_of;
 use crate::pass::run_pass;
 use crate::search::Candidate;
+use crate::search::Coded;
 use crate::search::Seen;
-use crate::search::Trial;
 use crate::search::try_coefficients;
 
 // The best candidate, its index, and the passes of all.
 pub(crate) struct Best {
-    pub candidate: Candidate,
+    pub candidate: Coded,
     pub index: u8,
     pub passes: u32,
 }
@@ -98,13 +98,13 @@ fn trial(
     known: Lanes,
     next: Lanes,
     k: usize,
-) -> Trial
+) -> Candidate
     requires { ⌜ AllBounded coefs ⌝ }
     requires { ⌜ Firsts history samples coefs firsts ⌝ }
     requires { ⌜ LanesTell history samples coefs 0 known ⌝ }
     requires { ⌜ LanesTell history samples coefs 1 next ⌝ }
     requires { ⌜ k < 8 ⌝ }
-    ensures { λ r. ⌜ r ≡ trialOf (candidateAt history samples coefs k) ⌝ }
+    ensures { λ r. ⌜ r ≡ candidateOf (candidateAt history samples coefs k) ⌝ }
 {
     let c0 = coefs[2 * k];
     let c1 = coefs[2 * k + 1];
@@ -125,12 +125,12 @@ fn finish(
     history: History,
     samples: [i16; 14],
     coefs: [i16; 16],
-    best: Trial,
+    best: Candidate,
     k: usize,
-) -> Candidate
+) -> Coded
     requires { ⌜ AllBounded coefs ⌝ }
     requires { ⌜ k < 8 ⌝ }
-    requires { ⌜ best ≡ trialOf (candidateAt history samples coefs k) ⌝ }
+    requires { ⌜ best ≡ candidateOf (candidateAt history samples coefs k) ⌝ }
     ensures { λ r. ⌜ r ≡ candidateAt history samples coefs k ⌝ }
 {
     let c0 = coefs[2 * k];
@@ -138,7 +138,7 @@ fn finish(
     let pass = run_pass(c0, c1, history, samples, best.exponent);
     let nibbles = pass.nibbles;
     let kept = pass.samples;
-    Candidate {
+    Coded {
         nibbles: nibbles,
         samples: kept,
         distance: best.distance,

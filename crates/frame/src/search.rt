@@ -4,12 +4,12 @@ ghost use Prim.Native.Nat.{_≤_, _<_, _+_};
 ghost use Rattle.frame.specs.Estimate.{firstExponent};
 ghost use Rattle.frame.specs.Pass.{Bounded, passOf};
 ghost use Rattle.frame.specs.Search.{raised, ends, tryCoefficients};
-ghost use Rattle.frame.specs.Lanes.{Tells, seenIn, trialOf};
+ghost use Rattle.frame.specs.Lanes.{Tells, seenIn, candidateOf};
 use crate::History;
 use crate::pass::run_pass;
 
-// What the search for one pair found.
-pub(crate) struct Candidate {
+// A candidate, and what a pass at its exponent gives.
+pub(crate) struct Coded {
     pub nibbles: [i8; 14],
     pub samples: [i16; 14],
     pub distance: u64,
@@ -17,8 +17,8 @@ pub(crate) struct Candidate {
     pub passes: u32,
 }
 
-// The same without what one more pass at its exponent gives.
-pub(crate) struct Trial {
+// What the search for one pair found.
+pub(crate) struct Candidate {
     pub distance: u64,
     pub exponent: u8,
     pub passes: u32,
@@ -106,12 +106,12 @@ pub(crate) fn try_coefficients(
     first: u8,
     known: Seen,
     next: Seen,
-) -> Trial
+) -> Candidate
     requires { ⌜ Bounded c0 c1 ⌝ }
     requires { ⌜ first ≡ firstExponent c0 c1 history samples ⌝ }
     requires { ⌜ Tells c0 c1 history samples first known ⌝ }
     requires { ⌜ Tells c0 c1 history samples (first + 1) next ⌝ }
-    ensures { λ r. ⌜ r ≡ trialOf (tryCoefficients c0 c1 history samples) ⌝ }
+    ensures { λ r. ⌜ r ≡ candidateOf (tryCoefficients c0 c1 history samples) ⌝ }
 {
     let mut p = first;
     let mut passes: u32 = 0;
@@ -120,7 +120,7 @@ pub(crate) fn try_coefficients(
         passes = passes + 1;
         let q = raise(p, pass.overflow);
         if is_last(q, pass.overflow) {
-            break Trial {
+            break Candidate {
                 distance: pass.distance,
                 exponent: q,
                 passes: passes,

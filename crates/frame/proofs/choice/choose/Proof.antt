@@ -6,11 +6,11 @@ use Prim.Native.Nat.{ℕ, _+_, _-_, _*_, _≤_, _<_}
 use native.Mathlib.Omega.{arith}
 use lib.IntN.{ℤ}
 use Rattle.frame.specs.declared.History.{History}
+use Rattle.frame.specs.declared.search.Coded.{Coded}
 use Rattle.frame.specs.declared.search.Candidate.{Candidate}
-use Rattle.frame.specs.declared.search.Trial.{Trial}
 use Rattle.frame.specs.declared.choice.Best.{Best}
 use Rattle.frame.specs.Choice.{candidateAt, bestOf}
-use Rattle.frame.specs.Lanes.{trialOf}
+use Rattle.frame.specs.Lanes.{candidateOf}
 use Rattle.frame.proofs.LawsSearch.{Shape}
 use Rattle.frame.proofs.LawsChoice.{candidate-shape, best-first, trial-taken, trial-left}
 use Rattle.frame.proofs.LawsChoice as Choice
@@ -23,14 +23,14 @@ Inv-loop history samples coefs firsts known next best₀ index₀ passes₀ i₀
     × (i ≤ 8)
     × (index < i)
     × (passes ≤ i * 13)
-    × (best ≡ trialOf (candidateAt history samples coefs index))
+    × (best ≡ candidateOf (candidateAt history samples coefs index))
     × (Choice.best (candidateAt history samples coefs index) index passes ≡ bestOf history samples coefs (i - 1))
 
 abbrev μ-loop : tie.MeasureT-loop
 μ-loop history samples coefs firsts known next best₀ index₀ passes₀ i₀ best index passes i = 8 - i
 
-few : (h : History) (xs cs : List ℤ) (t : Trial) (i : ℕ) → t ≡ trialOf (candidateAt h xs cs i) → t .passes ≤ 13
-few h xs cs t i e = omega (arith, ap (λ (w : Trial). w .passes) e, candidate-shape h xs cs i .passes-le)
+few : (h : History) (xs cs : List ℤ) (t : Candidate) (i : ℕ) → t ≡ candidateOf (candidateAt h xs cs i) → t .passes ≤ 13
+few h xs cs t i e = omega (arith, ap (λ (w : Candidate). w .passes) e, candidate-shape h xs cs i .passes-le)
 
 first-exponents-requires : tie.Need-first-exponents-requires Inv-loop μ-loop
 first-exponents-requires c κs = tt
@@ -53,7 +53,7 @@ loop-holds c =
       omega arith,
       omega (arith, few (s .history) (s .samples) (s .coefs) (c .trial .result) 0 e),
       e,
-      ap (λ (n : ℕ). Choice.best (candidateAt (s .history) (s .samples) (s .coefs) 0) 0 n) (ap (λ (w : Trial). w .passes) e) ∙ best-first (s .history) (s .samples) (s .coefs) (candidateAt (s .history) (s .samples) (s .coefs) 0) refl,
+      ap (λ (n : ℕ). Choice.best (candidateAt (s .history) (s .samples) (s .coefs) 0) 0 n) (ap (λ (w : Candidate). w .passes) e) ∙ best-first (s .history) (s .samples) (s .coefs) (candidateAt (s .history) (s .samples) (s .coefs) 0) refl,
     )
 
 trial-requires-2 : tie.Need-trial-requires-2 Inv-loop μ-loop
@@ -85,7 +85,7 @@ loop-again c =
     let i = l .loop .i in
     let less : i < 8 = a .before .loop-test .taken in
     let e = a .trial2 .ensures in
-    let step : (c .if1 .index < i + 1) × (c .if1 .best ≡ trialOf (candidateAt (s .history) (s .samples) (s .coefs) (c .if1 .index))) × (Choice.best (candidateAt (s .history) (s .samples) (s .coefs) (c .if1 .index)) (c .if1 .index) (l .loop .passes + new .passes) ≡ bestOf (s .history) (s .samples) (s .coefs) ((i + 1) - 1)) =
+    let step : (c .if1 .index < i + 1) × (c .if1 .best ≡ candidateOf (candidateAt (s .history) (s .samples) (s .coefs) (c .if1 .index))) × (Choice.best (candidateAt (s .history) (s .samples) (s .coefs) (c .if1 .index)) (c .if1 .index) (l .loop .passes + new .passes) ≡ bestOf (s .history) (s .samples) (s .coefs) ((i + 1) - 1)) =
     ⊎-elim
     (λ w. rw (w .1, w .2) (omega arith, e, trial-taken (s .history) (s .samples) (s .coefs) i new (l .loop .best) (l .loop .index) (l .loop .passes) (inv .0) e (inv .4) (inv .5) (w .0 .taken)))
     (λ w. rw (w .1, w .2) (omega (arith, inv .2), inv .4, trial-left (s .history) (s .samples) (s .coefs) i new (l .loop .best) (l .loop .index) (l .loop .passes) (inv .0) e (inv .4) (inv .5) (w .0 .left)))
@@ -112,7 +112,7 @@ returns c =
     let l = c .before .before in
     let s = l .before .before .before .before .before .args in
     let e : l .loop .i - 1 ≡ 7 = omega (arith, c .before .loop-test .left, l .loop .inv .1) in
-    ap (λ (d : Candidate). Choice.best d (l .loop .index) (l .loop .passes)) (c .finish .ensures) ∙ l .loop .inv .5 ∙ ap (bestOf (s .history) (s .samples) (s .coefs)) e
+    ap (λ (d : Coded). Choice.best d (l .loop .index) (l .loop .passes)) (c .finish .ensures) ∙ l .loop .inv .5 ∙ ap (bestOf (s .history) (s .samples) (s .coefs)) e
 
 pub choose-spec : {M : Type 1} → statement M
 choose-spec =

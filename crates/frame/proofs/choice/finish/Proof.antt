@@ -8,7 +8,7 @@ use lib.ListN.{getD}
 use mir.Syntax.{w16}
 use mir.Val.{SFits}
 use mir.Facts.{toZ-ofZ}
-use Rattle.frame.specs.declared.search.Trial.{Trial}
+use Rattle.frame.specs.declared.search.Candidate.{Candidate}
 use Rattle.frame.specs.Pass.{Bounded}
 use Rattle.frame.specs.Choice.{c0At, c1At, candidateAt}
 use Rattle.frame.proofs.LawsArrays.{Fit, array-fits}
@@ -56,7 +56,7 @@ run-pass-requires c κs =
     let s = c .before .before in
     let b = s .pre .0 .pair (s .args .k) (s .pre .1 .0) in (
       rw (toZ-ofZ (c0-fits (c .before)), toZ-ofZ (c1-fits c)) b,
-      omega (arith, ap (λ (t : Trial). t .exponent) (s .pre .1 .1), candidate-shape (s .args .history) (s .args .samples) (s .args .t3) (s .args .k) .exponent-le),
+      omega (arith, ap (λ (t : Candidate). t .exponent) (s .pre .1 .1), candidate-shape (s .args .history) (s .args .samples) (s .args .t3) (s .args .k) .exponent-le),
     )
 
 returns : tie.Need-returns

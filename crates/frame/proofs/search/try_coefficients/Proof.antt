@@ -8,13 +8,13 @@ use mir.Val.{SFits, toZ, ofZ}
 use mir.Facts.{toZ-ofZ}
 use Rattle.frame.specs.declared.History.{History}
 use Rattle.frame.specs.declared.pass.Pass.{Pass}
-use Rattle.frame.specs.declared.search.Candidate.{Candidate}
+use Rattle.frame.specs.declared.search.Coded.{Coded}
 use Rattle.frame.specs.declared.search.Seen.{Seen}
-use Rattle.frame.specs.declared.search.Trial.{Trial}
+use Rattle.frame.specs.declared.search.Candidate.{Candidate}
 use Rattle.frame.specs.Estimate.{firstExponent}
 use Rattle.frame.specs.Pass.{Bounded, passOf}
 use Rattle.frame.specs.Search.{raised, ends, finished, searchWithin, tryCoefficients}
-use Rattle.frame.specs.Lanes.{trialOf}
+use Rattle.frame.specs.Lanes.{candidateOf}
 use Rattle.frame.proofs.LawsArrays.{Fit, array-fits}
 use Rattle.frame.proofs.LawsEstimate.{first-le}
 use Rattle.frame.proofs.LawsPass.{FitHistory, overflow-le}
@@ -31,7 +31,7 @@ Inv-loop c0 c1 history samples first known next p₀ passes₀ p passes =
 abbrev μ-loop : tie.MeasureT-loop
 μ-loop c0 c1 history samples first known next p₀ passes₀ p passes = 12 - p
 
-abbrev trial : ℕ → ℕ → ℕ → Trial
+abbrev trial : ℕ → ℕ → ℕ → Candidate
 trial d p n = record { distance = d; exponent = p; passes = n }
 
 -- the coefficients, as the code reads them
@@ -114,7 +114,7 @@ returns c =
     let n = l .loop .passes + 1 in
     rw (toZ-ofZ (f .c0), toZ-ofZ (f .c1)) at
     (ap (λ (t : Seen). trial (t .distance) q n) (a .before .before .look .ensures)
-    ∙ ap trialOf (search-last (a0 l) (a1 l) _ _ (l .loop .p) (l .loop .passes) q _ (omega arith) (raise-is (a .before)) (l .loop .inv .2) (sym (test-is a) ∙ c .if1 .taken)))
+    ∙ ap candidateOf (search-last (a0 l) (a1 l) _ _ (l .loop .p) (l .loop .passes) q _ (omega arith) (raise-is (a .before)) (l .loop .inv .2) (sym (test-is a) ∙ c .if1 .taken)))
 
 pub try-coefficients-spec : {M : Type 1} → statement M
 try-coefficients-spec =
