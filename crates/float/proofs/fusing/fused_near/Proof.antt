@@ -1,13 +1,11 @@
 -- `fused_near` meets its contract. Assumes nothing.
-use mathlib.Core.Path.{_≡_, sym, ap, _∙_, subst}
-use Prim.Native.Nat.{ℕ, _+_, _-_, _*_, _%_, _/_, _^_, _≤_, _<_}
-use native.Mathlib.Nat.{mod-lt}
+use mathlib.Core.Path.{_≡_}
+use Prim.Native.Nat.{ℕ, _+_, _-_, _*_, _^_, _≤_, _<_}
 use borrow.Author.Needs.{needs}
 use native.Mathlib.Omega.{arith}
 use lib.Dec.{leb}
-use lib.Pow.{pow-pos}
 use lib.Ieee.{binary64, ofBits}
-use Rattle.float.specs.Split.{Near, Split}
+use Rattle.float.specs.Split.{Split}
 use Rattle.float.specs.Wide.{wide}
 use Rattle.float.proofs.Align.{word-most}
 use Rattle.float.proofs.Apart.{normal-split, near-p, near-w, near-law}

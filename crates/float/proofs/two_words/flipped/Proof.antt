@@ -1,7 +1,7 @@
 -- `flipped` meets its contract. Assumes nothing.
-use mathlib.Core.Path.{_≡_, sym, ap}
+use mathlib.Core.Path.{sym, ap}
 use mathlib.Core.Bool.{Bool, cond}
-use Prim.Native.Nat.{ℕ, _-_}
+use Prim.Native.Nat.{_-_}
 use borrow.Author.Needs.{needs}
 use Rattle.float.proofs.two_words.flipped.Statement.{statement}
 use Rattle.float.proofs.two_words.flipped.Tie as tie

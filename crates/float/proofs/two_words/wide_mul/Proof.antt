@@ -1,5 +1,5 @@
 -- `wide_mul` meets its contract. Assumes nothing.
-use mathlib.Core.Path.{_≡_, ap, _∙_}
+use mathlib.Core.Path.{ap, _∙_}
 use Prim.Native.Nat.{ℕ, _+_, _*_, _/_, _%_, _^_}
 use native.Mathlib.Nat.{le-add-right, mod-lt}
 use borrow.Author.Needs.{needs}
