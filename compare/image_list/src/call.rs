@@ -15,6 +15,10 @@ pub enum Call {
         k: u32,
         room: usize,
     },
+    /// Plays all blocks.
+    PlayAll {
+        room: usize,
+    },
     Same,
     /// Compares the second image with the first.
     Reversed,
@@ -26,6 +30,7 @@ impl Call {
             Self::Open => 'o',
             Self::Body { .. } => 'k',
             Self::Play { .. } => 'p',
+            Self::PlayAll { .. } => 'a',
             Self::Same => 's',
             Self::Reversed => 'r',
         }
@@ -36,6 +41,7 @@ impl Call {
         match self {
             Self::Body { k } => (k, 0),
             Self::Play { k, room } => (k, room),
+            Self::PlayAll { room } => (0, room),
             _ => (0, 0),
         }
     }
@@ -45,7 +51,12 @@ impl Call {
         match self {
             Self::Open => opened(first),
             Self::Body { k } => body(first, k as usize),
-            Self::Play { k, room } => played(first, k as usize, room),
+            Self::Play { k, room } => {
+                played(room, open(first).and_then(|image| image.play(k as usize, room)))
+            }
+            Self::PlayAll { room } => {
+                played(room, open(first).and_then(|image| image.play_all(room)))
+            }
             Self::Same => compared(first, second),
             Self::Reversed => compared(second, first),
         }
@@ -75,9 +86,8 @@ fn body(image: &[u8], k: usize) -> String {
     }
 }
 
-fn played(image: &[u8], k: usize, room: usize) -> String {
+fn played(room: usize, played: Result<(Vec<i16>, FrameContext), u8>) -> String {
     let mut output = vec![0x5a5a; room];
-    let played = open(image).and_then(|opened| opened.play(k, room));
     let (code, count, context) = match played {
         Ok((samples, after)) => {
             output[..samples.len()].copy_from_slice(&samples);

@@ -4,6 +4,7 @@ use crate::call::Call;
 use crate::case::Case;
 use crate::damage::block_count;
 use crate::made::{Clip, any_image, clip_image};
+use crate::reader::long;
 use crate::refusals::refusals;
 use crate::sameness::sameness;
 use crate::writer::Writer;
@@ -15,7 +16,7 @@ pub fn cases() -> Vec<Case> {
     let mut random = Random::new(1);
     let mut cases = vec![worked()];
     cases.extend(lengths(&mut random));
-    cases.extend(long(&mut random));
+    cases.extend(longer(&mut random));
     cases.extend(limits(&mut random));
     cases.extend(any(&mut random));
     cases.extend(rooms(&mut random));
@@ -29,11 +30,11 @@ fn worked() -> Case {
     let start =
         Start { total: 1, rate: 32_000, size: 15, gain: 0, coefficients: [0; 16], history: [0; 2] };
     let mut case = Writer::new(&image_of(&start, &[&[9]]));
-    case.open().block(0, 1).block(1, 1).both_ways();
+    case.open().block(0, 1).block(1, 1).all(1).both_ways();
     case.finish()
 }
 
-/// Opens an image that other bytes may follow, and reads each block, with room to spare or a sample short, and numbers behind the last.
+/// Opens an image that other bytes may follow, and plays each block and all, with room to spare or a sample short, and numbers behind the last.
 fn read(random: &mut Random, image: &[u8]) -> Case {
     let after = (0..random.below_one(&[1, 30])).map(|_| random.bits() as u8);
     let image: Vec<_> = image.iter().copied().chain(after).collect();
@@ -47,6 +48,11 @@ fn read(random: &mut Random, image: &[u8]) -> Case {
     let k = random.below(blocks as usize) as u32;
     let room = case.samples(k) - 1;
     case.call(Call::Play { k, room });
+    let total = long(&image, 4) as usize;
+    case.all(total + random.below_one(&[1, 5]));
+    if random.below(4) == 0 {
+        case.all(total - 1);
+    }
     case.block(blocks, random.below(4));
     let k = [blocks + 1, u32::MAX][random.below(2)];
     case.call([Call::Body { k }, Call::Play { k, room: 1 }][random.below(2)]);
@@ -66,7 +72,7 @@ fn lengths(random: &mut Random) -> Vec<Case> {
 }
 
 /// Longer clips, of many blocks and of one.
-fn long(random: &mut Random) -> Vec<Case> {
+fn longer(random: &mut Random) -> Vec<Case> {
     let mut cases = vec![];
     for (size, totals) in [
         (8, [57, 99]),
@@ -111,13 +117,16 @@ fn any(random: &mut Random) -> Vec<Case> {
     cases
 }
 
-/// A block played with every room.
+/// A block, and all of them, played with every room.
 fn rooms(random: &mut Random) -> Vec<Case> {
     let mut cases = vec![];
-    for (total, size, k) in [(1, 8, 0), (17, 8, 1), (16, 16, 0), (31, 16, 0)] {
+    for (total, size, k) in [(1, 8, 0), (17, 8, 1), (31, 16, 0)] {
         let mut case = Writer::new(&clip_image(random, total, size));
         for room in 0..case.samples(k) + 3 {
             case.call(Call::Play { k, room });
+        }
+        for room in 0..total + 3 {
+            case.all(room);
         }
         cases.push(case.finish());
     }

@@ -3,8 +3,8 @@
 //! There are two images. A line of a list has 56 bytes: a letter, a record of 27 bytes in hexadecimal digits, and the line's end.
 //! `b`, `f` and `g` put bytes into both images, the first or the second: 0 their place (two bytes), 2 how many, 3 the bytes. The
 //! others are calls: 0 and 2 the lengths of the two images that are lent (two bytes each), 4 the block's number (four bytes), 8 the
-//! output's length (two bytes). `o` opens the first image, `k` finds the body of a block of it, `p` plays that block, `s` compares the
-//! first image with the second, `r` the second with the first.
+//! output's length (two bytes). `o` opens the first image, `k` finds the body of a block of it, `p` plays that block, `a` plays all
+//! blocks, `s` compares the first image with the second, `r` the second with the first.
 //!
 //! A line answers each call: 00 or the refusal's number; then N, rate, B, coefficients, gain and K, zeros where opening is refused;
 //! the body, if there is one; the count, the context and the whole output, which holds 5A in each byte at first; or 1 where the images

@@ -4,6 +4,7 @@ use crate::call::Call;
 use crate::case::{Case, MOST_ROOM};
 use crate::damage::{block_count, damaged, with_nibble};
 use crate::made::{Clip, any_image};
+use crate::reader::long;
 use crate::writer::Writer;
 use clip_list::{random_samples, random_start};
 use oracle::random::Random;
@@ -49,7 +50,7 @@ fn altered(random: &mut Random, clip: &Clip, image: &[u8]) -> Vec<u8> {
     }
 }
 
-/// Finds and plays a block, with any room, or one that there is not.
+/// Finds and plays a block, with any room, or one that there is not; and plays all.
 fn read(random: &mut Random, case: &mut Writer, image: &[u8]) {
     let blocks = block_count(image);
     let k = match random.below(8) {
@@ -61,5 +62,9 @@ fn read(random: &mut Random, case: &mut Writer, image: &[u8]) {
         0 => random.below(needed),
         _ => needed + random.below_one(&[1, 20]),
     };
-    case.block(k, room.min(MOST_ROOM));
+    case.block(k, room);
+    if random.below(2) == 0 {
+        let total = (long(image, 4) as usize).saturating_add_signed(random.within(2) as isize);
+        case.all(total.min(MOST_ROOM));
+    }
 }

@@ -33,9 +33,9 @@ fn altered_bytes(random: &mut Random) -> Vec<Case> {
         for place in 0..table(&image) {
             let other = image[place] ^ (1 + random.below(255) as u8);
             let k = random.below(rooms.len());
-            let way = [Call::Same, Call::Reversed][random.below(2)];
-            case.first(&with(&image, place, &[other])).open();
-            case.call(Call::Play { k: k as u32, room: rooms[k] }).call(way);
+            let play = Call::Play { k: k as u32, room: rooms[k] };
+            let play = [play, Call::PlayAll { room: total }][random.below(2)];
+            case.first(&with(&image, place, &[other])).open().call(play).one_way(random);
         }
         cases.push(case.finish());
     }
@@ -77,7 +77,7 @@ fn no_samples(random: &mut Random) -> Case {
     let none = with(&with(&image, 4, &[0; 4]), 52, &[0; 4]);
     let mut case = Writer::new(&image);
     for len in [HEAD, HEAD + 1, image.len()] {
-        case.first(&none[..len]).open().block(0, 0).both_ways();
+        case.first(&none[..len]).open().block(0, 0).all(0).both_ways();
     }
     case.finish()
 }
@@ -94,7 +94,7 @@ fn shortened(random: &mut Random) -> Vec<Case> {
         let some = [0, 1, 4, 55, 56, 57, table(&image) - 1, table(&image), table(&image) + 1];
         let near = image.len() - 9..=longer.len();
         for len in some.into_iter().chain(near) {
-            case.first(&longer[..len]).open().block(k, room).both_ways();
+            case.first(&longer[..len]).open().block(k, room).all(total).one_way(random);
         }
         cases.push(case.finish());
     }
@@ -118,8 +118,11 @@ fn for_many_reasons(random: &mut Random) -> Case {
             image[PAIRS..PAIRS + 4].copy_from_slice(&LOWEST);
         }
         let k = if is_bad(3) { 2 } else { 0 };
-        let room = if is_bad(4) { 27 } else { 28 };
-        case.first(&image).open().block(k, room).both_ways();
+        let less = usize::from(is_bad(4));
+        case.first(&image).block(k, 28 - less).all(29 - less);
+        if bad < 8 {
+            case.open().both_ways();
+        }
     }
     case.finish()
 }
@@ -135,7 +138,7 @@ fn lowest_pairs(random: &mut Random) -> Case {
             .map(|pair| with(&image, PAIRS, &pair)),
     );
     for altered in altered {
-        case.first(&altered).open().block(1, 1).both_ways();
+        case.first(&altered).open().block(1, 1).all(29).both_ways();
     }
     case.finish()
 }

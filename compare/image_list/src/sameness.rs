@@ -1,6 +1,5 @@
 //! Images that are compared, of the fixed list.
 
-use crate::call::Call;
 use crate::case::Case;
 use crate::damage::{ENTRY, HEAD, table};
 use crate::made::{Clip, any_image, clip_image, with};
@@ -56,8 +55,7 @@ fn nibbles(random: &mut Random) -> Vec<Case> {
                 if (place - bodies) % block == 0 {
                     altered[HEAD + ENTRY * ((place - bodies) / block) + 9] = other;
                 }
-                let way = [Call::Same, Call::Reversed][random.below(2)];
-                case.first(&altered).call(way);
+                case.first(&altered).one_way(random);
             }
         }
         cases.push(case.finish());

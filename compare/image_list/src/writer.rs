@@ -4,6 +4,7 @@ use crate::call::Call;
 use crate::case::{Case, LINE, Machine, Step, To};
 use crate::reader::open;
 use oracle::address_to_sample;
+use oracle::random::Random;
 
 /// A case that is being written, the bytes that were put, and the lengths that are lent.
 #[derive(Default)]
@@ -54,9 +55,19 @@ impl Writer {
         self.call(Call::Body { k }).call(Call::Play { k, room })
     }
 
+    /// Plays all blocks with a room.
+    pub fn all(&mut self, room: usize) -> &mut Self {
+        self.call(Call::PlayAll { room })
+    }
+
     /// Compares both ways.
     pub fn both_ways(&mut self) -> &mut Self {
         self.call(Call::Same).call(Call::Reversed)
+    }
+
+    /// Compares one of both ways.
+    pub fn one_way(&mut self, random: &mut Random) -> &mut Self {
+        self.call([Call::Same, Call::Reversed][random.below(2)])
     }
 
     /// The samples of block k of the first image; 3 where there is none.

@@ -1,9 +1,10 @@
 // Replays a list of calls on two images of which the answers are known. A line of the input is a letter and a record of 27 bytes in
 // hexadecimal digits of lower case. b, f and g put bytes into both images, the first or the second: 0 their place (two bytes), 2 how many,
 // 3 the bytes. The others are calls: 0 and 2 the lengths of the two images that are lent (two bytes each), 4 the block's number (four
-// bytes), 8 the output's length (two bytes). o opens the first image, k finds the body of a block of it, p plays that block, s compares
-// the first with the second, r the second with the first. A call is answered by a line: 00 or the refusal's number; then the head's
-// values, the body, the count, the context and the whole output, which has 5A in each byte at first, or 1 where the images are the same.
+// bytes), 8 the output's length (two bytes). o opens the first image, k finds the body of a block of it, p plays that block, a plays all
+// blocks, s compares the first with the second, r the second with the first. A call is answered by a line: 00 or the refusal's number;
+// then the head's values, the body, the count, the context and the whole output, which has 5A in each byte at first, or 1 where the images
+// are the same.
 mod numbers;
 mod record;
 mod text;
@@ -12,6 +13,7 @@ ghost use mathlib.Core.Path.{_≡_};
 ghost use lib.ListN.{length};
 use image::Answer;
 use image::PlayAnswer;
+use image::Playback;
 use image::SameAnswer;
 use numbers::least;
 use record::double_word;
@@ -58,8 +60,16 @@ fn print_value(code: u32, value: u64) {
     print_field(value, 8);
 }
 
-fn play_to(image: &[u8], k: u32, out: &mut [i16]) {
-    let done = image::play(image, k, out);
+// Plays a block, or all.
+fn played(letter: u8, image: &[u8], k: u32, out: &mut [i16]) -> Playback {
+    if letter == b'p' {
+        return image::play(image, k, out);
+    }
+    image::play_all(image, out)
+}
+
+fn play_to(letter: u8, image: &[u8], k: u32, out: &mut [i16]) {
+    let done = played(letter, image, k, out);
     let answer = done.answer;
     let context = done.context;
     match answer {
@@ -70,10 +80,10 @@ fn play_to(image: &[u8], k: u32, out: &mut [i16]) {
     print_samples(out);
 }
 
-fn play(image: &[u8], k: u32, room: usize) {
+fn play(letter: u8, image: &[u8], k: u32, room: usize) {
     let n = least(room, 512);
     let mut out = fresh_samples();
-    play_to(image, k, &mut out[..n]);
+    play_to(letter, image, k, &mut out[..n]);
 }
 
 fn same(first: &[u8], second: &[u8]) {
@@ -92,8 +102,8 @@ fn call(letter: u8, record: &[u8; 27], first: &[u8], second: &[u8]) -> bool {
         open(first);
     } else if letter == b'k' {
         body(first, k);
-    } else if letter == b'p' {
-        play(first, k, word(record, 8) as usize);
+    } else if letter == b'p' || letter == b'a' {
+        play(letter, first, k, word(record, 8) as usize);
     } else if letter == b's' {
         same(first, second);
     } else {

@@ -35,9 +35,13 @@ fn body(image: &[u8], k: u32) -> String {
     }
 }
 
-fn played(image: &[u8], k: u32, room: usize) -> String {
+/// Plays a block, or all.
+fn played(image: &[u8], k: Option<u32>, room: usize) -> String {
     let mut out = vec![0x5a5a; room];
-    let played = Image::open(image).and_then(|image| image.play_block(k, &mut out));
+    let played = Image::open(image).and_then(|image| match k {
+        Some(k) => image.play_block(k, &mut out),
+        None => image.play_into(&mut out),
+    });
     let code = played.err().map_or(0, Refusal::number);
     let (count, context) =
         played.map_or((0, FrameContext::default()), |it| (it.samples, it.context));
@@ -72,7 +76,8 @@ fn take(images: &mut [Vec<u8>; 2], letter: &str, record: &[u8]) -> Option<String
     Some(match letter {
         "o" => opened(first),
         "k" => body(first, k),
-        "p" => played(first, k, room),
+        "p" => played(first, Some(k), room),
+        "a" => played(first, None, room),
         "s" => compared(first, second),
         _ => compared(second, first),
     })
