@@ -157,7 +157,7 @@ module _ (ts : List VectorTerms) (n : ℕ) (b : Record) (val : Float) (sv : AllS
 
   leads : (k : ℕ) → k < n → Leads plain n (λ j h. plain-at j h .is) (suc k) (leadOf ts (plainSide b val) (suc k))
   unfolding leadOf
-  leads zero h = leads-first plain n (λ j h. plain-at j h .is) _ far-own (far (plain-at 0 h) (lit≤ tt))
+  leads zero h = leads-first plain n (λ j h. plain-at j h .is) _ far-own far-own (far (plain-at 0 h) (lit≤ tt))
   leads (suc k) h = leads-next plain n (λ j h. plain-at j h .is) (suc k) _ h (leads k (omega arith))
 
   -- no other place i than that of the least plain one has an exact one that is as small

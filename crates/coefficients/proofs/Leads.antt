@@ -10,11 +10,24 @@ use Rattle.float.proofs.Counts.{Own, over, under, lt-true, lt-false}
 use Rattle.coefficients.specs.declared.clusters.Best.{Best}
 use Rattle.coefficients.specs.declared.filter.Lead.{Lead}
 use Rattle.coefficients.specs.Clusters.{better}
-use Rattle.coefficients.specs.Filtered.{closer}
+use Rattle.coefficients.specs.Filtered.{closer, lower}
 
 -- x is at most y
 abbrev pub Below : Float → Float → Type 0
 Below x y = over binary64 x + under binary64 y ≤ over binary64 y + under binary64 x
+
+record Lower (a b : Float) : Type 0 where
+  own : Own binary64 (lower a b)
+  first : Below (lower a b) a
+  other : Below (lower a b) b
+
+lower-is : (a b : Float) → Own binary64 a → Own binary64 b → Lower a b
+unfolding lower
+lower-is a b v w = go (lt a b) refl
+  where
+    go : (t : Bool) → lt a b ≡ t → Lower a b
+    go true e = let h = lt-true binary64 a b v w e in record { own = rw e v; first = rw e (omega arith); other = rw e (omega arith) }
+    go false e = let h = lt-false binary64 a b v w e in record { own = rw e w; first = rw e (omega arith); other = rw e (omega arith) }
 
 -- among the first k of the numbers c
 module _ (c : ℕ → Float) (n : ℕ) (own : (j : ℕ) → j < n → Own binary64 (c j)) where
@@ -51,51 +64,42 @@ module _ (c : ℕ → Float) (n : ℕ) (own : (j : ℕ) → j < n → Own binary
           let a = lt-false binary64 (c k) (l .value) (own k h) v e in
           record { place = omega arith; value = r .value; all = λ j g. elim (ℕ-discrete j k) [ yes p ↦ rw p (omega arith) | no q ↦ r .all j (lt-of-le-ne (omega arith) q) ] }
 
-  pub leads-first : (l : Lead) → Own binary64 (l .least) → lt (c 0) (l .least) ≡ true → Leads 1 (closer l (c 0) 0)
+  pub leads-first : (l : Lead) → Own binary64 (l .least) → Own binary64 (l .second) → lt (c 0) (l .least) ≡ true → Leads 1 (closer l (c 0) 0)
   unfolding closer
-  leads-first l v e = rw e (record {
+  leads-first l v w e = rw e (record {
     place = omega arith;
     value = refl;
     all = λ j h. let z : j ≡ 0 = omega arith in rw z (omega arith);
     others = λ j h q. absurd (q (omega arith));
-    own2 = v;
+    own2 = lower-is (l .least) (l .second) v w .own;
   })
 
   pub leads-next : (k : ℕ) (l : Lead) → k < n → Leads k l → Leads (suc k) (closer l (c k) k)
   unfolding closer
-  leads-next k l h r = go (lt (c k) (l .least)) (lt (c k) (l .second)) refl refl
+  leads-next k l h r = go (lt (c k) (l .least)) refl
     where
       v : Own binary64 (l .least)
       v = rw (r .value) (own (l .index) (omega arith))
 
-      go : (t w : Bool) → lt (c k) (l .least) ≡ t → lt (c k) (l .second) ≡ w
-          → Leads (suc k) (cond t (record { least = c k; second = l .least; index = k }) (cond w (record { least = l .least; second = c k; index = l .index }) l))
-      go true w e d =
+      go : (t : Bool) → lt (c k) (l .least) ≡ t
+          → Leads (suc k) (cond t (record { least = c k; second = lower (l .least) (l .second); index = k }) (record { least = l .least; second = lower (c k) (l .second); index = l .index }))
+      go true e =
           let a = lt-true binary64 (c k) (l .least) (own k h) v e in
+          let s = lower-is (l .least) (l .second) v (r .own2) in
           record {
             place = omega arith;
             value = refl;
             all = λ j g. elim (ℕ-discrete j k) [ yes p ↦ rw p (omega arith) | no q ↦ omega (arith, r .all j (lt-of-le-ne (omega arith) q)) ];
-            others = λ j g q. r .all j (lt-of-le-ne (omega arith) q);
-            own2 = v;
+            others = λ j g q. omega (arith, r .all j (lt-of-le-ne (omega arith) q), s .first);
+            own2 = s .own;
           }
-      go false true e d =
+      go false e =
           let a = lt-false binary64 (c k) (l .least) (own k h) v e in
-          let b = lt-true binary64 (c k) (l .second) (own k h) (r .own2) d in
+          let s = lower-is (c k) (l .second) (own k h) (r .own2) in
           record {
             place = omega arith;
             value = r .value;
             all = λ j g. elim (ℕ-discrete j k) [ yes p ↦ rw p (omega arith) | no q ↦ r .all j (lt-of-le-ne (omega arith) q) ];
-            others = λ j g i. elim (ℕ-discrete j k) [ yes p ↦ rw p (omega arith) | no q ↦ omega (arith, r .others j (lt-of-le-ne (omega arith) q) i) ];
-            own2 = own k h;
-          }
-      go false false e d =
-          let a = lt-false binary64 (c k) (l .least) (own k h) v e in
-          let b = lt-false binary64 (c k) (l .second) (own k h) (r .own2) d in
-          record {
-            place = omega arith;
-            value = r .value;
-            all = λ j g. elim (ℕ-discrete j k) [ yes p ↦ rw p (omega arith) | no q ↦ r .all j (lt-of-le-ne (omega arith) q) ];
-            others = λ j g i. elim (ℕ-discrete j k) [ yes p ↦ rw p (omega arith) | no q ↦ r .others j (lt-of-le-ne (omega arith) q) i ];
-            own2 = r .own2;
+            others = λ j g i. elim (ℕ-discrete j k) [ yes p ↦ rw p (s .first) | no q ↦ omega (arith, r .others j (lt-of-le-ne (omega arith) q) i, s .other) ];
+            own2 = s .own;
           }

@@ -41,11 +41,15 @@ plainSide b val = record { twice = f2 *f val; last = f2 *f (neg (b .v1) *f val +
 unfoldable pub plainContrast : VectorTerms → Side → Float
 plainContrast v s = s .last *f v .val3 +f (s .twice *f v .val2 +f v .val1)
 
+-- the lower of two numbers
+unfoldable pub lower : Float → Float → Float
+lower a b = cond (lt a b) a b
+
 -- the least, the place it was found at, and the least of the others
 unfoldable pub closer : Lead → Float → ℕ → Lead
 closer l t i =
-    cond (lt t (l .least)) (record { least = t; second = l .least; index = i })
-    (cond (lt t (l .second)) (record { least = l .least; second = t; index = l .index }) l)
+    cond (lt t (l .least)) (record { least = t; second = lower (l .least) (l .second); index = i })
+    (record { least = l .least; second = lower t (l .second); index = l .index })
 
 unfoldable pub leadOf : List VectorTerms → Side → ℕ → Lead
 leadOf vs s zero = record { least = fE30; second = fE30; index = 0 }

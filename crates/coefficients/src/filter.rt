@@ -70,23 +70,27 @@ fn plain_contrast(v: VectorTerms, s: Side) -> f64
     s.last * v.val3 + (s.twice * v.val2 + v.val1)
 }
 
+fn lower(a: f64, b: f64) -> f64
+    ensures { λ r. ⌜ r ≡ Filtered.lower a b ⌝ }
+{
+    if a < b { a } else { b }
+}
+
 fn closer(l: Lead, t: f64, i: usize) -> Lead
     ensures { λ r. ⌜ r ≡ Filtered.closer l t i ⌝ }
 {
     if t < l.least {
         Lead {
             least: t,
-            second: l.least,
+            second: lower(l.least, l.second),
             index: i,
         }
-    } else if t < l.second {
+    } else {
         Lead {
             least: l.least,
-            second: t,
+            second: lower(t, l.second),
             index: l.index,
         }
-    } else {
-        l
     }
 }
 

@@ -16,11 +16,11 @@ pub(crate) struct Vec3 {
     pub x2: f64,
 }
 
-// The parts of a contrast that depend on the vector alone.
+// The parts of a contrast that depend on the vector alone: the two that are multiplied stand side by side.
 pub(crate) struct VectorTerms {
-    pub val1: f64,
     pub val2: f64,
     pub val3: f64,
+    pub val1: f64,
 }
 
 // Those that depend on the record alone.

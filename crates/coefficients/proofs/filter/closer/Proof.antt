@@ -5,15 +5,11 @@ use Rattle.coefficients.proofs.filter.closer.Tie as tie
 
 returns : tie.Need-returns
 unfolding closer
-returns c = simp (c .if1 .taken)
+returns c = simp (c .before .if1 .taken, ← c .lower .ensures)
 
 returns-2 : tie.Need-returns-2
 unfolding closer
-returns-2 c = simp (c .before .before .if1 .left, c .if2 .taken)
-
-returns-3 : tie.Need-returns-3
-unfolding closer
-returns-3 c = simp (c .before .before .if1 .left, c .if2 .left)
+returns-2 c = simp (c .before .if1 .left, ← c .lower2 .ensures)
 
 pub closer-spec : {M : Type 1} → statement M
-closer-spec = tie.close (tie.spec returns returns-2 returns-3)
+closer-spec = tie.close (tie.spec (λ _ _. tt) (λ _ _. tt) returns returns-2)
