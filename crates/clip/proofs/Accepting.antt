@@ -13,11 +13,14 @@ use Rattle.clip.specs.declared.Answer.the-variants.{Accepted, Refused}
 use Rattle.clip.specs.declared.Encoder.{Encoder}
 use Rattle.clip.specs.declared.Refusal.{Refusal}
 use Rattle.clip.specs.declared.Refusal.the-variants.{InvalidState, BadSampleCount, RateZero, BadBlockSize, CoefficientOutside, ImageTooShort, AlreadyClosed, PieceTooLong, Unfinished}
-use Rattle.clip.specs.Sizes.{sizeOf, cutDown}
+use Rattle.layout.specs.Sizes.{sizeOf, cutDown}
 use Rattle.whole.specs.Frames.{most}
-use Rattle.clip.specs.Encoding.{totalOk, blockOk, numbersOk, validOf, startAnswer, feedAnswer, closeAnswer}
-use Rattle.clip.specs.Facts.{Limits, Going, Whole}
-use Rattle.clip.proofs.Sound.{both-true, rate-some, sound}
+use Rattle.layout.specs.Limits.{totalOk, blockOk, numbersOk}
+use Rattle.clip.specs.Encoding.{validOf, startAnswer, feedAnswer, closeAnswer}
+use Rattle.layout.specs.Limits.{Limits}
+use Rattle.clip.specs.Facts.{Going, Whole}
+use Rattle.layout.proofs.Numbers.{both-true, rate-some}
+use Rattle.clip.proofs.Sound.{sound}
 
 pub never : {r : Refusal} → _≡_ {A = Answer} (Refused r) Accepted → ⊥
 never p = let z : _≡_ {A = ℕ} 0 1 = cc in omega arith

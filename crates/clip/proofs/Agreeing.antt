@@ -15,10 +15,10 @@ use Rattle.frame.specs.Frame.{encodeFrame, historyAfter}
 use Rattle.frame.specs.declared.EncodedFrame.{EncodedFrame}
 use Rattle.frame.proofs.LawsEncoded.{frame-lengths}
 use Rattle.clip.specs.declared.Encoder.{Encoder}
-use Rattle.clip.specs.Sizes.{lastOf, bodyOf, sizeOf}
-use Rattle.clip.specs.Image.{mark}
+use Rattle.layout.specs.Sizes.{lastOf, bodyOf, sizeOf}
+use Rattle.layout.specs.Fields.{mark}
 use Rattle.clip.specs.Encoding.{Both, both, storeOf, moved, noFrame, pushOf, pieceOf, endOf}
-use Rattle.clip.specs.Facts.{Limits}
+use Rattle.layout.specs.Limits.{Limits}
 use Rattle.clip.proofs.Storing.{full-frame}
 use Rattle.clip.proofs.Pieces.{store-length}
 use Rattle.clip.proofs.Due.{Due, due-earlier, due-within, store-same, store-due, store-leaves, mark-same, mark-leaves}
@@ -34,9 +34,6 @@ pub record Agree (e : Encoder) (l m : List ℕ) : Type 0 where
 
 pub agree-refl : (e : Encoder) (l : List ℕ) → Agree e l l
 agree-refl e l = record { size = refl; bytes = λ i. inl refl }
-
-pub agree-sym : (e : Encoder) (l m : List ℕ) → Agree e l m → Agree e m l
-agree-sym e l m a = record { size = sym (a .size); bytes = λ i. elim (a .bytes i) [ inl p ↦ inl (sym p) | inr o ↦ inr o ] }
 
 pub agree-trans : (e : Encoder) (l m k : List ℕ) → Agree e l m → Agree e m k → Agree e l k
 agree-trans e l m k a b =

@@ -13,13 +13,15 @@ use lib.ListN.{length, take, replicate, getD, length-append, length-replicate}
 use lib.Seq.{sets, take-append-le, take-append-add, take-all, length-take-le}
 use Rattle.whole.proofs.Stores.{sets-right-at, sets-left, fill, fill-set}
 use Rattle.frame.specs.Frame.{withinLimits}
-use Rattle.clip.specs.Sizes.{blocksOf, bodyOf, sizeOf}
+use Rattle.layout.specs.Sizes.{blocksOf, bodyOf, sizeOf}
 use Rattle.whole.specs.Frames.{framesOf}
-use Rattle.clip.specs.Image.{mark, noMark, headOf, contextBytes, noContext, tableOf}
-use Rattle.clip.specs.Encoding.{placeOf, contextPlace, storeOf}
-use Rattle.clip.specs.Facts.{Limits}
+use Rattle.layout.specs.Fields.{mark, noMark}
+use Rattle.clip.specs.Image.{headOf, contextBytes, noContext, tableOf}
+use Rattle.layout.specs.Sizes.{placeOf, contextPlace}
+use Rattle.clip.specs.Encoding.{storeOf}
+use Rattle.layout.specs.Limits.{Limits}
 use Rattle.clip.specs.Runs.{Start, historyAt, encodedAt, bodiesOf, contextAt, doneOf, imageOf}
-use Rattle.clip.proofs.Sizing.{first-block}
+use Rattle.layout.proofs.Sizing.{first-block}
 use Rattle.clip.proofs.FieldRuns.{head-length}
 use Rattle.clip.proofs.Storing.{first-byte}
 use Rattle.clip.proofs.Tables.{table-length, table-set}

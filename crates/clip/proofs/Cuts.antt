@@ -13,9 +13,10 @@ use Rattle.frame.specs.declared.EncodedFrame.{EncodedFrame}
 use Rattle.clip.specs.declared.Answer.{Answer}
 use Rattle.clip.specs.declared.Answer.the-variants.{Accepted, Refused}
 use Rattle.clip.specs.declared.Encoder.{Encoder}
-use Rattle.clip.specs.Sizes.{sizeOf}
+use Rattle.layout.specs.Sizes.{sizeOf}
 use Rattle.whole.specs.Frames.{most}
-use Rattle.clip.specs.Encoding.{Both, both, Out, outOf, storeOf, moved, noFrame, pushOf, pieceOf, numbersOk, countsOk, validOf, feedAnswer, feedBy, feedOf}
+use Rattle.clip.specs.Encoding.{Both, both, Out, outOf, storeOf, moved, noFrame, pushOf, pieceOf, countsOk, validOf, feedAnswer, feedBy, feedOf}
+use Rattle.layout.specs.Limits.{numbersOk}
 use Rattle.clip.specs.Facts.{Going}
 use Rattle.clip.proofs.Accepting.{feed-accepted, feed-open}
 use Rattle.clip.proofs.Pieces.{going-next}

@@ -13,11 +13,13 @@ use lib.ListN.{length, getD, set, length-set, List·getD-eq-default}
 use lib.Seq.{sets, length-sets, getD-set-same, getD-set-other}
 use Rattle.whole.specs.Frames.{framesOf}
 use Rattle.frame.specs.declared.History.{History}
-use Rattle.clip.specs.Sizes.{lastOf, blocksOf, bodyOf, sizeOf}
-use Rattle.clip.specs.Image.{mark, contextBytes}
-use Rattle.clip.specs.Encoding.{placeOf, contextPlace, storeOf}
-use Rattle.clip.specs.Facts.{Limits}
-use Rattle.clip.proofs.Sizing.{block-first, first-block}
+use Rattle.layout.specs.Sizes.{lastOf, blocksOf, bodyOf, sizeOf}
+use Rattle.layout.specs.Fields.{mark}
+use Rattle.clip.specs.Image.{contextBytes}
+use Rattle.layout.specs.Sizes.{placeOf, contextPlace}
+use Rattle.clip.specs.Encoding.{storeOf}
+use Rattle.layout.specs.Limits.{Limits}
+use Rattle.layout.proofs.Sizing.{block-first, first-block}
 
 -- with q frames encoded, byte i is still to be written: it is the mark's, a frame's, or in the context of a block whose first frame is to come
 pub data Due (n b q i : ℕ) : Type 0 where

@@ -13,9 +13,9 @@ use Rattle.frame.specs.Frame.{encodeFrame, historyAfter}
 use Rattle.frame.specs.declared.EncodedFrame.{EncodedFrame}
 use Rattle.frame.specs.declared.History.{History}
 use Rattle.clip.specs.declared.Encoder.{Encoder}
-use Rattle.clip.specs.Sizes.{lastOf, bodyOf, sizeOf}
+use Rattle.layout.specs.Sizes.{lastOf, bodyOf, sizeOf}
 use Rattle.whole.specs.Frames.{framesOf}
-use Rattle.clip.specs.Image.{mark}
+use Rattle.layout.specs.Fields.{mark}
 use Rattle.clip.specs.Encoding.{both, storeOf, moved, noFrame, endOf}
 use Rattle.clip.specs.Facts.{Room, Whole}
 use Rattle.clip.proofs.Pieces.{store-length}

@@ -12,8 +12,9 @@ use mir.Facts.{toZ-ofZ}
 use mir.Syntax.{w16}
 use mir.Val.{ofZ, toZ, SFits}
 use Rattle.whole.proofs.Stores.{sets-append, sets-then}
-use Rattle.clip.specs.Image.{be16, be32, sample16, coefficientBytes, headOf}
-use Rattle.clip.specs.Sizes.{blocksOf}
+use Rattle.layout.specs.Fields.{be16, be32, sample16}
+use Rattle.clip.specs.Image.{coefficientBytes, headOf}
+use Rattle.layout.specs.Sizes.{blocksOf}
 
 -- three runs one after the other
 pub runs3 : (l l₁ l₂ l₃ a b c : List ℕ) (at p q : ℕ) → l₁ ≡ sets l at a → l₂ ≡ sets l₁ p b → l₃ ≡ sets l₂ q c → p ≡ at + length a → q ≡ p + length b → l₃ ≡ sets l at (a ++ (b ++ c))

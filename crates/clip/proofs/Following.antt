@@ -16,8 +16,8 @@ use Rattle.frame.specs.Frame.{encodeFrame, historyAfter}
 use Rattle.frame.specs.declared.EncodedFrame.{EncodedFrame}
 use Rattle.frame.specs.declared.History.{History}
 use Rattle.frame.proofs.LawsEncoded.{history-start}
-use Rattle.clip.specs.Sizes.{lastOf, bodyOf}
-use Rattle.clip.specs.Image.{mark, noMark}
+use Rattle.layout.specs.Sizes.{lastOf, bodyOf}
+use Rattle.layout.specs.Fields.{mark, noMark}
 use Rattle.clip.specs.Encoding.{Both, both, storeOf, noFrame, pushOf, pieceOf, endOf}
 use Rattle.clip.specs.Runs.{Start, historyAt, encodedAt, passesOf, imageOf, stateOf, followed}
 use Rattle.clip.proofs.Storing.{full-frame}

@@ -1,6 +1,4 @@
 -- Laws.
-mod Bits
-pub mod Sizing
 pub mod Sound
 pub mod FieldRuns
 pub mod Tables
@@ -8,13 +6,8 @@ pub mod Accepting
 pub mod Storing
 pub mod Pieces
 pub mod Ending
-pub mod Playback
-pub mod Rows
-pub mod Replay
 pub mod Stable
 pub mod Built
-pub mod Readback
-pub mod Sounding
 pub mod Following
 pub mod WholeRuns
 pub mod Cuts

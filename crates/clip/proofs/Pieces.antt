@@ -15,9 +15,10 @@ use Rattle.frame.specs.declared.EncodedFrame.{EncodedFrame}
 use Rattle.frame.specs.declared.History.{History}
 use Rattle.frame.proofs.LawsEncoded.{frame-passes}
 use Rattle.clip.specs.declared.Encoder.{Encoder}
-use Rattle.clip.specs.Sizes.{sizeOf}
+use Rattle.layout.specs.Sizes.{sizeOf}
 use Rattle.clip.specs.Image.{contextBytes}
-use Rattle.clip.specs.Encoding.{Both, both, placeOf, contextPlace, storeOf, moved, noFrame, pushOf, pieceOf}
+use Rattle.clip.specs.Encoding.{Both, both, storeOf, moved, noFrame, pushOf, pieceOf}
+use Rattle.layout.specs.Sizes.{placeOf, contextPlace}
 use Rattle.clip.specs.Facts.{Going}
 
 -- storing keeps the length

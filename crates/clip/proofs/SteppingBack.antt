@@ -13,7 +13,7 @@ use Rattle.clip.specs.declared.Answer.{Answer}
 use Rattle.clip.specs.declared.Answer.the-variants.{Accepted, Refused}
 use Rattle.clip.specs.declared.Encoder.{Encoder}
 use Rattle.clip.specs.declared.Refusal.the-variants.{InvalidState, ImageTooShort, AlreadyClosed}
-use Rattle.clip.specs.Sizes.{sizeOf, cutDown}
+use Rattle.layout.specs.Sizes.{sizeOf, cutDown}
 use Rattle.clip.specs.Encoding.{Both, both, Out, validOf, feedAnswer, feedBy, feedOf, closeAnswer, closeBy, closeOf, startOf}
 use Rattle.clip.specs.Runs.{Start, startWith, imageOf, stateOf, followed, Call, feeds, closes, Plain, plain, plainAnswer, plainAfter, callOf, left, after}
 use Rattle.clip.specs.Steps.{Steps, done, call, undone, reached, kept}

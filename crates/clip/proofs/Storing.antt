@@ -13,12 +13,14 @@ use Rattle.frame.specs.declared.EncodedFrame.{EncodedFrame}
 use Rattle.frame.specs.declared.History.{History}
 use Rattle.frame.proofs.LawsEncoded.{frame-lengths, frame-passes}
 use Rattle.clip.specs.declared.Encoder.{Encoder}
-use Rattle.clip.specs.Sizes.{lastOf, blocksOf, bodyOf, sizeOf}
+use Rattle.layout.specs.Sizes.{lastOf, blocksOf, bodyOf, sizeOf}
 use Rattle.whole.specs.Frames.{framesOf}
 use Rattle.clip.specs.Image.{contextBytes}
-use Rattle.clip.specs.Encoding.{both, placeOf, contextPlace, storeOf, moved, noFrame, pushOf}
-use Rattle.clip.specs.Facts.{Limits, Room, Going}
-use Rattle.clip.proofs.Sizing.{frames-le, blocks-most, first-block}
+use Rattle.clip.specs.Encoding.{both, storeOf, moved, noFrame, pushOf}
+use Rattle.layout.specs.Sizes.{placeOf, contextPlace}
+use Rattle.layout.specs.Limits.{Limits}
+use Rattle.clip.specs.Facts.{Room, Going}
+use Rattle.layout.proofs.Sizing.{frames-le, blocks-most, first-block}
 
 -- ---- room
 

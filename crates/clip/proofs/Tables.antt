@@ -8,8 +8,9 @@ use native.Mathlib.Omega.{arith}
 use lib.ListN.{length, replicate, length-append}
 use lib.Seq.{sets}
 use Rattle.whole.proofs.Stores.{sets-then, sets-part, sets-right-at}
-use Rattle.clip.specs.Sizes.{offsetOf, lengthOf}
-use Rattle.clip.specs.Image.{be32, noContext, entryOf, tableOf}
+use Rattle.layout.specs.Sizes.{offsetOf, lengthOf}
+use Rattle.layout.specs.Fields.{be32}
+use Rattle.clip.specs.Image.{noContext, entryOf, tableOf}
 
 pub entry-length : (n b j : ℕ) (c : List ℕ) → length c ≡ 6 → length (entryOf n b j c) ≡ 16
 unfolding entryOf

@@ -15,9 +15,11 @@ use Rattle.frame.specs.declared.History.{History}
 use Rattle.clip.specs.declared.Answer.{Answer}
 use Rattle.clip.specs.declared.Answer.the-variants.{Accepted, Refused}
 use Rattle.clip.specs.declared.Refusal.the-variants.{AlreadyClosed, PieceTooLong, Unfinished}
-use Rattle.clip.specs.Sizes.{blocksOf, bodyOf, sizeOf, cutDown}
-use Rattle.clip.specs.Image.{mark, noMark, headOf, contextBytes, noContext, tableOf, freshOf}
-use Rattle.clip.specs.Encoding.{Both, both, Out, outOf, numbersOk, countsOk, validOf, feedAnswer, feedBy, feedOf, closeAnswer, closeBy, closeOf, beginning, startAnswer, startBy, startOf}
+use Rattle.layout.specs.Sizes.{blocksOf, bodyOf, sizeOf, cutDown}
+use Rattle.layout.specs.Fields.{mark, noMark}
+use Rattle.clip.specs.Image.{headOf, contextBytes, noContext, tableOf, freshOf}
+use Rattle.clip.specs.Encoding.{Both, both, Out, outOf, countsOk, validOf, feedAnswer, feedBy, feedOf, closeAnswer, closeBy, closeOf, beginning, startAnswer, startBy, startOf}
+use Rattle.layout.specs.Limits.{numbersOk}
 use Rattle.clip.specs.Runs.{Start, startWith, historyAt, encodedAt, bodiesOf, passesOf, contextAt, doneOf, imageOf, stateOf, followed, Call, feeds, closes, Seen, seen, plain, plainAnswer, plainNext, plainAfter, plainRun, callOf, left, after, run}
 use Rattle.clip.proofs.Accepting.{failed, never, start-accepted}
 use Rattle.clip.proofs.Stable.{passes-most}

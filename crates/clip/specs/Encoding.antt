@@ -1,4 +1,6 @@
 -- Starting, feeding and closing: what each call does to the encoding state and to the image's bytes. Definitions only.
+use Rattle.layout.specs.Limits.{totalOk, blockOk, numbersOk}
+use Rattle.layout.specs.Sizes.{placeOf, contextPlace}
 use mathlib.Core.Bool.{Bool, true, false, not, cond, _&&_}
 use mathlib.Core.List.{List, [], _∷_, _++_, foldl}
 use Prim.Native.Nat.{ℕ, _+_, _-_, _*_, _/_, _%_}
@@ -14,9 +16,10 @@ use Rattle.clip.specs.declared.Answer.the-variants.{Accepted, Refused}
 use Rattle.clip.specs.declared.Encoder.{Encoder}
 use Rattle.clip.specs.declared.Refusal.{Refusal}
 use Rattle.clip.specs.declared.Refusal.the-variants.{InvalidState, BadSampleCount, RateZero, BadBlockSize, CoefficientOutside, ImageTooShort, AlreadyClosed, PieceTooLong, Unfinished}
-use Rattle.clip.specs.Sizes.{lastOf, blocksOf, sizeOf, cutDown}
+use Rattle.layout.specs.Sizes.{lastOf, blocksOf, sizeOf, cutDown}
 use Rattle.whole.specs.Frames.{most, framesOf}
-use Rattle.clip.specs.Image.{mark, contextBytes, freshOf}
+use Rattle.layout.specs.Fields.{mark}
+use Rattle.clip.specs.Image.{contextBytes, freshOf}
 
 -- document 01's number of each refusal
 abbrev pub numberOf : Refusal → ℕ
@@ -54,17 +57,6 @@ outOf a s = record { answer = a; encoder = s .encoder; bytes = s .bytes }
 abbrev pub encodedOf : ℕ → ℕ → Bool → ℕ
 encodedOf n total closed = cond closed (framesOf total) (n / 14)
 
--- N within the limits of 4, B within those of 6
-abbrev pub totalOk : ℕ → Bool
-totalOk n = leb 1 n && leb n most
-
-abbrev pub blockOk : ℕ → Bool
-blockOk b = leb 8 b && leb b 65536
-
--- "n > N, N or B outside limits or B not a multiple of 8, rate 0"
-unfoldable pub numbersOk : ℕ → ℕ → ℕ → ℕ → Bool
-numbersOk n total b rate = leb n total && (totalOk total && (blockOk b && (eqb (b % 8) 0 && not (eqb rate 0))))
-
 -- "closed with n < N", "passes above 104 × the frames encoded"
 unfoldable pub countsOk : ℕ → ℕ → Bool → ℕ → Bool
 countsOk n total closed passes = not (closed && ltb n total) && leb passes (104 * encodedOf n total closed)
@@ -75,13 +67,6 @@ validOf e =
     numbersOk (e .fed) (e .total) (e .block) (e .rate) && (withinLimits (e .coefficients) && countsOk (e .fed) (e .total) (e .closed) (e .passes))
 
 -- ---- a frame is stored
-
--- where frame q's bytes stand, and where the context of block k does
-abbrev pub placeOf : ℕ → ℕ → ℕ → ℕ
-placeOf n b q = 56 + 16 * blocksOf n b + 8 * q
-
-abbrev pub contextPlace : ℕ → ℕ
-contextPlace k = 56 + 16 * k + 8
 
 -- "Each full frame is encoded to its place; a block's first frame also fills its entry's context: the header byte, and the history before it"
 unfoldable pub storeOf : ℕ → ℕ → ℕ → List ℕ → History → List ℕ → List ℕ

@@ -1,20 +1,13 @@
 -- What the private functions ask of the state and the buffer.
+use Rattle.layout.specs.Limits.{Limits}
 use Prim.Native.Nat.{ℕ, _+_, _*_, _/_, _%_, _≤_, _<_}
 use mathlib.Core.Path.{_≡_}
 use mathlib.Core.Bool.{true}
 use Rattle.frame.specs.Frame.{withinLimits}
 use Rattle.clip.specs.declared.Encoder.{Encoder}
-use Rattle.clip.specs.Sizes.{bodyOf, sizeOf}
+use Rattle.layout.specs.Sizes.{bodyOf, sizeOf}
 use Rattle.whole.specs.Frames.{most, framesOf}
 use Rattle.clip.specs.Encoding.{encodedOf}
-
--- the limits of a sample count and a block size
-pub record Limits (n b : ℕ) : Type 0 where
-  pub some : 1 ≤ n
-  pub few : n ≤ most
-  pub wide : 8 ≤ b
-  pub narrow : b ≤ 65536
-  pub eights : b % 8 ≡ 0
 
 -- frame q's first k bytes are within the image
 pub record Room (n b q k len : ℕ) : Type 0 where

@@ -1,5 +1,4 @@
 -- What the contracts cite.
-pub mod Sizes
 pub mod Image
 pub mod Encoding
 pub mod Facts

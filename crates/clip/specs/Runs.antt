@@ -12,8 +12,9 @@ use Rattle.frame.specs.declared.History.{History}
 use Rattle.clip.specs.declared.Answer.{Answer}
 use Rattle.clip.specs.declared.Answer.the-variants.{Accepted, Refused}
 use Rattle.clip.specs.declared.Refusal.the-variants.{AlreadyClosed, PieceTooLong, Unfinished}
-use Rattle.clip.specs.Sizes.{blocksOf, bodyOf, cutDown}
-use Rattle.clip.specs.Image.{mark, noMark, headOf, contextBytes, noContext, tableOf}
+use Rattle.layout.specs.Sizes.{blocksOf, bodyOf, cutDown}
+use Rattle.layout.specs.Fields.{mark, noMark}
+use Rattle.clip.specs.Image.{headOf, contextBytes, noContext, tableOf}
 use Rattle.clip.specs.declared.Encoder.{Encoder}
 use Rattle.clip.specs.Encoding.{Both, both, Out, encodedOf, noFrame, feedOf, closeOf}
 

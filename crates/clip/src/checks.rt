@@ -1,38 +1,17 @@
 // The tests of the calls, in document 01's sequence.
 ghost use mathlib.Core.Path.{_≡_};
 ghost use Prim.Native.Nat.{_≤_};
-ghost use Rattle.clip.specs.Encoding.{numbersOk, countsOk, validOf, feedAnswer, closeAnswer, startAnswer};
+ghost use Rattle.clip.specs.Encoding.{encodedOf};
+ghost use Rattle.whole.specs.Frames.{framesOf};
+ghost use Rattle.layout.specs.Limits.{numbersOk};
+ghost use Rattle.clip.specs.Encoding.{countsOk, validOf, feedAnswer, closeAnswer, startAnswer};
 use crate::Answer;
 use crate::Encoder;
 use crate::Refusal;
-use crate::sizes::encoded;
-use crate::sizes::size;
 use frame::coefficients_ok;
-
-// Whether N, B, the rate and n are within their limits. It is internal: crate image calls it.
-pub fn numbers_ok(n: u32, total: u32, block: u32, rate: u32) -> bool
-    ensures { λ r. ⌜ r ≡ numbersOk n total block rate ⌝ }
-{
-    if n > total {
-        return false;
-    }
-    if total < 1 {
-        return false;
-    }
-    if total > 14_680_064 {
-        return false;
-    }
-    if block < 8 {
-        return false;
-    }
-    if block > 65_536 {
-        return false;
-    }
-    if block % 8 != 0 {
-        return false;
-    }
-    rate != 0
-}
+use layout::limits::numbers_ok;
+use layout::sizes::frames;
+use layout::sizes::size;
 
 // Whether the clip is closed only when whole, and the passes are not too many.
 fn counts_ok(n: usize, total: usize, closed: bool, passes: usize) -> bool
@@ -139,4 +118,15 @@ pub(crate) fn start_answer(n: u32, rate: u32, wanted: u32, cs: [i16; 16], room: 
         return Answer::Refused(Refusal::ImageTooShort);
     }
     Answer::Accepted
+}
+
+// Frames that are encoded after n samples.
+pub(crate) fn encoded(n: usize, total: usize, closed: bool) -> usize
+    requires { ⌜ (n ≤ total) × (total ≤ 14680064) ⌝ }
+    ensures { λ r. ⌜ (r ≡ encodedOf n total closed) × (r ≤ 1048576) ⌝ }
+{
+    if closed {
+        return frames(total);
+    }
+    n / 14
 }

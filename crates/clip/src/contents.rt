@@ -4,18 +4,20 @@ ghost use mathlib.Core.List.{_++_};
 ghost use Prim.Native.Nat.{_+_, _*_, _≤_, _<_};
 ghost use lib.ListN.{length, replicate};
 ghost use lib.Seq.{sets};
-ghost use Rattle.clip.specs.Facts.{Limits};
-ghost use Rattle.clip.specs.Image.{be16, be32, mark, noMark, noContext, contextBytes, coefficientBytes, headOf, tableOf, freshOf};
-ghost use Rattle.clip.specs.Sizes.{blocksOf, lengthOf, sizeOf};
-use crate::MARK;
-use crate::fields::bits16;
-use crate::fields::put16;
-use crate::fields::put32;
-use crate::fields::zeros;
-use crate::sizes::blocks;
-use crate::sizes::body;
-use crate::sizes::frames;
+ghost use Rattle.layout.specs.Limits.{Limits};
+ghost use Rattle.layout.specs.Fields.{be16, be32, mark, noMark};
+ghost use Rattle.clip.specs.Image.{noContext, contextBytes, coefficientBytes, headOf, tableOf, freshOf};
+ghost use Rattle.layout.specs.Sizes.{blocksOf, lengthOf, sizeOf};
 use frame::History;
+use layout::MARK;
+use layout::fields::bits16;
+use layout::fields::put16;
+use layout::fields::put32;
+use layout::fields::zeros;
+use layout::sizes::block_length;
+use layout::sizes::blocks;
+use layout::sizes::body;
+use layout::sizes::frames;
 
 // The mark, at the image's start.
 pub(crate) fn put_mark(image: &mut [u8])
@@ -49,21 +51,6 @@ pub(crate) fn put_coefficients(image: &mut [u8], cs: [i16; 16])
         put16(image, 16 + 2 * i, bits16(cs[i]));
         i += 1;
     }
-}
-
-// The nibbles of block j. It is internal: crate image calls it.
-pub fn block_length(total: usize, block: usize, j: usize) -> usize
-    requires { ⌜ Limits total block × (j < blocksOf total block) ⌝ }
-    ensures { λ r. ⌜ (r ≡ lengthOf total block j) × (r < 4294967296) ⌝ }
-{
-    let per = block / 8;
-    let f = frames(total);
-    let first = j * per;
-    if first + per < f {
-        return 16 * per;
-    }
-    let last = total - 14 * (f - 1);
-    16 * (f - 1 - first) + (last + 2)
 }
 
 // An entry with no context.

@@ -2,12 +2,10 @@
 ghost use mathlib.Core.Path.{_≡_};
 ghost use Rattle.clip.specs.Encoding.{both, outOf, numberOf, noEncoder, startOf, feedOf, closeOf};
 
-pub mod checks;
+mod checks;
 mod closing;
-pub mod contents;
+mod contents;
 mod feeding;
-pub mod fields;
-pub mod sizes;
 
 use checks::close_answer;
 use checks::feed_answer;
@@ -16,9 +14,6 @@ use closing::finish;
 use contents::put_fresh;
 use feeding::feed_all;
 use frame::History;
-
-// The mark: closing writes it, opening compares it.
-pub const MARK: [u8; 4] = *b"DSPC";
 
 // Why a call is refused.
 pub enum Refusal {

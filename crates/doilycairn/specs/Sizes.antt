@@ -1,8 +1,8 @@
 -- How much room the calls' buffers need. Definitions only.
 use mathlib.Core.Bool.{cond, _&&_}
 use Prim.Native.Nat.{ℕ}
-use Rattle.clip.specs.Encoding.{totalOk, blockOk}
-use Rattle.clip.specs.Sizes.{sizeOf, cutDown}
+use Rattle.layout.specs.Limits.{totalOk, blockOk}
+use Rattle.layout.specs.Sizes.{sizeOf, cutDown}
 
 -- S of a clip; 0 where starting is refused by 4 or 6
 unfoldable pub imageSize : ℕ → ℕ → ℕ

@@ -5,12 +5,12 @@ ghost use Rattle.doilycairn.specs.Blocks.{playing};
 ghost use Rattle.doilycairn.specs.Reading.{codeOf, openInC, bodyAt, handed, bodyInC, playbackOf, playInC, playAllInC, comparisonOf, sameInC};
 use crate::blocks::Playback;
 use block::FrameContext;
-use clip::fields::get32;
 use image::Answer;
 use image::Head;
 use image::PlayAnswer;
 use image::SameAnswer;
 use image::bodies::read_context;
+use layout::fields::get32;
 
 // What opening returns.
 #[repr(C)]

@@ -2,7 +2,7 @@
 ghost use mathlib.Core.Path.{_≡_};
 ghost use Rattle.coefficients.specs.Measure.{neededOf};
 ghost use Rattle.doilycairn.specs.Sizes.{imageSize};
-use clip::sizes::size;
+use layout::sizes::size;
 
 // The numbers of the store that measuring so many samples needs.
 #[no_mangle]

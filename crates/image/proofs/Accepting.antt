@@ -7,11 +7,11 @@ use native.Mathlib.Omega.{arith}
 use borrow.Author.Tests.{leb-true, eqb-true, eqb-false, le-leb, eq-eqb, ne-eqb}
 use lib.Dec.{eqb, leb}
 use lib.ListN.{length, getD}
-use Rattle.clip.specs.Encoding.{numbersOk, totalOk, blockOk}
-use Rattle.clip.specs.Facts.{Limits}
-use Rattle.clip.specs.Sizes.{blocksOf, sizeOf, offsetOf, lengthOf}
+use Rattle.layout.specs.Limits.{numbersOk, totalOk, blockOk}
+use Rattle.layout.specs.Limits.{Limits}
+use Rattle.layout.specs.Sizes.{blocksOf, sizeOf, offsetOf, lengthOf}
 use Rattle.whole.specs.Frames.{most}
-use Rattle.clip.proofs.Sound.{both-true, numbers-sound}
+use Rattle.layout.proofs.Numbers.{both-true, numbers-sound}
 use Rattle.image.specs.declared.Answer.{Answer}
 use Rattle.image.specs.declared.Answer.the-variants.{Accepted, Refused}
 use Rattle.image.specs.declared.Refusal.{Refusal}

@@ -10,8 +10,8 @@ use Rattle.block.specs.Context.{withHeader}
 use Rattle.block.specs.Frame.{Playing, playing, playFrame}
 use Rattle.block.specs.Play.{takeHeader, play, playFrames}
 use Rattle.block.proofs.LawsPlay.{onto, frame-onto, repeats}
-use Rattle.clip.specs.Sizes.{offsetOf}
-use Rattle.clip.proofs.Sizing.{block-place}
+use Rattle.layout.specs.Sizes.{offsetOf}
+use Rattle.layout.proofs.Sizing.{block-place}
 use Rattle.image.specs.Reading.{totalIn, blockIn, coefficientsIn, offsetIn, lengthIn}
 use Rattle.image.specs.Facts.{Found}
 use Rattle.image.specs.Bodies.{bodyIn}

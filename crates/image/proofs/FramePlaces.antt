@@ -7,10 +7,10 @@ use native.Mathlib.Omega.{arith}
 use borrow.Author.Tests.{ltb-true, ltb-false, lt-ltb, le-ltb}
 use lib.Dec.{ltb}
 use lib.ListN.{length}
-use Rattle.clip.specs.Facts.{Limits}
-use Rattle.clip.specs.Sizes.{lastOf, blocksOf, bodyOf, sizeOf}
+use Rattle.layout.specs.Limits.{Limits}
+use Rattle.layout.specs.Sizes.{lastOf, blocksOf, bodyOf, sizeOf}
 use Rattle.whole.specs.Frames.{framesOf}
-use Rattle.clip.proofs.Sizing.{frames-some, frames-le, blocks-most, first-block}
+use Rattle.layout.proofs.Sizing.{frames-some, frames-le, blocks-most, first-block}
 use Rattle.image.specs.declared.Head.{Head}
 use Rattle.image.specs.Reading.{totalIn, blockIn, headIn}
 use Rattle.image.specs.Facts.{Found, Source, Turn}
@@ -71,10 +71,6 @@ module _ (l : List ℕ) (block kk i : ℕ) (s : Source l block kk i) where
         opens = s .opens;
         block = subst (λ (b : ℕ). i / (b / 8) < blocksOf (totalIn l) (blockIn l)) (sym (s .size)) (first-block (totalIn l) (blockIn l) i (s .opens .head .limits) (s .frame) q);
       }
-
-  -- a block has a frame
-  pub per-some : 0 < block / 8
-  per-some = let w = s .opens .head .limits .wide in let e = s .size in omega arith
 
 -- B and K as they stand in the head that was read
 pub turn-source : (l : List ℕ) (head : Head) (i count : ℕ) → Turn l head i count → Source l (head .block) (head .blocks) i

@@ -8,9 +8,9 @@ use lib.ListN.{length, take}
 use lib.Seq.{take-length, take-append-le}
 use Rattle.block.specs.Frame.{Playing, playing, playFrame}
 use Rattle.block.proofs.LawsPlay.{onto, frame-onto, frame-count}
-use Rattle.clip.specs.Sizes.{lastOf, blocksOf}
+use Rattle.layout.specs.Sizes.{lastOf, blocksOf}
 use Rattle.whole.specs.Frames.{framesOf}
-use Rattle.clip.proofs.Sizing.{blocks-all, frames-some, block-first}
+use Rattle.layout.proofs.Sizing.{blocks-all, frames-some, block-first}
 use Rattle.image.specs.Reading.{totalIn, blockIn, coefficientsIn}
 use Rattle.image.specs.Facts.{Opens, Found}
 use Rattle.image.specs.Frames.{countOf, frameIn, contextBefore, framesIn}

@@ -15,9 +15,9 @@ use Rattle.block.specs.Context.{contextOf}
 use Rattle.block.specs.Frame.{Lent, lent}
 use Rattle.block.specs.Play.{playInto}
 use Rattle.block.specs.Refusals.{lowestPair}
-use Rattle.clip.specs.Sizes.{blocksOf}
+use Rattle.layout.specs.Sizes.{blocksOf}
 use Rattle.whole.specs.Frames.{framesOf}
-use Rattle.clip.proofs.Sizing.{frames-some, blocks-all}
+use Rattle.layout.proofs.Sizing.{frames-some, blocks-all}
 use Rattle.image.specs.declared.Answer.the-variants.{Accepted}
 use Rattle.image.specs.declared.PlayAnswer.the-variants as Played
 use Rattle.image.specs.declared.Refusal.the-variants.{OutputTooShort}

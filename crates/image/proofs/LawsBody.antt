@@ -15,10 +15,10 @@ use mir.Val.{SFits, ofZ, toZ}
 use Rattle.block.specs.Address.{addressToSample}
 use Rattle.block.specs.Context.{contextOf}
 use Rattle.block.specs.Refusals.{badLength, lowestPair}
-use Rattle.clip.specs.Facts.{Limits}
-use Rattle.clip.specs.Sizes.{lastOf, blocksOf, bodyOf, sizeOf, offsetOf, lengthOf}
+use Rattle.layout.specs.Limits.{Limits}
+use Rattle.layout.specs.Sizes.{lastOf, blocksOf, bodyOf, sizeOf, offsetOf, lengthOf}
 use Rattle.whole.specs.Frames.{framesOf}
-use Rattle.clip.proofs.Sizing.{block-place, block-first}
+use Rattle.layout.proofs.Sizing.{block-place, block-first}
 use Rattle.image.specs.declared.Answer.{Answer}
 use Rattle.image.specs.declared.Answer.the-variants.{Accepted, Refused}
 use Rattle.image.specs.declared.Refusal.{Refusal}

@@ -16,8 +16,3 @@ and-true false = refl
 pub mark-last : (l : List ℕ) → getD l 0 0 ≡ 0x44 → getD l 1 0 ≡ 0x53 → getD l 2 0 ≡ 0x50 → eqb (getD l 3 0) 0x43 ≡ markOk l
 unfolding markOk
 mark-last l p q r = rw (eq-eqb (getD l 0 0) 0x44 p, eq-eqb (getD l 1 0) 0x53 q, eq-eqb (getD l 2 0) 0x50 r, and-true)
-
--- the mark is there
-pub mark-held : (l : List ℕ) → getD l 0 0 ≡ 0x44 → getD l 1 0 ≡ 0x53 → getD l 2 0 ≡ 0x50 → getD l 3 0 ≡ 0x43 → markOk l ≡ true
-unfolding markOk
-mark-held l p q r s = rw (eq-eqb (getD l 0 0) 0x44 p, eq-eqb (getD l 1 0) 0x53 q, eq-eqb (getD l 2 0) 0x50 r, eq-eqb (getD l 3 0) 0x43 s)

@@ -1,9 +1,9 @@
 -- Where entries and bodies stand within an image of S bytes or more.
 use Prim.Native.Nat.{ℕ, _+_, _-_, _*_, _≤_, _<_}
 use native.Mathlib.Omega.{arith}
-use Rattle.clip.specs.Facts.{Limits}
-use Rattle.clip.specs.Sizes.{blocksOf, bodyOf, sizeOf}
-use Rattle.clip.proofs.Sizing.{block-first, block-place, frames-le, blocks-most}
+use Rattle.layout.specs.Limits.{Limits}
+use Rattle.layout.specs.Sizes.{blocksOf, bodyOf, sizeOf}
+use Rattle.layout.proofs.Sizing.{block-first, block-place, frames-le, blocks-most}
 
 -- a block's first byte is within the bodies
 pub start-body : (n b j : ℕ) → Limits n b → j < blocksOf n b → j * b < bodyOf n

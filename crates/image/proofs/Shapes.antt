@@ -6,10 +6,10 @@ use native.Mathlib.Nat.{suc-mul}
 use native.Mathlib.Omega.{arith}
 use borrow.Author.Tests.{ltb-true, ltb-false}
 use lib.Dec.{ltb}
-use Rattle.clip.specs.Facts.{Limits}
-use Rattle.clip.specs.Sizes.{lastOf, blocksOf, lengthOf}
+use Rattle.layout.specs.Limits.{Limits}
+use Rattle.layout.specs.Sizes.{lastOf, blocksOf, lengthOf}
 use Rattle.whole.specs.Frames.{framesOf}
-use Rattle.clip.proofs.Sizing.{block-first}
+use Rattle.layout.proofs.Sizing.{block-first}
 use Rattle.image.specs.Frames.{countOf}
 use Rattle.image.proofs.FramePlaces.{count-whole, count-last, last-most}
 

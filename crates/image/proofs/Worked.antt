@@ -9,8 +9,8 @@ use Rattle.block.specs.Frame.{nibbleAt, nextSample, takeNibble}
 use Rattle.block.specs.Play.{takeHeader, playFrom, play}
 use Rattle.block.specs.Sample.{sampleOf}
 use Rattle.whole.specs.Whole.{signedNibble, clamp16}
-use Rattle.clip.specs.Encoding.{numbersOk}
-use Rattle.clip.specs.Sizes.{lastOf, blocksOf, bodyOf, sizeOf, offsetOf, lengthOf}
+use Rattle.layout.specs.Limits.{numbersOk}
+use Rattle.layout.specs.Sizes.{lastOf, blocksOf, bodyOf, sizeOf, offsetOf, lengthOf}
 use Rattle.whole.specs.Frames.{framesOf}
 use Rattle.image.specs.declared.Answer.the-variants.{Accepted, Refused}
 use Rattle.image.specs.declared.Refusal.the-variants.{BadHead, BadEntry}
@@ -36,12 +36,3 @@ opens = refl
 pub plays : samplesIn (clip (0x44 ∷ 0x53 ∷ 0x50 ∷ 0x43 ∷ []) 1 1) ≡ pos 8 ∷ []
 unfolding samplesIn samplesFrom blockSamples bodyIn contextIn blocksIn offsetIn lengthIn headerIn newestIn olderIn coefficientsIn coefficientsUpTo signedAt play playFrom takeHeader takeNibble nextSample nibbleAt pushSample withHeader predictorOf scaleOf sampleOf signedNibble clamp16
 plays = refl
-
--- a mark of zeros, and another header than the body's
-pub unmarked : openAnswer (clip (replicate 4 0) 1 1) ≡ Refused BadHead
-unfolding openAnswer headOk numbersFit markOk entriesOk entryOk totalIn rateIn blockIn zeroIn blocksIn offsetIn lengthIn headerIn entryZeroIn numbersOk framesOf lastOf blocksOf bodyOf sizeOf offsetOf lengthOf
-unmarked = refl
-
-pub other-header : openAnswer (clip (0x44 ∷ 0x53 ∷ 0x50 ∷ 0x43 ∷ []) 2 1) ≡ Refused BadEntry
-unfolding openAnswer headOk numbersFit markOk entriesOk entryOk totalIn rateIn blockIn zeroIn blocksIn offsetIn lengthIn headerIn entryZeroIn numbersOk framesOf lastOf blocksOf bodyOf sizeOf offsetOf lengthOf
-other-header = refl

@@ -6,8 +6,8 @@ use Prim.Native.Nat.{ℕ, _≤_, _<_}
 use lib.ListN.{length, getD}
 use Rattle.block.specs.Address.{addressToSample}
 use Rattle.block.specs.Refusals.{lowestPair}
-use Rattle.clip.specs.Facts.{Limits}
-use Rattle.clip.specs.Sizes.{blocksOf, sizeOf, offsetOf, lengthOf}
+use Rattle.layout.specs.Limits.{Limits}
+use Rattle.layout.specs.Sizes.{blocksOf, sizeOf, offsetOf, lengthOf}
 use Rattle.whole.specs.Frames.{framesOf}
 use Rattle.image.specs.declared.Head.{Head}
 use Rattle.image.specs.Frames.{countOf}

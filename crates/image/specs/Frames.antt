@@ -9,8 +9,8 @@ use lib.Seq.{sets}
 use Rattle.block.specs.declared.FrameContext.{FrameContext}
 use Rattle.block.specs.Context.{contextOf, withHeader}
 use Rattle.block.specs.Frame.{Playing, playing, playFrame}
-use Rattle.clip.specs.Encoding.{placeOf}
-use Rattle.clip.specs.Sizes.{lastOf}
+use Rattle.layout.specs.Sizes.{placeOf}
+use Rattle.layout.specs.Sizes.{lastOf}
 use Rattle.whole.specs.Frames.{framesOf}
 use Rattle.image.specs.declared.comparing.Frame.{Frame}
 use Rattle.image.specs.Reading.{totalIn, blockIn, coefficientsIn}

@@ -5,9 +5,9 @@ use Prim.Native.Nat.{ℕ, zero, suc}
 use lib.Dec.{eqb, leb}
 use lib.IntN.{pos}
 use lib.ListN.{length, getD, replicate}
-use Rattle.clip.specs.Encoding.{numbersOk}
-use Rattle.clip.specs.Image.{mark}
-use Rattle.clip.specs.Sizes.{blocksOf, sizeOf, offsetOf, lengthOf}
+use Rattle.layout.specs.Limits.{numbersOk}
+use Rattle.layout.specs.Fields.{mark}
+use Rattle.layout.specs.Sizes.{blocksOf, sizeOf, offsetOf, lengthOf}
 use Rattle.image.specs.declared.Answer.{Answer}
 use Rattle.image.specs.declared.Answer.the-variants.{Accepted, Refused}
 use Rattle.image.specs.declared.Head.{Head}

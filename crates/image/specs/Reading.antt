@@ -4,7 +4,7 @@ use Prim.Native.Nat.{ℕ, zero, suc, _+_, _*_}
 use lib.IntN.{ℤ}
 use mir.Syntax.{w16}
 use mir.Val.{toZ}
-use Rattle.clip.specs.Image.{at16, at32}
+use Rattle.layout.specs.Fields.{at16, at32}
 use Rattle.image.specs.declared.Head.{Head}
 
 -- "4 N; 8 rate; 12 B (four bytes each)", "48 gain; 50 two zero bytes; 52 K (four bytes)"

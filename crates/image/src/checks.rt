@@ -12,8 +12,10 @@ use crate::heading::head_ok;
 use crate::heading::read_coefficients;
 use block::address_to_sample;
 use block::coefficients::lowest_pair;
-use clip::fields::get32;
-use clip::sizes::blocks;
+use layout::ENTRY_BYTES;
+use layout::HEAD_BYTES;
+use layout::fields::get32;
+use layout::sizes::blocks;
 
 // Codes 15 and 16.
 pub(crate) fn open_answer(image: &[u8]) -> Answer
@@ -42,7 +44,7 @@ pub(crate) fn play_answer(image: &[u8], k: u32, room: usize) -> Answer
             if lowest_pair(cs) {
                 return Answer::Refused(Refusal::LowestPair);
             }
-            let nibbles = get32(image, 56 + 16 * (k as usize) + 4);
+            let nibbles = get32(image, HEAD_BYTES + ENTRY_BYTES * (k as usize) + 4);
             if (room as u64) < address_to_sample(nibbles) {
                 return Answer::Refused(Refusal::OutputTooShort);
             }

@@ -13,7 +13,9 @@ use crate::heading::read_head;
 use block::FrameContext;
 use block::coefficients::equal;
 use block::play_frame;
-use clip::sizes::frames;
+use layout::ENTRY_BYTES;
+use layout::HEAD_BYTES;
+use layout::sizes::frames;
 
 // A frame's samples, and the context after them.
 pub(crate) struct Frame {
@@ -48,7 +50,7 @@ fn context_before(
     if i % per == 0 {
         return read_context(image, i / per);
     }
-    before.with_header(image[56 + 16 * kk + 8 * i])
+    before.with_header(image[HEAD_BYTES + ENTRY_BYTES * kk + 8 * i])
 }
 
 // `count` samples of the frame at a byte.
@@ -73,7 +75,13 @@ fn next_frame(image: &[u8], head: Head, i: usize, count: usize, before: FrameCon
     let kk = head.blocks as usize;
     let cs = head.coefficients;
     let context = context_before(image, block, kk, i, before);
-    frame_at(image, 56 + 16 * kk + 8 * i, count, cs, context)
+    frame_at(
+        image,
+        HEAD_BYTES + ENTRY_BYTES * kk + 8 * i,
+        count,
+        cs,
+        context,
+    )
 }
 
 // Whether the first `count` samples are equal.

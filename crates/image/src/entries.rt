@@ -2,12 +2,14 @@
 ghost use mathlib.Core.Path.{_≡_};
 ghost use Prim.Native.Nat.{_≤_, _<_};
 ghost use lib.ListN.{length};
-ghost use Rattle.clip.specs.Facts.{Limits};
-ghost use Rattle.clip.specs.Sizes.{blocksOf, sizeOf};
+ghost use Rattle.layout.specs.Limits.{Limits};
+ghost use Rattle.layout.specs.Sizes.{blocksOf, sizeOf};
 ghost use Rattle.image.specs.Opened.{entryOk, entriesOk};
-use clip::contents::block_length;
-use clip::fields::get16;
-use clip::fields::get32;
+use layout::ENTRY_BYTES;
+use layout::HEAD_BYTES;
+use layout::fields::get16;
+use layout::fields::get32;
+use layout::sizes::block_length;
 
 // The number that a byte is.
 fn byte(x: u8) -> u32
@@ -21,8 +23,8 @@ fn entry_ok(image: &[u8], total: usize, block: usize, kk: usize, j: usize) -> bo
     requires { ⌜ Limits total block × (kk ≡ blocksOf total block) × (j < kk) × (sizeOf total block ≤ length (now image)) ⌝ }
     ensures { λ r. ⌜ r ≡ entryOk (now (image .entry)) total block j ⌝ }
 {
-    let at = 56 + 16 * j;
-    let offset = 56 + 16 * kk + j * block;
+    let at = HEAD_BYTES + ENTRY_BYTES * j;
+    let offset = HEAD_BYTES + ENTRY_BYTES * kk + j * block;
     if get32(image, at) as usize != offset {
         return false;
     }

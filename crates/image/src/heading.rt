@@ -2,17 +2,17 @@
 ghost use mathlib.Core.Path.{_≡_};
 ghost use Prim.Native.Nat.{_+_, _≤_};
 ghost use lib.ListN.{length};
-ghost use Rattle.clip.specs.Image.{at16};
+ghost use Rattle.layout.specs.Fields.{at16};
 ghost use Rattle.image.specs.Reading.{signedAt, coefficientsIn, headIn};
 ghost use Rattle.image.specs.Opened.{markOk, numbersFit, headOk};
 use crate::Head;
-use clip::MARK;
-use clip::checks::numbers_ok;
-use clip::fields::get16;
-use clip::fields::get32;
-use clip::fields::signed16;
-use clip::sizes::blocks;
-use clip::sizes::size;
+use layout::MARK;
+use layout::fields::get16;
+use layout::fields::get32;
+use layout::fields::signed16;
+use layout::limits::numbers_ok;
+use layout::sizes::blocks;
+use layout::sizes::size;
 
 // Whether the image starts with the mark.
 fn mark_ok(image: &[u8]) -> bool

@@ -22,10 +22,10 @@ use checks::all_answer;
 use checks::both_answer;
 use checks::open_answer;
 use checks::play_answer;
-use clip::fields::get32;
 use comparing::same_sound;
 use heading::read_coefficients;
 use heading::read_head;
+use layout::fields::get32;
 use playing::play_block;
 use playing::play_blocks;
 

@@ -15,7 +15,7 @@ use crate::heading::read_coefficients;
 use block::FrameContext;
 use block::address_to_sample;
 use block::play_bytes;
-use clip::fields::get32;
+use layout::fields::get32;
 
 // Block k's samples to the output, with the length and the coefficients that were read: the context after them.
 pub(crate) fn play_block(

@@ -16,16 +16,17 @@ use Rattle.coefficients.specs.Runs as measured
 use Rattle.coefficients.specs.Runs.{coefficientsOf}
 use Rattle.coefficients.proofs.WholeRuns.{measuring-runs}
 use Rattle.clip.specs.declared.Answer.the-variants as Encoding
-use Rattle.clip.specs.Sizes.{blocksOf, sizeOf, cutDown}
+use Rattle.layout.specs.Sizes.{blocksOf, sizeOf, cutDown}
 use Rattle.whole.specs.Frames.{framesOf}
-use Rattle.clip.specs.Image.{mark}
-use Rattle.clip.specs.Encoding.{Both, startOf, placeOf}
+use Rattle.layout.specs.Fields.{mark}
+use Rattle.clip.specs.Encoding.{Both, startOf}
+use Rattle.layout.specs.Sizes.{placeOf}
 use Rattle.clip.specs.Runs as encoded
 use Rattle.clip.specs.Runs.{Start, startWith, imageOf, followed, Call, Plain, plain, plainAfter, left, after}
 use Rattle.clip.proofs.Accepting.{start-accepted}
 use Rattle.clip.proofs.Built.{Fine, built, image-built}
-use Rattle.clip.proofs.Replay.{Audible}
-use Rattle.clip.proofs.Sounding.{sound-count, sound-near, frame-of}
+use Rattle.round_trip.proofs.Replay.{Audible}
+use Rattle.round_trip.proofs.Sounding.{sound-count, sound-near, frame-of}
 use Rattle.clip.proofs.WholeRuns.{open-legal, legal-after, start-answered, start-fine, encoding-runs, encoding-states}
 use Rattle.image.specs.declared.Answer.{Answer}
 use Rattle.image.specs.declared.Answer.the-variants.{Accepted}

@@ -14,14 +14,14 @@ use Rattle.block.specs.Address.{addressToSample}
 use Rattle.block.specs.Frame.{Playing}
 use Rattle.block.specs.Play.{play}
 use Rattle.block.specs.Refusals.{same, lowestAmong, lowestPair}
-use Rattle.clip.specs.Sizes.{blocksOf, lengthOf}
+use Rattle.layout.specs.Sizes.{blocksOf, lengthOf}
 use Rattle.whole.specs.Frames.{framesOf}
-use Rattle.clip.specs.Encoding.{placeOf}
+use Rattle.layout.specs.Sizes.{placeOf}
 use Rattle.clip.specs.Runs.{Start, encodedAt}
 use Rattle.clip.proofs.Built.{Fine}
-use Rattle.clip.proofs.Readback as read
-use Rattle.clip.proofs.Replay.{Audible}
-use Rattle.clip.proofs.Sounding.{blockSound, blocksSound, soundOf, block-played, all-blocks, frame-place}
+use Rattle.round_trip.proofs.Readback as read
+use Rattle.round_trip.proofs.Replay.{Audible}
+use Rattle.round_trip.proofs.Sounding.{blockSound, blocksSound, soundOf, block-played, all-blocks, frame-place}
 use Rattle.image.specs.declared.PlayAnswer.the-variants.{Played}
 use Rattle.image.specs.Reading.{coefficientsIn, offsetIn, lengthIn}
 use Rattle.image.specs.Bodies.{bodyIn}

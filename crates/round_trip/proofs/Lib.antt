@@ -1,4 +1,9 @@
 -- The theorems.
+pub mod Rows
+pub mod Readback
+pub mod Playback
+pub mod Replay
+pub mod Sounding
 pub mod Opening
 pub mod Heard
 pub mod Pieces

@@ -12,15 +12,16 @@ use mir.Val.{ofZ, toZ}
 use mir.ValLaws.{toZ-ofZ}
 use Rattle.frame.specs.Frame.{within}
 use Rattle.frame.proofs.LawsFrame.{limits-fit}
-use Rattle.clip.specs.Image.{at16, at32, mark, headOf}
-use Rattle.clip.specs.Sizes.{blocksOf, sizeOf, offsetOf}
+use Rattle.layout.specs.Fields.{at16, at32, mark}
+use Rattle.clip.specs.Image.{headOf}
+use Rattle.layout.specs.Sizes.{blocksOf, sizeOf, offsetOf}
 use Rattle.whole.specs.Frames.{framesOf}
 use Rattle.clip.specs.Runs.{Start, historyAt, encodedAt}
-use Rattle.clip.proofs.Sizing.{block-first, block-place}
+use Rattle.layout.proofs.Sizing.{block-first, block-place}
 use Rattle.clip.proofs.Built.{Fine, listed, filled, built, built-length}
-use Rattle.clip.proofs.Readback as read
-use Rattle.clip.proofs.Sounding.{block-parts}
-use Rattle.clip.proofs.Replay.{Audible, contextBefore, history-sampled}
+use Rattle.round_trip.proofs.Readback as read
+use Rattle.round_trip.proofs.Sounding.{block-parts}
+use Rattle.round_trip.proofs.Replay.{Audible, contextBefore, history-sampled}
 use Rattle.image.specs.declared.Answer.the-variants.{Accepted}
 use Rattle.image.specs.Reading.{totalIn, rateIn, blockIn, gainIn, zeroIn, blocksIn, signedAt, coefficientsUpTo, coefficientsIn, offsetIn, lengthIn, headerIn, newestIn, olderIn, entryZeroIn}
 use Rattle.image.specs.Opened.{markOk, openAnswer}

@@ -16,7 +16,7 @@ use Rattle.block.specs.Sample.{sampleOf}
 use Rattle.whole.specs.Whole.{signedNibble, clamp16}
 use Rattle.block.proofs.Worked.{to-sample, to-address, header}
 use Rattle.clip.specs.declared.Answer.the-variants.{Accepted}
-use Rattle.clip.specs.Sizes.{lastOf, blocksOf, bodyOf, sizeOf, cutDown, offsetOf, lengthOf}
+use Rattle.layout.specs.Sizes.{lastOf, blocksOf, bodyOf, sizeOf, cutDown, offsetOf, lengthOf}
 use Rattle.clip.specs.Image.{coefficientBytes, headOf, entryOf, tableOf}
 use Rattle.clip.specs.Encoding.{Both, startAnswer, startOf}
 use Rattle.clip.specs.Runs.{Start, startWith, historyAt, encodedAt, bodiesOf, contextAt, imageOf, followed, feeds, closes, plainAfter}

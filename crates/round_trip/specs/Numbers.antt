@@ -11,7 +11,7 @@ use Rattle.block.specs.Address.{addressToSample, sampleToAddress}
 use Rattle.block.specs.Context.{predictorOf, scaleOf, contextOf}
 use Rattle.block.specs.Play.{play}
 use Rattle.whole.specs.Whole.{signedNibble}
-use Rattle.clip.specs.Sizes.{sizeOf}
+use Rattle.layout.specs.Sizes.{sizeOf}
 use Rattle.clip.specs.Encoding.{startOf}
 use Rattle.clip.specs.Runs.{feeds, closes, left, after}
 use Rattle.image.specs.Sameness.{samplesIn}

@@ -13,8 +13,9 @@ use Rattle.coefficients.specs.Measure.{measuring, fresh}
 use Rattle.coefficients.specs.Runs as measured
 use Rattle.coefficients.specs.Runs.{coefficientsOf}
 use Rattle.clip.specs.declared.Answer.the-variants as Encoding
-use Rattle.clip.specs.Sizes.{blocksOf, sizeOf, lengthOf}
-use Rattle.clip.specs.Encoding.{Both, Out, placeOf, startOf}
+use Rattle.layout.specs.Sizes.{blocksOf, sizeOf, lengthOf}
+use Rattle.clip.specs.Encoding.{Both, Out, startOf}
+use Rattle.layout.specs.Sizes.{placeOf}
 use Rattle.clip.specs.Runs as encoded
 use Rattle.clip.specs.Runs.{Start, startWith, stateOf, imageOf, left, after}
 use Rattle.image.specs.declared.Answer.the-variants.{Accepted}

@@ -1,3 +1,4 @@
 -- What the contracts cite.
 pub mod Whole
 pub mod Frames
+pub mod Outcome

@@ -3,7 +3,7 @@ use mathlib.Core.Path.{_≡_, refl, sym, ap, _∙_}
 use mathlib.Core.List.{List}
 use Prim.Native.Nat.{ℕ}
 use Rattle.clip.specs.declared.Answer.the-variants.{Accepted}
-use Rattle.clip.specs.Sizes.{cutDown}
+use Rattle.layout.specs.Sizes.{cutDown}
 use Rattle.clip.specs.Encoding.{both, outOf, beginning, startOf, startBy}
 use Rattle.clip.proofs.Accepting.{start-accepted}
 use borrow.Author.Needs.{needs}

@@ -6,7 +6,7 @@ use lib.IntN.{ℤ, pos, natAbs, _-ℤ_}
 use mir.Syntax.{w16, w64}
 use mir.Val.{toZ, ofZ}
 use mir.Facts.{toZ-ofZ}
-use Rattle.whole.proofs.Values.{Is, is-16, is-in, is-lit, is-sub, chk-sub, is-eq, is-le, chk-cast, chk-cast-u, is-size, below-zero, not-below-zero}
+use Rattle.whole.proofs.Values.{Is, is-16, is-in, is-lit, is-sub, chk-sub, is-eq, chk-cast, chk-cast-u, is-size, below-zero, not-below-zero}
 use Rattle.frame_list.proofs.print_sample.Statement.{statement}
 use Rattle.frame_list.proofs.print_sample.Tie as tie
 

@@ -2,7 +2,7 @@
 use mathlib.Core.Path.{_≡_, sym, _∙_}
 use borrow.Author.Tests.{lt-leb, le-leb, eq-eqb, ne-eqb, lt-ltb, le-ltb, not-true, not-false}
 use native.Mathlib.Omega.{arith}
-use Rattle.clip.specs.Sizes.{cutDown}
+use Rattle.layout.specs.Sizes.{cutDown}
 use Rattle.clip.specs.Encoding.{startAnswer}
 use borrow.Author.Needs.{needs}
 use Rattle.clip.proofs.checks.start_answer.Statement.{statement}

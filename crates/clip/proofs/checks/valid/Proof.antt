@@ -2,8 +2,9 @@
 use mathlib.Core.Path.{_≡_, sym, _∙_}
 use mathlib.Core.Bool.{true}
 use borrow.Author.Tests.{not-true, not-false}
-use Rattle.clip.specs.Encoding.{numbersOk, validOf}
-use Rattle.clip.proofs.Sound.{numbers-sound}
+use Rattle.layout.specs.Limits.{numbersOk}
+use Rattle.clip.specs.Encoding.{validOf}
+use Rattle.layout.proofs.Numbers.{numbers-sound}
 use borrow.Author.Needs.{needs}
 use Rattle.clip.proofs.checks.valid.Statement.{statement}
 use Rattle.clip.proofs.checks.valid.Tie as tie

@@ -3,7 +3,7 @@ use Prim.Native.Nat.{_+_, _/_, _%_}
 use native.Mathlib.Omega.{arith}
 use lib.ListN.{take}
 use Rattle.frame.proofs.LawsFrame.{limits-bounded}
-use Rattle.clip.specs.Sizes.{sizeOf}
+use Rattle.layout.specs.Sizes.{sizeOf}
 use Rattle.clip.proofs.Storing.{passes-few}
 use Rattle.clip.proofs.Ending.{last-room, stored-room, finish-part, finish-whole}
 use borrow.Author.Needs.{needs}

@@ -7,7 +7,7 @@ use mathlib.Core.List.{List}
 use mir.Facts.{toZ-ofZ}
 use mir.Syntax.{w16}
 use mir.Val.{ofZ}
-use Rattle.clip.specs.Image.{be16, sample16}
+use Rattle.layout.specs.Fields.{be16, sample16}
 use Rattle.clip.proofs.FieldRuns.{runs3}
 use borrow.Author.Needs.{needs}
 use Rattle.clip.proofs.contents.put_context.Statement.{statement}

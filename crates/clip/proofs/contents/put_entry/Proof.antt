@@ -3,7 +3,7 @@ use mathlib.Core.Path.{refl}
 use native.Mathlib.Omega.{arith}
 use Prim.Native.Nat.{_+_}
 use lib.ListN.{replicate}
-use Rattle.clip.specs.Image.{be32}
+use Rattle.layout.specs.Fields.{be32}
 use Rattle.clip.proofs.FieldRuns.{runs3}
 use borrow.Author.Needs.{needs}
 use Rattle.clip.proofs.contents.put_entry.Statement.{statement}

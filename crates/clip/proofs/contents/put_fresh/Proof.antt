@@ -5,8 +5,9 @@ use Prim.Native.Nat.{ℕ, _+_, _*_}
 use native.Mathlib.Omega.{arith}
 use lib.ListN.{length, replicate}
 use lib.Seq.{sets}
-use Rattle.clip.specs.Image.{headOf, noMark, tableOf, freshOf}
-use Rattle.clip.specs.Sizes.{blocksOf, bodyOf, sizeOf}
+use Rattle.clip.specs.Image.{headOf, tableOf, freshOf}
+use Rattle.layout.specs.Fields.{noMark}
+use Rattle.layout.specs.Sizes.{blocksOf, bodyOf, sizeOf}
 use Rattle.clip.proofs.FieldRuns.{runs3, head-length}
 use Rattle.clip.proofs.Tables.{bare, table-length}
 use borrow.Author.Needs.{needs}

@@ -5,8 +5,9 @@ use Prim.Native.Nat.{ℕ, _+_, _*_}
 use native.Mathlib.Omega.{arith}
 use lib.ListN.{length, replicate}
 use lib.Seq.{sets}
-use Rattle.clip.specs.Image.{be16, be32, noMark, coefficientBytes, headOf}
-use Rattle.clip.specs.Sizes.{blocksOf}
+use Rattle.layout.specs.Fields.{be16, be32, noMark}
+use Rattle.clip.specs.Image.{coefficientBytes, headOf}
+use Rattle.layout.specs.Sizes.{blocksOf}
 use Rattle.clip.proofs.FieldRuns.{runs4, coefficient-length}
 use borrow.Author.Needs.{needs}
 use Rattle.clip.proofs.contents.put_head.Statement.{statement}

@@ -5,7 +5,7 @@ use Prim.Native.Nat.{ℕ, _+_, _*_}
 use native.Mathlib.Omega.{arith}
 use lib.ListN.{length, replicate}
 use lib.Seq.{sets}
-use Rattle.clip.specs.Image.{be16, be32}
+use Rattle.layout.specs.Fields.{be16, be32}
 use Rattle.clip.proofs.FieldRuns.{runs3}
 use borrow.Author.Needs.{needs}
 use Rattle.clip.proofs.contents.put_rest.Statement.{statement}

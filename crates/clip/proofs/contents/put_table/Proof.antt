@@ -5,8 +5,8 @@ use native.Mathlib.Omega.{arith}
 use lib.ListN.{length}
 use lib.Seq.{sets, length-sets}
 use Rattle.clip.specs.Image.{tableOf}
-use Rattle.clip.specs.Sizes.{blocksOf, offsetOf}
-use Rattle.clip.proofs.Sizing.{blocks-most, start-most}
+use Rattle.layout.specs.Sizes.{blocksOf, offsetOf}
+use Rattle.layout.proofs.Sizing.{blocks-most, start-most}
 use Rattle.clip.proofs.Tables.{bare, table-none, table-turn}
 use Rattle.clip.proofs.contents.put_table.Statement.{statement}
 use Rattle.clip.proofs.contents.put_table.Tie as tie

@@ -1,6 +1,6 @@
 -- `doilycairn_image_size` meets its contract. Assumes nothing.
 use borrow.Author.Tests.{lt-leb, le-leb}
-use Rattle.clip.specs.Sizes.{cutDown}
+use Rattle.layout.specs.Sizes.{cutDown}
 use Rattle.doilycairn.specs.Sizes.{imageSize}
 use borrow.Author.Needs.{needs}
 use Rattle.doilycairn.proofs.sizes.doilycairn_image_size.Statement.{statement}

@@ -5,8 +5,8 @@ use native.Mathlib.Omega.{arith}
 use borrow.Author.Tests.{not-true, not-false}
 use lib.ListN.{length}
 use borrow.Author.Needs.{needs}
-use Rattle.clip.specs.Facts.{Limits}
-use Rattle.clip.specs.Sizes.{sizeOf}
+use Rattle.layout.specs.Limits.{Limits}
+use Rattle.layout.specs.Sizes.{sizeOf}
 use Rattle.image.specs.Facts.{Headed}
 use Rattle.image.specs.Opened.{openAnswer}
 use Rattle.image.specs.Reading.{totalIn, blockIn}

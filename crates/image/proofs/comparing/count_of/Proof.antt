@@ -2,9 +2,9 @@
 use mathlib.Core.Path.{_≡_, sym, ap, _∙_}
 use Prim.Native.Nat.{ℕ, _-_, _*_}
 use native.Mathlib.Omega.{arith}
-use Rattle.clip.specs.Sizes.{lastOf}
+use Rattle.layout.specs.Sizes.{lastOf}
 use Rattle.whole.specs.Frames.{framesOf}
-use Rattle.clip.proofs.Sizing.{frames-some}
+use Rattle.layout.proofs.Sizing.{frames-some}
 use Rattle.image.proofs.FramePlaces.{count-whole, count-last}
 use borrow.Author.Needs.{needs}
 use Rattle.image.proofs.comparing.count_of.Statement.{statement}

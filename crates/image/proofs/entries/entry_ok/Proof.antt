@@ -6,7 +6,7 @@ use borrow.Author.Tests.{eq-eqb, ne-eqb}
 use lib.ListN.{length}
 use native.Mathlib.Omega.{arith}
 use borrow.Author.Needs.{needs}
-use Rattle.clip.specs.Sizes.{offsetOf}
+use Rattle.layout.specs.Sizes.{offsetOf}
 use Rattle.image.specs.Opened.{entryOk}
 use Rattle.image.specs.Reading.{offsetIn, lengthIn, headerIn, entryZeroIn}
 use Rattle.image.proofs.Places.{Within, within}

@@ -2,8 +2,8 @@
 use mathlib.Core.Path.{_≡_, sym, _∙_}
 use borrow.Author.Tests.{not-true, not-false, eq-eqb, ne-eqb}
 use borrow.Author.Needs.{needs}
-use Rattle.clip.specs.Facts.{Limits}
-use Rattle.clip.proofs.Sound.{numbers-sound}
+use Rattle.layout.specs.Limits.{Limits}
+use Rattle.layout.proofs.Numbers.{numbers-sound}
 use Rattle.image.specs.Opened.{numbersFit}
 use Rattle.image.proofs.heading.numbers_fit.Statement.{statement}
 use Rattle.image.proofs.heading.numbers_fit.Tie as tie

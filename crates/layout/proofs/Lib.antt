@@ -1,0 +1,4 @@
+-- Laws.
+mod Bits
+pub mod Sizing
+pub mod Numbers

@@ -1,0 +1,12 @@
+// The layout of a clip image: its mark, its limits, its sizes and its fields.
+pub mod fields;
+pub mod limits;
+pub mod sizes;
+
+// The mark: closing writes it, opening compares it.
+pub const MARK: [u8; 4] = *b"DSPC";
+
+// The bytes of the head, and of an entry of the contents after it.
+pub const HEAD_BYTES: usize = 56;
+
+pub const ENTRY_BYTES: usize = 16;
