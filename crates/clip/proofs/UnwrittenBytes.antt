@@ -13,42 +13,38 @@ use lib.ListN.{length, getD, set, length-set, List·getD-eq-default}
 use lib.Seq.{sets, length-sets, getD-set-same, getD-set-other}
 use Rattle.whole.specs.Frames.{framesOf}
 use Rattle.frame.specs.declared.History.{History}
-use Rattle.layout.specs.Sizes.{lastOf, blocksOf, bodyOf, sizeOf}
+use Rattle.layout.specs.Sizes.{lastSamples, blockCount, bodyBytes, imageSize}
 use Rattle.layout.specs.Fields.{mark}
 use Rattle.clip.specs.Image.{contextBytes}
-use Rattle.layout.specs.Sizes.{placeOf, contextPlace}
-use Rattle.clip.specs.Encoding.{storeOf}
+use Rattle.layout.specs.Sizes.{framePlace, contextPlace}
+use Rattle.clip.specs.Encoding.{store}
+use Rattle.clip.specs.Undo.{Unwritten, marked, body, context}
+use Rattle.layout.specs.declared.Shape.{Shape}
 use Rattle.layout.specs.Limits.{Limits}
-use Rattle.layout.proofs.Sizing.{block-first, first-block}
+use Rattle.layout.proofs.SizeLaws.{block-first, first-block}
 
--- with q frames encoded, byte i is still to be written: it is the mark's, a frame's, or in the context of a block whose first frame is to come
-pub data Due (n b q i : ℕ) : Type 0 where
-  marked : i < 4 → Due n b q i
-  body : placeOf n b q ≤ i → i < sizeOf n b → Due n b q i
-  context : (j : ℕ) → j < blocksOf n b → q ≤ j * (b / 8) → contextPlace j ≤ i → i < contextPlace j + 6 → Due n b q i
+pub unwritten-earlier : (s : Shape) (q r i : ℕ) → q ≤ r → Unwritten s r i → Unwritten s q i
+unwritten-earlier s q r i h (marked l) = marked l
+unwritten-earlier s q r i h (body lo hi) = body (omega arith) hi
+unwritten-earlier s q r i h (context j lt le lo hi) = context j lt (omega arith) lo hi
 
-pub due-earlier : (n b q r i : ℕ) → q ≤ r → Due n b r i → Due n b q i
-due-earlier n b q r i h (marked l) = marked l
-due-earlier n b q r i h (body lo hi) = body (omega arith) hi
-due-earlier n b q r i h (context j lt le lo hi) = context j lt (omega arith) lo hi
+-- nothing is unwritten past the image
+pub unwritten-within : (s : Shape) (q i : ℕ) → Unwritten s q i → i < imageSize s
+unfolding imageSize
+unwritten-within s q i (marked l) = omega arith
+unwritten-within s q i (body lo hi) = hi
+unwritten-within s q i (context j lt le lo hi) = omega arith
 
--- nothing is due past the image
-pub due-within : (n b q i : ℕ) → Due n b q i → i < sizeOf n b
-unfolding sizeOf
-due-within n b q i (marked l) = omega arith
-due-within n b q i (body lo hi) = hi
-due-within n b q i (context j lt le lo hi) = omega arith
-
--- with all frames encoded only the mark is due
-body-most : (n : ℕ) → 1 ≤ n → bodyOf n ≤ 8 * framesOf n
-unfolding bodyOf lastOf framesOf
+-- with all frames encoded only the mark is unwritten
+body-most : (n : ℕ) → 1 ≤ n → bodyBytes n ≤ 8 * framesOf n
+unfolding bodyBytes lastSamples framesOf
 body-most n h = omega arith
 
-due-last : (n b i : ℕ) → Limits n b → Due n b (framesOf n) i → i < 4
-unfolding sizeOf
-due-last n b i L (marked l) = l
-due-last n b i L (body lo hi) = absurd (omega (arith, body-most n (L .some)))
-due-last n b i L (context j lt le lo hi) = absurd (omega (arith, block-first n b j L lt))
+unwritten-last : (s : Shape) (i : ℕ) → Limits s → Unwritten s (framesOf (s .total)) i → i < 4
+unfolding imageSize
+unwritten-last s i L (marked l) = l
+unwritten-last s i L (body lo hi) = absurd (omega (arith, body-most (s .total) (L .some)))
+unwritten-last s i L (context j lt le lo hi) = absurd (omega (arith, block-first s j L lt))
 
 -- ---- the same bytes stored in two buffers of one length
 
@@ -87,12 +83,12 @@ sets-leave (x ∷ v) l p i = go (sets-leave v (set l p x) (suc p) i) (ℕ-discre
 
 -- ---- a frame is stored
 
-module _ (n b q : ℕ) (v : List ℕ) (h : History) where
+module _ (s : Shape) (q : ℕ) (v : List ℕ) (h : History) where
   abbrev place : ℕ
-  place = placeOf n b q
+  place = framePlace s q
 
   abbrev first : ℕ
-  first = contextPlace (q / (b / 8))
+  first = contextPlace (q / (s .block / 8))
 
   abbrev fields : List ℕ
   fields = contextBytes (getD v 0 0) h
@@ -104,72 +100,72 @@ module _ (n b q : ℕ) (v : List ℕ) (h : History) where
     lengths : length (sets l place v) ≡ length (sets m place v)
     lengths = length-sets l place v ∙ e ∙ sym (length-sets m place v)
 
-    pub store-same : (getD l i 0 ≡ getD m i 0) ⊎ ((place ≤ i) × (i < place + length v)) → getD (storeOf n b q v h l) i 0 ≡ getD (storeOf n b q v h m) i 0
-    unfolding storeOf
-    store-same c = go (eqb (q % (b / 8)) 0)
+    pub store-same : (getD l i 0 ≡ getD m i 0) ⊎ ((place ≤ i) × (i < place + length v)) → getD (store s q v h l) i 0 ≡ getD (store s q v h m) i 0
+    unfolding store
+    store-same c = go (eqb (q % (s .block / 8)) 0)
       where
         go : (t : Bool) → getD (stored t l) i 0 ≡ getD (stored t m) i 0
         go true = both-sets fields (sets l place v) (sets m place v) first i lengths (inl (both-sets v l m place i e c))
         go false = both-sets v l m place i e c
 
-    store-context : q % (b / 8) ≡ 0 → first ≤ i → i < first + 6 → getD (storeOf n b q v h l) i 0 ≡ getD (storeOf n b q v h m) i 0
-    unfolding storeOf
-    store-context z lo hi = go (eqb (q % (b / 8)) 0) refl
+    store-context : q % (s .block / 8) ≡ 0 → first ≤ i → i < first + 6 → getD (store s q v h l) i 0 ≡ getD (store s q v h m) i 0
+    unfolding store
+    store-context z lo hi = go (eqb (q % (s .block / 8)) 0) refl
       where
-        go : (t : Bool) → eqb (q % (b / 8)) 0 ≡ t → getD (stored t l) i 0 ≡ getD (stored t m) i 0
+        go : (t : Bool) → eqb (q % (s .block / 8)) 0 ≡ t → getD (stored t l) i 0 ≡ getD (stored t m) i 0
         go true p = both-sets fields (sets l place v) (sets m place v) first i lengths (inr (lo, hi))
-        go false p = absurd (eqb-false (q % (b / 8)) 0 p z)
+        go false p = absurd (eqb-false (q % (s .block / 8)) 0 p z)
 
-    -- a frame's bytes, and the context of the block that it is the first of, are due no longer
-    pub store-due : 8 ≤ b → (length v ≡ 8) ⊎ (8 * q + length v ≡ bodyOf n) → Due n b q i → (getD (storeOf n b q v h l) i 0 ≡ getD (storeOf n b q v h m) i 0) ⊎ Due n b (suc q) i
-    unfolding sizeOf
-    store-due w k (marked lt) = inr (marked lt)
-    store-due w k (body lo hi) = go (decLt i (place + length v)) k
+    -- a frame's bytes, and the context of the block that it is the first of, are written then
+    pub store-unwritten : 8 ≤ s .block → (length v ≡ 8) ⊎ (8 * q + length v ≡ bodyBytes (s .total)) → Unwritten s q i → (getD (store s q v h l) i 0 ≡ getD (store s q v h m) i 0) ⊎ Unwritten s (suc q) i
+    unfolding imageSize
+    store-unwritten w k (marked lt) = inr (marked lt)
+    store-unwritten w k (body lo hi) = go (decLt i (place + length v)) k
       where
-        go : Dec (i < place + length v) → (length v ≡ 8) ⊎ (8 * q + length v ≡ bodyOf n) → (getD (storeOf n b q v h l) i 0 ≡ getD (storeOf n b q v h m) i 0) ⊎ Due n b (suc q) i
+        go : Dec (i < place + length v) → (length v ≡ 8) ⊎ (8 * q + length v ≡ bodyBytes (s .total)) → (getD (store s q v h l) i 0 ≡ getD (store s q v h m) i 0) ⊎ Unwritten s (suc q) i
         go (yes lt) c = inl (store-same (inr (lo, lt)))
         go (no ge) (inl eight) = inr (body (omega arith) hi)
         go (no ge) (inr all) = absurd (omega arith)
-    store-due w k (context j lt le lo hi) = go (ℕ-discrete (j * (b / 8)) q)
+    store-unwritten w k (context j lt le lo hi) = go (ℕ-discrete (j * (s .block / 8)) q)
       where
-        some : 0 < b / 8
+        some : 0 < s .block / 8
         some = omega arith
 
-        at : j * (b / 8) ≡ q → q / (b / 8) ≡ j
-        at p = ap (λ (a : ℕ). a / (b / 8)) (sym p) ∙ mul-div-cancel j some
+        at : j * (s .block / 8) ≡ q → q / (s .block / 8) ≡ j
+        at p = ap (λ (a : ℕ). a / (s .block / 8)) (sym p) ∙ mul-div-cancel j some
 
-        go : Dec (j * (b / 8) ≡ q) → (getD (storeOf n b q v h l) i 0 ≡ getD (storeOf n b q v h m) i 0) ⊎ Due n b (suc q) i
+        go : Dec (j * (s .block / 8) ≡ q) → (getD (store s q v h l) i 0 ≡ getD (store s q v h m) i 0) ⊎ Unwritten s (suc q) i
         go (yes p) =
             let a = at p in
-            inl (store-context (ap (λ (a : ℕ). a % (b / 8)) (sym p) ∙ mul-mod-left j (b / 8)) (subst (λ (a : ℕ). contextPlace a ≤ i) (sym a) lo) (subst (λ (a : ℕ). i < contextPlace a + 6) (sym a) hi))
+            inl (store-context (ap (λ (a : ℕ). a % (s .block / 8)) (sym p) ∙ mul-mod-left j (s .block / 8)) (subst (λ (a : ℕ). contextPlace a ≤ i) (sym a) lo) (subst (λ (a : ℕ). i < contextPlace a + 6) (sym a) hi))
         go (no p) = inr (context j lt (omega arith) lo hi)
 
-  -- what storing writes was due
-  pub store-leaves : Limits n b → q < framesOf n → 8 * q + length v ≤ bodyOf n → (l : List ℕ) (i : ℕ) → (getD l i 0 ≡ getD (storeOf n b q v h l) i 0) ⊎ Due n b q i
-  unfolding storeOf sizeOf
-  store-leaves L lt room l i = go (eqb (q % (b / 8)) 0) refl
+  -- what storing writes was unwritten
+  pub store-leaves : Limits s → q < framesOf (s .total) → 8 * q + length v ≤ bodyBytes (s .total) → (l : List ℕ) (i : ℕ) → (getD l i 0 ≡ getD (store s q v h l) i 0) ⊎ Unwritten s q i
+  unfolding store imageSize
+  store-leaves L lt room l i = go (eqb (q % (s .block / 8)) 0) refl
     where
-      within : i < place + length v → i < sizeOf n b
+      within : i < place + length v → i < imageSize s
       within k = omega arith
 
-      frame : (getD l i 0 ≡ getD (sets l place v) i 0) ⊎ Due n b q i
+      frame : (getD l i 0 ≡ getD (sets l place v) i 0) ⊎ Unwritten s q i
       frame = elim (sets-leave v l place i) [ inl p ↦ inl p | inr w ↦ inr (body (w .0) (within (w .1))) ]
 
-      go : (t : Bool) → eqb (q % (b / 8)) 0 ≡ t → (getD l i 0 ≡ getD (stored t l) i 0) ⊎ Due n b q i
+      go : (t : Bool) → eqb (q % (s .block / 8)) 0 ≡ t → (getD l i 0 ≡ getD (stored t l) i 0) ⊎ Unwritten s q i
       go true p =
-          let z = eqb-true (q % (b / 8)) 0 p in
-          let d : q ≤ q / (b / 8) * (b / 8) = omega (arith, div-add-mod' q (b / 8)) in
+          let z = eqb-true (q % (s .block / 8)) 0 p in
+          let d : q ≤ q / (s .block / 8) * (s .block / 8) = omega (arith, div-add-mod' q (s .block / 8)) in
           elim (sets-leave fields (sets l place v) first i) [
             | inl e ↦ elim frame [ inl f ↦ inl (f ∙ e) | inr w ↦ inr w ]
-            | inr w ↦ inr (context (q / (b / 8)) (first-block n b q L lt z) d (w .0) (w .1))
+            | inr w ↦ inr (context (q / (s .block / 8)) (first-block s q L lt z) d (w .0) (w .1))
           ]
       go false p = frame
 
 -- ---- the mark is written
 
-pub mark-same : (n b : ℕ) → Limits n b → (l m : List ℕ) (i : ℕ) → length l ≡ length m → (getD l i 0 ≡ getD m i 0) ⊎ Due n b (framesOf n) i → getD (sets l 0 mark) i 0 ≡ getD (sets m 0 mark) i 0
-mark-same n b L l m i e (inl p) = both-sets mark l m 0 i e (inl p)
-mark-same n b L l m i e (inr d) = both-sets mark l m 0 i e (inr (omega arith, due-last n b i L d))
+pub mark-same : (s : Shape) → Limits s → (l m : List ℕ) (i : ℕ) → length l ≡ length m → (getD l i 0 ≡ getD m i 0) ⊎ Unwritten s (framesOf (s .total)) i → getD (sets l 0 mark) i 0 ≡ getD (sets m 0 mark) i 0
+mark-same s L l m i e (inl p) = both-sets mark l m 0 i e (inl p)
+mark-same s L l m i e (inr d) = both-sets mark l m 0 i e (inr (omega arith, unwritten-last s i L d))
 
-pub mark-leaves : (n b q : ℕ) (l : List ℕ) (i : ℕ) → (getD l i 0 ≡ getD (sets l 0 mark) i 0) ⊎ Due n b q i
-mark-leaves n b q l i = elim (sets-leave mark l 0 i) [ inl p ↦ inl p | inr w ↦ inr (marked (w .1)) ]
+pub mark-leaves : (s : Shape) (q : ℕ) (l : List ℕ) (i : ℕ) → (getD l i 0 ≡ getD (sets l 0 mark) i 0) ⊎ Unwritten s q i
+mark-leaves s q l i = elim (sets-leave mark l 0 i) [ inl p ↦ inl p | inr w ↦ inr (marked (w .1)) ]

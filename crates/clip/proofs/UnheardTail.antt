@@ -10,20 +10,10 @@ use lib.IntN.{ℤ, pos}
 use lib.ListN.{length, take, set, replicate, length-set, length-replicate, drop-of-length-le}
 use lib.Seq.{sets, sets-eq, take-all, take-suc, take-set-le, getD-set-same}
 use Rattle.frame.specs.Frame.{encodeFrame, historyAfter}
-use Rattle.clip.specs.declared.Answer.{Answer}
-use Rattle.clip.specs.declared.Answer.the-variants.{Accepted, Refused}
+use Rattle.whole.specs.Outcome.{Outcome, accepted, refused}
 use Rattle.clip.specs.declared.Encoder.{Encoder}
-use Rattle.clip.specs.Encoding.{Both, both, storeOf, moved, noFrame, pushOf, pieceOf, endOf, validOf, feedAnswer, feedBy, feedOf, closeAnswer, closeBy, closeOf}
-
--- the state with another unfinished frame
-abbrev pub framed : Encoder → List ℤ → Encoder
-framed e f = moved e (e .fed) (e .history) f (e .passes) (e .closed)
-
--- two frames with the same samples fed
-pub record Alike (n : ℕ) (a b : List ℤ) : Type 0 where
-  pub first : length a ≡ 14
-  pub second : length b ≡ 14
-  pub same : take (n % 14) a ≡ take (n % 14) b
+use Rattle.clip.specs.Unheard.{framed, Alike}
+use Rattle.clip.specs.Encoding.{encoderShape, Left, left, store, moved, noFrame, push, feedAll, finish, valid, feedAnswer, feedBy, feed, closeAnswer, closeBy, close}
 
 -- ---- lists
 
@@ -64,22 +54,22 @@ padded-same n a b s =
 -- ---- one sample, a piece, the end
 
 -- the same image, and states that differ in such a frame at most
-pub record Unheard (s t : Both) : Type 0 where
+pub record Unheard (s t : Left) : Type 0 where
   pub bytes : s .bytes ≡ t .bytes
   pub frames : Alike (s .encoder .fed) (s .encoder .frame) (t .encoder .frame)
   pub state : framed (s .encoder) (t .encoder .frame) ≡ t .encoder
 
 module _ (e : Encoder) (l : List ℕ) (f : List ℤ) (x : ℤ) (s : Alike (e .fed) (e .frame) f) where
-  abbrev full : List ℤ → Both
+  abbrev full : List ℤ → Left
   full g =
       let c = encodeFrame (e .history) g (e .coefficients) in
-      both (moved e (e .fed + 1) (historyAfter (e .history) (c .samples) 14) noFrame (e .passes + c .passes) (e .closed)) (storeOf (e .total) (e .block) (e .fed / 14) (c .bytes) (e .history) l)
+      left (moved e (e .fed + 1) (historyAfter (e .history) (c .samples) 14) noFrame (e .passes + c .passes) (e .closed)) (store (encoderShape e) (e .fed / 14) (c .bytes) (e .history) l)
 
-  abbrev part : List ℤ → Both
-  part g = both (moved e (e .fed + 1) (e .history) g (e .passes) (e .closed)) l
+  abbrev part : List ℤ → Left
+  part g = left (moved e (e .fed + 1) (e .history) g (e .passes) (e .closed)) l
 
-  push-unheard : Unheard (pushOf (both e l) x) (pushOf (both (framed e f) l) x)
-  unfolding pushOf
+  push-unheard : Unheard (push (left e l) x) (push (left (framed e f) l) x)
+  unfolding push
   push-unheard = go (eqb (e .fed % 14) 13) refl
     where
       go : (t : Bool) → eqb (e .fed % 14) 13 ≡ t → Unheard (cond t (full (set (e .frame) (e .fed % 14) x)) (part (set (e .frame) (e .fed % 14) x))) (cond t (full (set f (e .fed % 14) x)) (part (set f (e .fed % 14) x)))
@@ -100,35 +90,35 @@ module _ (e : Encoder) (l : List ℕ) (f : List ℤ) (x : ℤ) (s : Alike (e .fe
             state = refl;
           }
 
-same-both : (s t : Both) → Unheard s t → both (framed (s .encoder) (t .encoder .frame)) (s .bytes) ≡ t
-same-both s t u = ap₂ both (u .state) (u .bytes)
+same-both : (s t : Left) → Unheard s t → left (framed (s .encoder) (t .encoder .frame)) (s .bytes) ≡ t
+same-both s t u = ap₂ left (u .state) (u .bytes)
 
-piece-unheard : (xs : List ℤ) (s t : Both) → Unheard s t → Unheard (pieceOf s xs) (pieceOf t xs)
+piece-unheard : (xs : List ℤ) (s t : Left) → Unheard s t → Unheard (feedAll s xs) (feedAll t xs)
 piece-unheard [] s t u = u
 piece-unheard (x ∷ xs) s t u =
-    piece-unheard xs (pushOf s x) (pushOf t x)
-    (subst (λ (v : Both). Unheard (pushOf s x) (pushOf v x)) (same-both s t u) (push-unheard (s .encoder) (s .bytes) (t .encoder .frame) x (u .frames)))
+    piece-unheard xs (push s x) (push t x)
+    (subst (λ (v : Left). Unheard (push s x) (push v x)) (same-both s t u) (push-unheard (s .encoder) (s .bytes) (t .encoder .frame) x (u .frames)))
 
-end-unheard : (e : Encoder) (l : List ℕ) (f : List ℤ) → Alike (e .fed) (e .frame) f → endOf (both e l) ≡ endOf (both (framed e f) l)
-unfolding endOf
+end-unheard : (e : Encoder) (l : List ℕ) (f : List ℤ) → Alike (e .fed) (e .frame) f → finish (left e l) ≡ finish (left (framed e f) l)
+unfolding finish
 end-unheard e l f s = rw (padded-same (e .fed) (e .frame) f s)
 
 -- ---- the calls
 
-feed-by : (a : Answer) (xs : List ℤ) (s t : Both) → Unheard s t → feedBy a s xs .bytes ≡ feedBy a t xs .bytes
-feed-by Accepted xs s t u = piece-unheard xs s t u .bytes
-feed-by (Refused r) xs s t u = u .bytes
+feed-by : (a : Outcome Unit) (xs : List ℤ) (s t : Left) → Unheard s t → feedBy a s xs .bytes ≡ feedBy a t xs .bytes
+feed-by (accepted a) xs s t u = piece-unheard xs s t u .bytes
+feed-by (refused n) xs s t u = u .bytes
 
 -- what stands past the samples fed is never heard: feeding leaves the same image
-pub feed-unheard : (e : Encoder) (f : List ℤ) (xs : List ℤ) (l : List ℕ) → Alike (e .fed) (e .frame) f → feedOf e xs l .bytes ≡ feedOf (framed e f) xs l .bytes
-unfolding feedOf feedAnswer validOf
-feed-unheard e f xs l s = feed-by (feedAnswer e (length xs) (length l)) xs (both e l) (both (framed e f) l) (record { bytes = refl; frames = s; state = refl })
+pub feed-unheard : (e : Encoder) (f : List ℤ) (xs : List ℤ) (l : List ℕ) → Alike (e .fed) (e .frame) f → feed e xs l .bytes ≡ feed (framed e f) xs l .bytes
+unfolding feed feedAnswer valid
+feed-unheard e f xs l s = feed-by (feedAnswer e (length xs) (length l)) xs (left e l) (left (framed e f) l) (record { bytes = refl; frames = s; state = refl })
 
-close-by : (a : Answer) (e : Encoder) (f : List ℤ) (l : List ℕ) → Alike (e .fed) (e .frame) f → closeBy a (both e l) .bytes ≡ closeBy a (both (framed e f) l) .bytes
-close-by Accepted e f l s = ap (λ (t : Both). t .bytes) (end-unheard e l f s)
-close-by (Refused r) e f l s = refl
+close-by : (a : Outcome Unit) (e : Encoder) (f : List ℤ) (l : List ℕ) → Alike (e .fed) (e .frame) f → closeBy a (left e l) .bytes ≡ closeBy a (left (framed e f) l) .bytes
+close-by (accepted u) e f l s = ap (λ (t : Left). t .bytes) (end-unheard e l f s)
+close-by (refused n) e f l s = refl
 
 -- and so does closing
-pub close-unheard : (e : Encoder) (f : List ℤ) (l : List ℕ) → Alike (e .fed) (e .frame) f → closeOf e l .bytes ≡ closeOf (framed e f) l .bytes
-unfolding closeOf closeAnswer validOf
+pub close-unheard : (e : Encoder) (f : List ℤ) (l : List ℕ) → Alike (e .fed) (e .frame) f → close e l .bytes ≡ close (framed e f) l .bytes
+unfolding close closeAnswer valid
 close-unheard e f l s = close-by (closeAnswer e (length l)) e f l s

@@ -6,14 +6,17 @@ use borrow.Author.Tests.{leb-true, eqb-true, eqb-false}
 use lib.Dec.{T, leb, eqb}
 use Rattle.whole.specs.Frames.{most}
 use Rattle.layout.specs.Limits.{totalOk, blockOk, numbersOk, Limits}
+use Rattle.layout.specs.Sizes.{shape}
+use native.Mathlib.Omega.{arith}
 
 pub both-true : (a b : Bool) → a && b ≡ true → (a ≡ true) × (b ≡ true)
 both-true true b e = (refl, e)
 both-true false b e = absurd (subst T (sym e) tt)
 
+-- n samples fed of a clip within the limits
 pub record Within (n total b : ℕ) : Type 0 where
   pub fed : n ≤ total
-  pub limits : Limits total b
+  pub limits : Limits (shape total b)
 
 pub numbers-sound : (n total b rate : ℕ) → numbersOk n total b rate ≡ true → Within n total b
 unfolding numbersOk
@@ -32,6 +35,7 @@ numbers-sound n total b rate h =
         wide = leb-true 8 b (w .0);
         narrow = leb-true b 65536 (w .1);
         eights = eqb-true (b % 8) 0 (m .0);
+        further = omega arith;
       };
     }
 

@@ -10,24 +10,23 @@ use lib.IntN.{ℤ}
 use lib.ListN.{length, set, length-append}
 use Rattle.frame.specs.Frame.{encodeFrame, historyAfter}
 use Rattle.frame.specs.declared.EncodedFrame.{EncodedFrame}
-use Rattle.clip.specs.declared.Answer.{Answer}
-use Rattle.clip.specs.declared.Answer.the-variants.{Accepted, Refused}
+use Rattle.whole.specs.Outcome.{Outcome, accepted, refused}
 use Rattle.clip.specs.declared.Encoder.{Encoder}
-use Rattle.layout.specs.Sizes.{sizeOf}
+use Rattle.layout.specs.Sizes.{imageSize}
 use Rattle.whole.specs.Frames.{most}
-use Rattle.clip.specs.Encoding.{Both, both, Out, outOf, storeOf, moved, noFrame, pushOf, pieceOf, countsOk, validOf, feedAnswer, feedBy, feedOf}
+use Rattle.clip.specs.Encoding.{encoderShape, Left, left, Effect, effect, store, moved, noFrame, push, feedAll, countsOk, valid, feedAnswer, feedBy, feed}
 use Rattle.layout.specs.Limits.{numbersOk}
-use Rattle.clip.specs.Facts.{Going}
+use Rattle.clip.specs.inner.Asked.{Going}
 use Rattle.clip.proofs.Accepting.{feed-accepted, feed-open}
 use Rattle.clip.proofs.Pieces.{going-next}
 
 -- what feeding leaves as it was
-pub record Kept (s t : Both) : Type 0 where
+pub record Kept (s t : Left) : Type 0 where
   pub closed : t .encoder .closed ≡ s .encoder .closed
   pub rate : t .encoder .rate ≡ s .encoder .rate
 
-push-kept : (s : Both) (x : ℤ) → Kept s (pushOf s x)
-unfolding pushOf
+push-kept : (s : Left) (x : ℤ) → Kept s (push s x)
+unfolding push
 push-kept s x = go (eqb (s .encoder .fed % 14) 13)
   where
     e : Encoder
@@ -41,37 +40,37 @@ push-kept s x = go (eqb (s .encoder .fed % 14) 13)
 
     go : (t : Bool)
         → Kept s (cond t
-        (both (moved e (e .fed + 1) (historyAfter (e .history) (c .samples) 14) noFrame (e .passes + c .passes) (e .closed)) (storeOf (e .total) (e .block) (e .fed / 14) (c .bytes) (e .history) (s .bytes)))
-        (both (moved e (e .fed + 1) (e .history) f (e .passes) (e .closed)) (s .bytes)))
+        (left (moved e (e .fed + 1) (historyAfter (e .history) (c .samples) 14) noFrame (e .passes + c .passes) (e .closed)) (store (encoderShape e) (e .fed / 14) (c .bytes) (e .history) (s .bytes)))
+        (left (moved e (e .fed + 1) (e .history) f (e .passes) (e .closed)) (s .bytes)))
     go true = record { closed = refl; rate = refl }
     go false = record { closed = refl; rate = refl }
 
-piece-kept : (xs : List ℤ) (s : Both) → Kept s (pieceOf s xs)
+piece-kept : (xs : List ℤ) (s : Left) → Kept s (feedAll s xs)
 piece-kept [] s = record { closed = refl; rate = refl }
 piece-kept (x ∷ xs) s =
     let a = push-kept s x in
-    let b = piece-kept xs (pushOf s x) in
+    let b = piece-kept xs (push s x) in
     record { closed = b .closed ∙ a .closed; rate = b .rate ∙ a .rate }
 
 -- the samples of a piece in turn
-piece-going : (xs : List ℤ) (s : Both) (i m : ℕ) → i + length xs ≤ m → Going (s .encoder) i m (length (s .bytes))
-    → Going (pieceOf s xs .encoder) (i + length xs) m (length (s .bytes)) × (length (pieceOf s xs .bytes) ≡ length (s .bytes))
+piece-going : (xs : List ℤ) (s : Left) (i m : ℕ) → i + length xs ≤ m → Going (s .encoder) i m (length (s .bytes))
+    → Going (feedAll s xs .encoder) (i + length xs) m (length (s .bytes)) × (length (feedAll s xs .bytes) ≡ length (s .bytes))
 piece-going [] s i m l g = (subst (λ (k : ℕ). Going (s .encoder) k m (length (s .bytes))) (omega arith) g, refl)
 piece-going (x ∷ xs) s i m l g =
     let n = going-next (s .encoder) (s .bytes) x i m (omega arith) g in
-    let p = piece-going xs (pushOf s x) (i + 1) m (omega arith) (subst (λ (k : ℕ). Going (pushOf s x .encoder) (i + 1) m k) (sym (n .1)) (n .0)) in
+    let p = piece-going xs (push s x) (i + 1) m (omega arith) (subst (λ (k : ℕ). Going (push s x .encoder) (i + 1) m k) (sym (n .1)) (n .0)) in
     let e : i + 1 + length xs ≡ i + length (x ∷ xs) = omega arith in
-    (subst (λ (k : ℕ). Going (pieceOf (pushOf s x) xs .encoder) k m (length (s .bytes))) e (subst (λ (k : ℕ). Going (pieceOf (pushOf s x) xs .encoder) (i + 1 + length xs) m k) (n .1) (p .0)), p .1 ∙ n .1)
+    (subst (λ (k : ℕ). Going (feedAll (push s x) xs .encoder) k m (length (s .bytes))) e (subst (λ (k : ℕ). Going (feedAll (push s x) xs .encoder) (i + 1 + length xs) m k) (n .1) (p .0)), p .1 ∙ n .1)
 
 -- ---- the calls
 
-answer-by : (a : Answer) (s : Both) (xs : List ℤ) → feedBy a s xs .answer ≡ a
-answer-by Accepted s xs = refl
-answer-by (Refused r) s xs = refl
+answer-by : (a : Outcome Unit) (s : Left) (xs : List ℤ) → feedBy a s xs .outcome ≡ a
+answer-by (accepted u) s xs = refl
+answer-by (refused n) s xs = refl
 
 -- a state that can go on is accepted
-going-accepts : (e : Encoder) (m len : ℕ) → (e .rate ≡ 0 → ⊥) → e .closed ≡ false → Going e 0 m len → feedAnswer e m len ≡ Accepted
-unfolding feedAnswer validOf numbersOk countsOk
+going-accepts : (e : Encoder) (m len : ℕ) → (e .rate ≡ 0 → ⊥) → e .closed ≡ false → Going e 0 m len → feedAnswer e m len ≡ accepted tt
+unfolding feedAnswer valid numbersOk countsOk
 going-accepts e m len some o g =
     let r = g .rest in
     let l = g .limits in
@@ -86,20 +85,20 @@ going-accepts e m len some o g =
       g .within,
       o,
       le-leb (e .passes) (104 * (e .fed / 14)) (g .count),
-      le-ltb len (sizeOf (e .total) (e .block)) (g .size),
+      le-ltb len (imageSize (encoderShape e)) (g .size),
       le-ltb (e .total - e .fed) m (omega arith),
     )
 
-accepted-by : (e : Encoder) (xs : List ℤ) (l : List ℕ) → feedAnswer e (length xs) (length l) ≡ Accepted → feedOf e xs l ≡ outOf Accepted (pieceOf (both e l) xs)
-unfolding feedOf
-accepted-by e xs l a = ap (λ (v : Answer). feedBy v (both e l) xs) a
+accepted-by : (e : Encoder) (xs : List ℤ) (l : List ℕ) → feedAnswer e (length xs) (length l) ≡ accepted tt → feed e xs l ≡ effect (accepted tt) (feedAll (left e l) xs)
+unfolding feed
+accepted-by e xs l a = ap (λ (v : Outcome Unit). feedBy v (left e l) xs) a
 
-answered : (e : Encoder) (xs : List ℤ) (l : List ℕ) → feedOf e xs l .answer ≡ feedAnswer e (length xs) (length l)
-unfolding feedOf
-answered e xs l = answer-by (feedAnswer e (length xs) (length l)) (both e l) xs
+answered : (e : Encoder) (xs : List ℤ) (l : List ℕ) → feed e xs l .outcome ≡ feedAnswer e (length xs) (length l)
+unfolding feed
+answered e xs l = answer-by (feedAnswer e (length xs) (length l)) (left e l) xs
 
 -- Feeding a piece cut in two is feeding its parts in turn.
-pub feed-cut : (e : Encoder) (a b : List ℤ) (l : List ℕ) → feedOf e (a ++ b) l .answer ≡ Accepted → feedOf e (a ++ b) l ≡ (let o = feedOf e a l in feedOf (o .encoder) b (o .bytes))
+pub feed-cut : (e : Encoder) (a b : List ℤ) (l : List ℕ) → feed e (a ++ b) l .outcome ≡ accepted tt → feed e (a ++ b) l ≡ (let o = feed e a l in feed (o .encoder) b (o .bytes))
 feed-cut e a b l ok =
     let w = sym (answered e (a ++ b) l) ∙ ok in
     let g = feed-accepted e (length (a ++ b)) (length l) w in
@@ -107,13 +106,13 @@ feed-cut e a b l ok =
     let n = length-append a b in
     let r = g .rest in
     let first : Going e 0 (length a) (length l) = record { limits = g .limits; within = g .within; rest = omega arith; count = g .count; size = g .size } in
-    let s = pieceOf (both e l) a in
-    let p = piece-going a (both e l) 0 (length (a ++ b)) (omega arith) g in
-    let k = piece-kept a (both e l) in
+    let s = feedAll (left e l) a in
+    let p = piece-going a (left e l) 0 (length (a ++ b)) (omega arith) g in
+    let k = piece-kept a (left e l) in
     let q = p .0 .rest in
     let second : Going (s .encoder) 0 (length b) (length (s .bytes)) =
     record { limits = p .0 .limits; within = p .0 .within; rest = omega arith; count = p .0 .count; size = omega (arith, p .0 .size, p .1) } in
     accepted-by e (a ++ b) l w
-    ∙ ap (outOf Accepted) (foldl-append pushOf (both e l) a b)
-    ∙ sym (ap (λ (v : Out). feedOf (v .encoder) b (v .bytes)) (accepted-by e a l (going-accepts e (length a) (length l) (o .1) (o .0) first))
+    ∙ ap (effect (accepted tt)) (foldl-append push (left e l) a b)
+    ∙ sym (ap (λ (v : Effect). feed (v .encoder) b (v .bytes)) (accepted-by e a l (going-accepts e (length a) (length l) (o .1) (o .0) first))
     ∙ accepted-by (s .encoder) b (s .bytes) (going-accepts (s .encoder) (length b) (length (s .bytes)) (λ z. o .1 (sym (k .rate) ∙ z)) (k .closed ∙ o .0) second))

@@ -10,24 +10,26 @@ use lib.Dec.{eqb}
 use lib.IntN.{ℤ, pos}
 use lib.ListN.{length, take, set, replicate, length-append}
 use lib.Seq.{sets, take-all, append-snoc}
+use Rattle.clip.specs.Image.{startShape}
 use Rattle.whole.specs.Frames.{frameAt, framesOf}
 use Rattle.whole.proofs.Framing.{frame-snoc, frame-none, frame-pad}
 use Rattle.frame.specs.Frame.{encodeFrame, historyAfter}
 use Rattle.frame.specs.declared.EncodedFrame.{EncodedFrame}
 use Rattle.frame.specs.declared.History.{History}
 use Rattle.frame.proofs.LawsEncoded.{history-start}
-use Rattle.layout.specs.Sizes.{lastOf, bodyOf}
+use Rattle.layout.specs.Sizes.{lastSamples, bodyBytes}
 use Rattle.layout.specs.Fields.{mark, noMark}
-use Rattle.clip.specs.Encoding.{Both, both, storeOf, noFrame, pushOf, pieceOf, endOf}
-use Rattle.clip.specs.Runs.{Start, historyAt, encodedAt, passesOf, imageOf, stateOf, followed}
+use Rattle.clip.specs.Encoding.{Left, left, store, noFrame, push, feedAll, finish}
+use Rattle.clip.specs.declared.starting.Start.{Start}
+use Rattle.clip.specs.Runs.{historyAt, encodedAt, passesUpTo, imageAfter, stateAfter, leftAfter}
 use Rattle.clip.proofs.Storing.{full-frame}
 use Rattle.clip.proofs.Stable.{history-stable, passes-stable, encoded-length}
-use Rattle.clip.proofs.Built.{Fine, built, image-built, built-stable, built-mark, built-store}
+use Rattle.clip.proofs.ImageByFrames.{Fine, built, image-built, built-stable, built-mark, built-store}
 
 -- a state by its parts, so that equal parts give equal states
-abbrev made : Start → Bool → ℕ → History → List ℤ → ℕ → List ℕ → Both
+abbrev made : Start → Bool → ℕ → History → List ℤ → ℕ → List ℕ → Left
 made g c n h f p l =
-    both
+    left
     (record { total = g .total; rate = g .rate; block = g .block; gain = g .gain; coefficients = g .coefficients; fed = n; history = h; frame = f; passes = p; closed = c })
     l
 
@@ -41,8 +43,8 @@ history-next : (g : Start) (ys : List ℤ) (q : ℕ) → historyAfter (historyAt
 unfolding historyAt encodedAt
 history-next g ys q = refl
 
-passes-next : (g : Start) (ys : List ℤ) (q : ℕ) → passesOf g ys q + encodedAt g ys q .passes ≡ passesOf g ys (suc q)
-unfolding passesOf
+passes-next : (g : Start) (ys : List ℤ) (q : ℕ) → passesUpTo g ys q + encodedAt g ys q .passes ≡ passesUpTo g ys (suc q)
+unfolding passesUpTo
 passes-next g ys q = refl
 
 encoded-is : (g : Start) (ys : List ℤ) (q : ℕ) → encodeFrame (historyAt g ys q) (frameAt ys q) (g .coefficients) ≡ encodedAt g ys q
@@ -67,13 +69,13 @@ module _ (g : Start) (F : Fine g) (rest : List ℕ) (xs : List ℤ) (x : ℤ) (l
   before : historyAt g xs q ≡ historyAt g ys q
   before = sym (history-stable g xs (x ∷ []) q (omega arith))
 
-  image-before : imageOf g xs false ≡ built g noMark ys q
+  image-before : imageAfter g xs false ≡ built g noMark ys q
   image-before = image-built g xs false ∙ sym (built-stable g noMark xs (x ∷ []) q (omega arith))
 
   fills : length xs % 14 ≡ 13
-      → made g false (length xs + 1) (historyAfter (historyAt g xs q) (encodeFrame (historyAt g xs q) f (g .coefficients) .samples) 14) noFrame (passesOf g xs q + encodeFrame (historyAt g xs q) f (g .coefficients) .passes)
-      (storeOf (g .total) (g .block) q (encodeFrame (historyAt g xs q) f (g .coefficients) .bytes) (historyAt g xs q) (imageOf g xs false ++ rest))
-      ≡ made g false (length ys) (historyAt g ys (length ys / 14)) (frameAt ys (length ys / 14)) (passesOf g ys (length ys / 14)) (imageOf g ys false ++ rest)
+      → made g false (length xs + 1) (historyAfter (historyAt g xs q) (encodeFrame (historyAt g xs q) f (g .coefficients) .samples) 14) noFrame (passesUpTo g xs q + encodeFrame (historyAt g xs q) f (g .coefficients) .passes)
+      (store (startShape g) q (encodeFrame (historyAt g xs q) f (g .coefficients) .bytes) (historyAt g xs q) (imageAfter g xs false ++ rest))
+      ≡ made g false (length ys) (historyAt g ys (length ys / 14)) (frameAt ys (length ys / 14)) (passesUpTo g ys (length ys / 14)) (imageAfter g ys false ++ rest)
   fills r =
       let next : suc q ≡ length ys / 14 = omega (arith, longer) in
       let en : encodeFrame (historyAt g xs q) f (g .coefficients) ≡ encodedAt g ys q =
@@ -83,45 +85,45 @@ module _ (g : Start) (F : Fine g) (rest : List ℕ) (xs : List ℤ) (x : ℤ) (l
       made-same g false longer
       (ap₂ (λ (h : History) (c : EncodedFrame). historyAfter h (c .samples) 14) before en ∙ history-next g ys q ∙ ap (historyAt g ys) next)
       (frame-none ys (length ys / 14) (omega (arith, longer)))
-      (ap₂ (λ (a : ℕ) (c : EncodedFrame). a + c .passes) (sym (passes-stable g xs (x ∷ []) q (omega arith))) en ∙ passes-next g ys q ∙ ap (passesOf g ys) next)
-      (ap₂ (λ (c : EncodedFrame) (h : History). storeOf (g .total) (g .block) q (c .bytes) h (imageOf g xs false ++ rest)) en before
-      ∙ ap₂ (λ (b l : List ℕ). storeOf (g .total) (g .block) q b (historyAt g ys q) (l ++ rest)) eight image-before
+      (ap₂ (λ (a : ℕ) (c : EncodedFrame). a + c .passes) (sym (passes-stable g xs (x ∷ []) q (omega arith))) en ∙ passes-next g ys q ∙ ap (passesUpTo g ys) next)
+      (ap₂ (λ (c : EncodedFrame) (h : History). store (startShape g) q (c .bytes) h (imageAfter g xs false ++ rest)) en before
+      ∙ ap₂ (λ (b l : List ℕ). store (startShape g) q b (historyAt g ys q) (l ++ rest)) eight image-before
       ∙ built-store g F noMark refl ys rest q 8 (w .0) (omega arith) (omega arith) (w .1) (inl refl)
       ∙ ap (λ (k : ℕ). built g noMark ys k ++ rest) next
       ∙ ap (λ (l : List ℕ). l ++ rest) (sym (image-built g ys false)))
 
   leaves : length xs % 14 ≢ 13
-      → made g false (length xs + 1) (historyAt g xs q) f (passesOf g xs q) (imageOf g xs false ++ rest)
-      ≡ made g false (length ys) (historyAt g ys (length ys / 14)) (frameAt ys (length ys / 14)) (passesOf g ys (length ys / 14)) (imageOf g ys false ++ rest)
+      → made g false (length xs + 1) (historyAt g xs q) f (passesUpTo g xs q) (imageAfter g xs false ++ rest)
+      ≡ made g false (length ys) (historyAt g ys (length ys / 14)) (frameAt ys (length ys / 14)) (passesUpTo g ys (length ys / 14)) (imageAfter g ys false ++ rest)
   leaves r =
       let same : q ≡ length ys / 14 = omega (arith, longer) in
       made-same g false longer
       (before ∙ ap (historyAt g ys) same)
       (frame-snoc xs x ∙ ap (frameAt ys) same)
-      (sym (passes-stable g xs (x ∷ []) q (omega arith)) ∙ ap (passesOf g ys) same)
+      (sym (passes-stable g xs (x ∷ []) q (omega arith)) ∙ ap (passesUpTo g ys) same)
       (ap (λ (l : List ℕ). l ++ rest) (image-before ∙ ap (built g noMark ys) same ∙ sym (image-built g ys false)))
 
-  push-follows : pushOf (followed g rest xs false) x ≡ followed g rest ys false
-  unfolding pushOf followed stateOf
+  push-follows : push (leftAfter g rest xs false) x ≡ leftAfter g rest ys false
+  unfolding push leftAfter stateAfter
   push-follows = go (eqb (length xs % 14) 13) refl
     where
       go : (t : Bool) → eqb (length xs % 14) 13 ≡ t
           → cond t
-          (made g false (length xs + 1) (historyAfter (historyAt g xs (length xs / 14)) (encodeFrame (historyAt g xs (length xs / 14)) (set (frameAt xs (length xs / 14)) (length xs % 14) x) (g .coefficients) .samples) 14) noFrame (passesOf g xs (length xs / 14) + encodeFrame (historyAt g xs (length xs / 14)) (set (frameAt xs (length xs / 14)) (length xs % 14) x) (g .coefficients) .passes)
-          (storeOf (g .total) (g .block) (length xs / 14) (encodeFrame (historyAt g xs (length xs / 14)) (set (frameAt xs (length xs / 14)) (length xs % 14) x) (g .coefficients) .bytes) (historyAt g xs (length xs / 14)) (imageOf g xs false ++ rest)))
-          (made g false (length xs + 1) (historyAt g xs (length xs / 14)) (set (frameAt xs (length xs / 14)) (length xs % 14) x) (passesOf g xs (length xs / 14)) (imageOf g xs false ++ rest))
-          ≡ made g false (length (xs ++ (x ∷ []))) (historyAt g (xs ++ (x ∷ [])) (length (xs ++ (x ∷ [])) / 14)) (frameAt (xs ++ (x ∷ [])) (length (xs ++ (x ∷ [])) / 14)) (passesOf g (xs ++ (x ∷ [])) (length (xs ++ (x ∷ [])) / 14)) (imageOf g (xs ++ (x ∷ [])) false ++ rest)
+          (made g false (length xs + 1) (historyAfter (historyAt g xs (length xs / 14)) (encodeFrame (historyAt g xs (length xs / 14)) (set (frameAt xs (length xs / 14)) (length xs % 14) x) (g .coefficients) .samples) 14) noFrame (passesUpTo g xs (length xs / 14) + encodeFrame (historyAt g xs (length xs / 14)) (set (frameAt xs (length xs / 14)) (length xs % 14) x) (g .coefficients) .passes)
+          (store (startShape g) (length xs / 14) (encodeFrame (historyAt g xs (length xs / 14)) (set (frameAt xs (length xs / 14)) (length xs % 14) x) (g .coefficients) .bytes) (historyAt g xs (length xs / 14)) (imageAfter g xs false ++ rest)))
+          (made g false (length xs + 1) (historyAt g xs (length xs / 14)) (set (frameAt xs (length xs / 14)) (length xs % 14) x) (passesUpTo g xs (length xs / 14)) (imageAfter g xs false ++ rest))
+          ≡ made g false (length (xs ++ (x ∷ []))) (historyAt g (xs ++ (x ∷ [])) (length (xs ++ (x ∷ [])) / 14)) (frameAt (xs ++ (x ∷ [])) (length (xs ++ (x ∷ [])) / 14)) (passesUpTo g (xs ++ (x ∷ [])) (length (xs ++ (x ∷ [])) / 14)) (imageAfter g (xs ++ (x ∷ [])) false ++ rest)
       go true e = fills (eqb-true (length xs % 14) 13 e)
       go false e = leaves (eqb-false (length xs % 14) 13 e)
 
 -- ---- a piece more
 
-pub piece-follows : (g : Start) → Fine g → (rest : List ℕ) (xs p : List ℤ) → length xs + length p ≤ g .total → pieceOf (followed g rest xs false) p ≡ followed g rest (xs ++ p) false
-piece-follows g F rest xs [] h = ap (λ (l : List ℤ). followed g rest l false) (sym (append-nil xs))
+pub piece-follows : (g : Start) → Fine g → (rest : List ℕ) (xs p : List ℤ) → length xs + length p ≤ g .total → feedAll (leftAfter g rest xs false) p ≡ leftAfter g rest (xs ++ p) false
+piece-follows g F rest xs [] h = ap (λ (l : List ℤ). leftAfter g rest l false) (sym (append-nil xs))
 piece-follows g F rest xs (x ∷ p) h =
-    ap (λ (s : Both). foldl pushOf s p) (push-follows g F rest xs x (omega arith))
+    ap (λ (s : Left). foldl push s p) (push-follows g F rest xs x (omega arith))
     ∙ piece-follows g F rest (xs ++ (x ∷ [])) p (simp length-append (omega arith))
-    ∙ ap (λ (l : List ℤ). followed g rest l false) (append-snoc xs x p)
+    ∙ ap (λ (l : List ℤ). leftAfter g rest l false) (append-snoc xs x p)
 
 -- ---- the end
 
@@ -138,27 +140,27 @@ module _ (g : Start) (F : Fine g) (rest : List ℕ) (xs : List ℤ) (full : leng
   abbrev k : ℕ
   k = 1 + (length xs % 14 + 1) / 2
 
-  final : Both
-  final = made g true (length xs) (historyAfter (historyAt g xs r) (encodedAt g xs r .samples) m) noFrame (passesOf g xs (framesOf (g .total))) (imageOf g xs true ++ rest)
+  final : Left
+  final = made g true (length xs) (historyAfter (historyAt g xs r) (encodedAt g xs r .samples) m) noFrame (passesUpTo g xs (framesOf (g .total))) (imageAfter g xs true ++ rest)
 
-  whole-end : m ≡ 0 → made g true (length xs) (historyAt g xs r) noFrame (passesOf g xs r) (sets (imageOf g xs false ++ rest) 0 mark) ≡ final
+  whole-end : m ≡ 0 → made g true (length xs) (historyAt g xs r) noFrame (passesUpTo g xs r) (sets (imageAfter g xs false ++ rest) 0 mark) ≡ final
   unfolding framesOf final
   whole-end z =
       let next : r ≡ (g .total + 13) / 14 = omega arith in
       made-same g true refl
       (sym (history-start (historyAt g xs r) (encodedAt g xs r .samples)) ∙ ap (historyAfter (historyAt g xs r) (encodedAt g xs r .samples)) (sym z))
       refl
-      (ap (passesOf g xs) next)
+      (ap (passesUpTo g xs) next)
       (ap (λ (l : List ℕ). sets (l ++ rest) 0 mark) (image-built g xs false)
       ∙ built-mark g xs r rest
       ∙ ap (λ (a : ℕ). built g mark xs a ++ rest) next
       ∙ ap (λ (l : List ℕ). l ++ rest) (sym (image-built g xs true)))
 
   short-end : m ≢ 0
-      → made g true (length xs) (historyAfter (historyAt g xs r) (encodeFrame (historyAt g xs r) padded (g .coefficients) .samples) m) noFrame (passesOf g xs r + encodeFrame (historyAt g xs r) padded (g .coefficients) .passes)
-      (sets (storeOf (g .total) (g .block) r (take k (encodeFrame (historyAt g xs r) padded (g .coefficients) .bytes)) (historyAt g xs r) (imageOf g xs false ++ rest)) 0 mark)
+      → made g true (length xs) (historyAfter (historyAt g xs r) (encodeFrame (historyAt g xs r) padded (g .coefficients) .samples) m) noFrame (passesUpTo g xs r + encodeFrame (historyAt g xs r) padded (g .coefficients) .passes)
+      (sets (store (startShape g) r (take k (encodeFrame (historyAt g xs r) padded (g .coefficients) .bytes)) (historyAt g xs r) (imageAfter g xs false ++ rest)) 0 mark)
       ≡ final
-  unfolding framesOf bodyOf lastOf final
+  unfolding framesOf bodyBytes lastSamples final
   short-end z =
       let next : suc r ≡ (g .total + 13) / 14 = omega arith in
       let en : encodeFrame (historyAt g xs r) padded (g .coefficients) ≡ encodedAt g xs r =
@@ -166,22 +168,22 @@ module _ (g : Start) (F : Fine g) (rest : List ℕ) (xs : List ℤ) (full : leng
       made-same g true refl
       (ap (λ (c : EncodedFrame). historyAfter (historyAt g xs r) (c .samples) m) en)
       refl
-      (ap (λ (c : EncodedFrame). passesOf g xs r + c .passes) en ∙ passes-next g xs r ∙ ap (passesOf g xs) next)
-      (ap₂ (λ (c : EncodedFrame) (l : List ℕ). sets (storeOf (g .total) (g .block) r (take k (c .bytes)) (historyAt g xs r) (l ++ rest)) 0 mark) en (image-built g xs false)
+      (ap (λ (c : EncodedFrame). passesUpTo g xs r + c .passes) en ∙ passes-next g xs r ∙ ap (passesUpTo g xs) next)
+      (ap₂ (λ (c : EncodedFrame) (l : List ℕ). sets (store (startShape g) r (take k (c .bytes)) (historyAt g xs r) (l ++ rest)) 0 mark) en (image-built g xs false)
       ∙ ap (λ (l : List ℕ). sets l 0 mark) (built-store g F noMark refl xs rest r k (omega arith) (omega arith) (omega arith) (omega arith) (inr (omega arith)))
       ∙ built-mark g xs (suc r) rest
       ∙ ap (λ (a : ℕ). built g mark xs a ++ rest) next
       ∙ ap (λ (l : List ℕ). l ++ rest) (sym (image-built g xs true)))
 
-  pub end-follows : endOf (followed g rest xs false) ≡ followed g rest xs true
-  unfolding endOf followed stateOf final
+  pub end-follows : finish (leftAfter g rest xs false) ≡ leftAfter g rest xs true
+  unfolding finish leftAfter stateAfter final
   end-follows = go (eqb (length xs % 14) 0) refl
     where
       go : (t : Bool) → eqb (length xs % 14) 0 ≡ t
-          → cond t (made g true (length xs) (historyAt g xs (length xs / 14)) noFrame (passesOf g xs (length xs / 14)) (sets (imageOf g xs false ++ rest) 0 mark))
+          → cond t (made g true (length xs) (historyAt g xs (length xs / 14)) noFrame (passesUpTo g xs (length xs / 14)) (sets (imageAfter g xs false ++ rest) 0 mark))
           (made g true (length xs) (historyAfter (historyAt g xs (length xs / 14)) (encodeFrame (historyAt g xs (length xs / 14)) (sets (frameAt xs (length xs / 14)) (length xs % 14) (replicate (14 - length xs % 14) (pos 0))) (g .coefficients) .samples) (length xs % 14)) noFrame
-          (passesOf g xs (length xs / 14) + encodeFrame (historyAt g xs (length xs / 14)) (sets (frameAt xs (length xs / 14)) (length xs % 14) (replicate (14 - length xs % 14) (pos 0))) (g .coefficients) .passes)
-          (sets (storeOf (g .total) (g .block) (length xs / 14) (take (1 + (length xs % 14 + 1) / 2) (encodeFrame (historyAt g xs (length xs / 14)) (sets (frameAt xs (length xs / 14)) (length xs % 14) (replicate (14 - length xs % 14) (pos 0))) (g .coefficients) .bytes)) (historyAt g xs (length xs / 14)) (imageOf g xs false ++ rest)) 0 mark))
+          (passesUpTo g xs (length xs / 14) + encodeFrame (historyAt g xs (length xs / 14)) (sets (frameAt xs (length xs / 14)) (length xs % 14) (replicate (14 - length xs % 14) (pos 0))) (g .coefficients) .passes)
+          (sets (store (startShape g) (length xs / 14) (take (1 + (length xs % 14 + 1) / 2) (encodeFrame (historyAt g xs (length xs / 14)) (sets (frameAt xs (length xs / 14)) (length xs % 14) (replicate (14 - length xs % 14) (pos 0))) (g .coefficients) .bytes)) (historyAt g xs (length xs / 14)) (imageAfter g xs false ++ rest)) 0 mark))
           ≡ final
       go true e = whole-end (eqb-true (length xs % 14) 0 e)
       go false e = short-end (eqb-false (length xs % 14) 0 e)
