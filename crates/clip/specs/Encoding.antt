@@ -14,7 +14,7 @@ use Rattle.layout.specs.Limits.{totalOk, blockOk, numbersOk}
 use Rattle.layout.specs.Sizes.{shape, imageSize, framePlace, contextPlace}
 use Rattle.frame.specs.Frame.{encodeFrame, historyAfter, withinLimits}
 use Rattle.frame.specs.declared.EncodedFrame.{EncodedFrame}
-use Rattle.frame.specs.declared.History.{History}
+use Rattle.whole.specs.declared.History.{History}
 use Rattle.clip.specs.declared.Answer.{Answer}
 use Rattle.clip.specs.declared.Answer.the-variants.{Accepted, Refused}
 use Rattle.clip.specs.declared.Encoder.{Encoder}

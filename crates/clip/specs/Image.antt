@@ -3,7 +3,7 @@ use mathlib.Core.List.{List, [], _∷_, _++_}
 use Prim.Native.Nat.{ℕ, zero, suc}
 use lib.IntN.{ℤ}
 use lib.ListN.{replicate}
-use Rattle.frame.specs.declared.History.{History}
+use Rattle.whole.specs.declared.History.{History}
 use Rattle.layout.specs.declared.Shape.{Shape}
 use Rattle.layout.specs.Fields.{be16, be32, sample16, noMark}
 use Rattle.layout.specs.Sizes.{shape, blockCount, bodyBytes, cutDown, blockOffset, blockLength}

@@ -11,7 +11,7 @@ use Rattle.layout.specs.Fields.{mark, noMark}
 use Rattle.layout.specs.Sizes.{blockCount, bodyBytes}
 use Rattle.frame.specs.Frame.{encodeFrame, historyAfter}
 use Rattle.frame.specs.declared.EncodedFrame.{EncodedFrame}
-use Rattle.frame.specs.declared.History.{History}
+use Rattle.whole.specs.declared.History.{History}
 use Rattle.clip.specs.declared.Encoder.{Encoder}
 use Rattle.clip.specs.declared.starting.Start.{Start}
 use Rattle.clip.specs.Image.{startShape, headBytes, contextBytes, noContext, tableBytes}

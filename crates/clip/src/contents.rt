@@ -10,7 +10,7 @@ ghost use Rattle.clip.specs.Image.{noContext, contextBytes, coefficientB
 ghost use Rattle.layout.specs.Sizes.{blockCount, bodiesPlace, imageSize};
 use crate::checks::shape_of;
 use crate::starting::Start;
-use frame::History;
+use whole::History;
 use layout::MARK;
 use layout::Shape;
 use layout::fields::bits16;

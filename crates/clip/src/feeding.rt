@@ -8,7 +8,7 @@ ghost use Rattle.clip.specs.inner.Asked.{Room, Going};
 use crate::Encoder;
 use crate::checks::encoder_shape;
 use crate::contents::put_context;
-use frame::History;
+use whole::History;
 use frame::encode_frame;
 use frame::history_after;
 use layout::Shape;

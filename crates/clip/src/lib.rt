@@ -14,7 +14,7 @@ use checks::start_answer;
 use closing::finish;
 use contents::put_fresh;
 use feeding::feed_all;
-use frame::History;
+use whole::History;
 use starting::Start;
 use starting::begun;
 use starting::cut;
