@@ -10,7 +10,6 @@ ghost use Rattle.clip.specs.Image.{noContext, contextBytes, coefficientB
 ghost use Rattle.layout.specs.Sizes.{blockCount, bodiesPlace, imageSize};
 use crate::checks::shape_of;
 use crate::starting::Start;
-use whole::History;
 use layout::MARK;
 use layout::Shape;
 use layout::fields::bits16;
@@ -22,6 +21,7 @@ use layout::sizes::block_length;
 use layout::sizes::bodies_place;
 use layout::sizes::body_bytes;
 use layout::sizes::entry_place;
+use whole::History;
 
 // The mark, at the image's start.
 pub(crate) fn put_mark(image: &mut [u8])

@@ -8,13 +8,13 @@ ghost use Rattle.clip.specs.inner.Asked.{Room, Going};
 use crate::Encoder;
 use crate::checks::encoder_shape;
 use crate::contents::put_context;
-use whole::History;
 use frame::encode_frame;
 use frame::history_after;
 use layout::Shape;
 use layout::fields::put_part;
 use layout::sizes::bodies_place;
 use layout::sizes::entry_place;
+use whole::History;
 
 // Stores a frame's first k bytes at its place, and its block's context where it is a block's first.
 pub(crate) fn store(

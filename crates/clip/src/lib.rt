@@ -14,11 +14,11 @@ use checks::start_answer;
 use closing::finish;
 use contents::put_fresh;
 use feeding::feed_all;
-use whole::History;
 use starting::Start;
 use starting::begun;
 use starting::cut;
 use starting::no_encoder;
+use whole::History;
 
 // Why a call is refused.
 pub enum Refusal {

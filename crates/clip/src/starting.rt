@@ -3,8 +3,8 @@ ghost use mathlib.Core.Path.{_≡_};
 ghost use Rattle.clip.specs.Encoding.{noEncoder, begun};
 ghost use Rattle.clip.specs.Image.{cut};
 use crate::Encoder;
-use whole::History;
 use layout::sizes::cut_down;
+use whole::History;
 
 // What a clip is started with: N, the rate, the block size, the gain, the coefficients and the history before its first sample.
 pub struct Start {

@@ -12,7 +12,7 @@ use lib.ListN.{length, getD, take}
 use lib.Seq.{take-suc}
 use Rattle.block.specs.Refusals.{same, equalUpTo}
 use Rattle.block.proofs.LawsRefusals.{same-refl, same-true}
-use Rattle.layout.proofs.Numbers.{both-true}
+use Rattle.layout.proofs.LimitLaws.{both-true}
 use Rattle.image.specs.Sameness.{equalSamples}
 
 never : _≡_ {A = Bool} false true → ⊥

@@ -1,11 +1,11 @@
 // Reading a clip image: opening, the body of a block, playing, sameness.
 ghost use mathlib.Core.Path.{_≡_};
 ghost use Rattle.block.specs.Frame.{lent};
-ghost use Rattle.image.specs.Opened.{numberOf, noHead, openOf};
+ghost use Rattle.image.specs.Opening.{code, outcome, noHead, openEffect, openImage};
 ghost use Rattle.image.specs.Bodies.{blockAnswer, blockBody};
-ghost use Rattle.image.specs.Samples.{effectOf, playOf};
-ghost use Rattle.image.specs.Sameness.{sameOf};
-ghost use Rattle.image.specs.AllBlocks.{playAllOf};
+ghost use Rattle.image.specs.Playing.{playOutcome, playEffect, play};
+ghost use Rattle.image.specs.Sameness.{sameOutcome, same};
+ghost use Rattle.image.specs.WholeImage.{playAll};
 
 pub mod bodies;
 mod checks;
@@ -81,7 +81,7 @@ pub enum SameAnswer {
 
 // Document 01's number of a refusal.
 pub fn code(refusal: Refusal) -> u32
-    ensures { λ r. ⌜ r ≡ numberOf refusal ⌝ }
+    ensures { λ r. ⌜ r ≡ code refusal ⌝ }
 {
     match refusal {
         Refusal::LowestPair => 13,
@@ -108,7 +108,7 @@ fn no_head() -> Head
 
 // Opens an image: checks its head and its entries, and gives the head's values.
 pub fn open(image: &[u8]) -> Opening
-    ensures { λ r. ⌜ r ≡ openOf (now (image .entry)) ⌝ }
+    ensures { λ r. ⌜ openEffect (outcome (r .answer)) (r .head) ≡ openImage (now (image .entry)) ⌝ }
 {
     let answer = open_answer(image);
     match answer {
@@ -131,7 +131,7 @@ pub fn open(image: &[u8]) -> Opening
 
 // Whether there is a block k, by codes 15, 16 and 17: what `block_body` and `play` ask first.
 pub fn block_answer(image: &[u8], k: u32) -> Answer
-    ensures { λ r. ⌜ r ≡ blockAnswer (now (image .entry)) k ⌝ }
+    ensures { λ r. ⌜ outcome r ≡ blockAnswer (now (image .entry)) k ⌝ }
 {
     let answer = open_answer(image);
     match answer {
@@ -158,14 +158,14 @@ pub fn block_body<'a>(image: &'a [u8], k: u32) -> &'a [u8]
 
 // Plays block k of an image to the output.
 pub fn play(image: &[u8], k: u32, out: &mut [i16]) -> Playback
-    ensures { λ r. ⌜ effectOf (r .answer) (lent (r .context) (now (out .exit))) ≡ playOf (now (image .entry)) k (now (out .entry)) ⌝ }
+    ensures { λ r. ⌜ playEffect (playOutcome (r .answer)) (lent (r .context) (now (out .exit))) ≡ play (now (image .entry)) k (now (out .entry)) ⌝ }
 {
     let answer = play_answer(image, k, out.len());
     match answer {
         Answer::Accepted => {
             let nibbles = read_length(image, k as usize);
-            let cs = read_coefficients(image);
-            let after = play_block(image, k as usize, nibbles, cs, out);
+            let coefficients = read_coefficients(image);
+            let after = play_block(image, k as usize, nibbles, coefficients, out);
             Playback {
                 answer: PlayAnswer::Played(address_to_sample(nibbles)),
                 context: after,
@@ -183,7 +183,7 @@ pub fn play(image: &[u8], k: u32, out: &mut [i16]) -> Playback
 
 // Plays a whole image to the output: blocks 0 to K-1 in turn, joined. The table is tested once.
 pub fn play_all(image: &[u8], out: &mut [i16]) -> Playback
-    ensures { λ r. ⌜ effectOf (r .answer) (lent (r .context) (now (out .exit))) ≡ playAllOf (now (image .entry)) (now (out .entry)) ⌝ }
+    ensures { λ r. ⌜ playEffect (playOutcome (r .answer)) (lent (r .context) (now (out .exit))) ≡ playAll (now (image .entry)) (now (out .entry)) ⌝ }
 {
     let answer = all_answer(image, out.len());
     match answer {
@@ -207,7 +207,7 @@ pub fn play_all(image: &[u8], out: &mut [i16]) -> Playback
 
 // Whether two images are the same: both open, N is equal and the played samples are equal, whatever their blocks.
 pub fn same(a: &[u8], b: &[u8]) -> SameAnswer
-    ensures { λ r. ⌜ r ≡ sameOf (now (a .entry)) (now (b .entry)) ⌝ }
+    ensures { λ r. ⌜ sameOutcome r ≡ same (now (a .entry)) (now (b .entry)) ⌝ }
 {
     let answer = both_answer(a, b);
     match answer {

@@ -1,6 +1,7 @@
 -- `block_body` meets its contract. Assumes nothing.
-use mathlib.Core.Path.{_≡_, sym, _∙_}
+use mathlib.Core.Path.{ap, _≡_, sym, _∙_}
 use Rattle.image.specs.Bodies.{blockBody}
+use Rattle.image.specs.Opening.{outcome}
 use Rattle.image.proofs.LawsBody.{block-accepted}
 use borrow.Author.Needs.{needs}
 use Rattle.image.proofs.block_body.Statement.{statement}
@@ -13,7 +14,7 @@ enum-told : tie.Need-enum-told
 enum-told c = search needs
 
 find-body-requires : tie.Need-find-body-requires
-find-body-requires c κs = block-accepted _ _ (sym (c .before .before .block-answer .ensures) ∙ c .enum-told .given .1)
+find-body-requires c κs = block-accepted _ _ (sym (c .before .before .block-answer .ensures) ∙ ap outcome (c .enum-told .given .1))
 
 enum-told-2 : tie.Need-enum-told-2
 enum-told-2 c = search needs

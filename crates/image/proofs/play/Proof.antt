@@ -1,9 +1,10 @@
 -- `play` meets its contract. Assumes nothing.
 use denote.Ref.{now}
-use mathlib.Core.Path.{_≡_, sym, _∙_}
+use mathlib.Core.Path.{ap, _≡_, sym, _∙_}
 use lib.ListN.{length}
-use Rattle.image.specs.Facts.{Playable}
-use Rattle.image.specs.Samples.{playOf}
+use Rattle.image.specs.inner.Asked.{Playable}
+use Rattle.image.specs.Playing.{play}
+use Rattle.image.specs.Opening.{outcome}
 use Rattle.image.proofs.LawsBody.{play-accepted}
 use Rattle.image.proofs.LawsPlayed.{play-made}
 use borrow.Author.Needs.{needs}
@@ -18,7 +19,7 @@ enum-told c = search needs
 
 -- what playing was accepted with
 playable : (c : tie.After-enum-told) → let a = c .before .before .before .before .args in Playable (now (a .image)) (a .k) (length (now (a .out)))
-playable c = play-accepted _ _ _ (sym (c .before .before .play-answer .ensures) ∙ c .enum-told .given .1)
+playable c = play-accepted _ _ _ (sym (c .before .before .play-answer .ensures) ∙ ap outcome (c .enum-told .given .1))
 
 read-length-requires : tie.Need-read-length-requires
 read-length-requires c κs = playable c .found
@@ -45,7 +46,7 @@ returns : tie.Need-returns
 returns c = play-made _ _ _ (playable (c .before .before .before .before .before .before)) _ _ _ (c .before .before .before .before .before .read-length .ensures) (c .address-to-sample .ensures) (c .before .before .play-block .ensures)
 
 returns-2 : tie.Need-returns-2
-unfolding playOf
+unfolding play
 returns-2 c = rw (← c .before .before .before .before .play-answer .ensures, c .before .before .answer .given .1, c .new .ensures)
 
 pub play-spec : {M : Type 1} → statement M

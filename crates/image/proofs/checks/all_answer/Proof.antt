@@ -1,11 +1,12 @@
 -- `all_answer` meets its contract. Assumes nothing.
 use denote.Ref.{now}
-use mathlib.Core.Path.{_≡_, sym, _∙_}
+use mathlib.Core.Path.{ap, _≡_, sym, _∙_}
 use native.Mathlib.Omega.{arith}
 use borrow.Author.Needs.{needs}
 use borrow.Author.Tests.{lt-ltb, le-ltb}
 use Rattle.image.specs.Reading.{totalIn}
-use Rattle.image.specs.AllBlocks.{allAnswer}
+use Rattle.image.specs.WholeImage.{allAnswer}
+use Rattle.image.specs.Opening.{outcome}
 use Rattle.image.proofs.LawsSame.{compare-accepted}
 use Rattle.image.proofs.checks.all_answer.Statement.{statement}
 use Rattle.image.proofs.checks.all_answer.Tie as tie
@@ -17,7 +18,7 @@ enum-told : tie.Need-enum-told
 enum-told c = search needs
 
 get32-requires : tie.Need-get32-requires
-get32-requires c κs = let h = compare-accepted _ (sym (c .before .before .compare-answer .ensures) ∙ c .enum-told .given .1) .opens .head .long in omega (arith, h)
+get32-requires c κs = let h = compare-accepted _ (sym (c .before .before .compare-answer .ensures) ∙ ap outcome (c .enum-told .given .1)) .opens .head .long in omega (arith, h)
 
 cast-if1 : tie.Need-cast-if1
 cast-if1 c = search needs

@@ -21,7 +21,7 @@ returns : tie.Need-returns
 returns c =
     let b = c .before .before .before .before .before .before .before in
     let r = c .before .before .play-bytes in
-    bytes-made (now (b .args .image)) (b .args .k) (now (b .args .out)) (b .pre .0) (b .args .nibbles) (b .args .cs) _ (r .result .context) _ _ _ (b .pre .1) (b .pre .2) (c .before .before .before .before .before .read-context .ensures) (c .before .before .before .before .find-body .ensures) (r .ensures)
+    bytes-made (now (b .args .image)) (b .args .k) (now (b .args .out)) (b .pre .0) (b .args .nibbles) (b .args .coefficients) _ (r .result .context) _ _ _ (b .pre .1) (b .pre .2) (c .before .before .before .before .before .read-context .ensures) (c .before .before .before .before .find-body .ensures) (r .ensures)
 
 pub play-block-spec : {M : Type 1} → statement M
 play-block-spec =

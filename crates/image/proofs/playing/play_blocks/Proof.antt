@@ -16,11 +16,11 @@ use Rattle.image.proofs.playing.play_blocks.Statement.{statement}
 use Rattle.image.proofs.playing.play_blocks.Tie as tie
 
 abbrev Inv-loop : tie.InvT-loop
-Inv-loop image out₀ cs kk context₀ at₀ k₀ out context at k =
-    (k ≤ kk) × (at ≡ length (samplesFrom image 0 k)) × (context ≡ contextOn image k) × (out ≡ sets out₀ 0 (samplesFrom image 0 k))
+Inv-loop image out₀ cs blocks context₀ at₀ k₀ out context at k =
+    (k ≤ blocks) × (at ≡ length (samplesFrom image 0 k)) × (context ≡ contextOn image k) × (out ≡ sets out₀ 0 (samplesFrom image 0 k))
 
 abbrev μ-loop : tie.MeasureT-loop
-μ-loop image out₀ cs kk context₀ at₀ k₀ out context at k = kk - k
+μ-loop image out₀ cs blocks context₀ at₀ k₀ out context at k = blocks - k
 
 read-coefficients-requires : tie.Need-read-coefficients-requires Inv-loop μ-loop
 read-coefficients-requires c κs = c .before .pre .opens .head .long
@@ -28,8 +28,8 @@ read-coefficients-requires c κs = c .before .pre .opens .head .long
 get32-requires : tie.Need-get32-requires Inv-loop μ-loop
 get32-requires c κs = let h = c .before .before .pre .opens .head .long in omega (arith, h)
 
-cast-kk : tie.Need-cast-kk Inv-loop μ-loop
-cast-kk c = search needs
+cast-blocks : tie.Need-cast-blocks Inv-loop μ-loop
+cast-blocks c = search needs
 
 new-requires : tie.Need-new-requires Inv-loop μ-loop
 new-requires c κs = search needs
@@ -128,7 +128,7 @@ play-blocks-spec =
     μ-loop
     read-coefficients-requires
     get32-requires
-    cast-kk
+    cast-blocks
     new-requires
     loop-holds
     read-length-requires

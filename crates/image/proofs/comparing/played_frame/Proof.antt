@@ -1,11 +1,11 @@
--- `frame_at` meets its contract. Assumes nothing.
+-- `played_frame` meets its contract. Assumes nothing.
 use mathlib.Core.Path.{_≡_, ap}
 use Rattle.block.specs.Frame.{Lent, frameInto}
 use Rattle.image.specs.declared.comparing.Frame.{Frame}
-use Rattle.image.specs.Frames.{frameAt}
+use Rattle.image.specs.inner.ByFrames.{playedFrame}
 use borrow.Author.Needs.{needs}
-use Rattle.image.proofs.comparing.frame_at.Statement.{statement}
-use Rattle.image.proofs.comparing.frame_at.Tie as tie
+use Rattle.image.proofs.comparing.played_frame.Statement.{statement}
+use Rattle.image.proofs.comparing.played_frame.Tie as tie
 
 slice-aggregate-play-frame : tie.Need-slice-aggregate-play-frame
 slice-aggregate-play-frame c = search needs
@@ -14,8 +14,8 @@ play-frame-requires : tie.Need-play-frame-requires
 play-frame-requires c κs = search needs
 
 returns : tie.Need-returns
-unfolding frameAt frameInto
+unfolding playedFrame frameInto
 returns c = ap (λ (x : Lent). record { samples = x .out; context = x .context }) (c .before .play-frame .ensures)
 
-pub frame-at-spec : {M : Type 1} → statement M
-frame-at-spec = tie.close (tie.spec slice-aggregate-play-frame play-frame-requires returns)
+pub played-frame-spec : {M : Type 1} → statement M
+played-frame-spec = tie.close (tie.spec slice-aggregate-play-frame play-frame-requires returns)

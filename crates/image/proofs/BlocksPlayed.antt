@@ -9,71 +9,50 @@ use lib.Seq.{sets}
 use Rattle.block.specs.declared.FrameContext.{FrameContext}
 use Rattle.block.specs.Context.{newContext}
 use Rattle.block.specs.Play.{playInto}
-use Rattle.image.specs.declared.Answer.the-variants.{Accepted}
-use Rattle.image.specs.declared.PlayAnswer.{PlayAnswer}
-use Rattle.image.specs.declared.PlayAnswer.the-variants as Played
+use Rattle.whole.specs.Outcome.{Outcome, accepted, refused}
+use Rattle.image.specs.BlocksInTurn.{Turns, answered, afterCall, turns}
 use Rattle.image.specs.Reading.{totalIn, blocksIn, lengthIn}
-use Rattle.image.specs.Facts.{AllPlayable}
-use Rattle.image.specs.Samples.{playAnswer, Effect, playOf}
+use Rattle.image.specs.inner.Asked.{AllPlayable}
+use Rattle.image.specs.Playing.{playAnswer, PlayEffect, play}
 use Rattle.image.specs.Sameness.{blockSamples, samplesFrom, samplesIn}
-use Rattle.image.specs.AllBlocks.{allAnswer, contextAfter, allInto, playAllOf}
+use Rattle.image.specs.WholeImage.{allAnswer, contextAfter, allInto, playAll}
 use Rattle.image.proofs.Joined.{samples-count}
 use Rattle.image.proofs.LawsAll.{all-accepted, all-made, all-written, contextOn, written, turn-playable, turn-written, turn-counted}
 use Rattle.image.proofs.LawsBody.{play-accepts}
 use Rattle.image.proofs.LawsPlayed.{play-leaves}
-
--- after some calls: how many samples they answered, the last one's context, and the output
-pub record Turns : Type 0 where
-  pub count : ℕ
-  pub context : FrameContext
-  pub out : List ℤ
-
--- the samples that a call answered
-abbrev pub answered : PlayAnswer → ℕ
-answered (Played.Played n) = n
-answered (Played.Refused r) = 0
-
--- a call on the output from a place on
-abbrev pub after : Turns → Effect → Turns
-after t e = record { count = t .count + answered (e .answer); context = e .context; out = take (t .count) (t .out) ++ e .out }
-
--- the first k blocks, by a call of `play` each
-unfoldable pub turns : List ℕ → ℕ → List ℤ → Turns
-turns l zero out = record { count = 0; context = newContext; out = out }
-turns l (suc k) out = let t = turns l k out in after t (playOf l k (drop (t .count) (t .out)))
 
 module _ (l : List ℕ) (out : List ℤ) (p : AllPlayable l (length out)) where
   -- what those calls leave
   abbrev stand : ℕ → Turns
   stand k = record { count = length (samplesFrom l 0 k); context = contextOn l k; out = written l out p k }
 
-  call : (k : ℕ) → k < blocksIn l → after (stand k) (playOf l k (drop (length (samplesFrom l 0 k)) (written l out p k))) ≡ stand (suc k)
+  call : (k : ℕ) → k < blocksIn l → afterCall (stand k) (play l k (drop (length (samplesFrom l 0 k)) (written l out p k))) ≡ stand (suc k)
   unfolding blockSamples contextAfter playInto
   call k h =
       let n = length (samplesFrom l 0 k) in
       let t = written l out p k in
       let c = turn-counted l out p k h in
       let w = turn-written l out p k h in
-      ap (after (stand k)) (sym (play-leaves l k (drop n t) (turn-playable l out p k h)))
+      ap (afterCall (stand k)) (sym (play-leaves l k (drop n t) (turn-playable l out p k h)))
       ∙ rw (c, w)
 
   calls : (k : ℕ) → k ≤ blocksIn l → turns l k out ≡ stand k
   unfolding turns samplesFrom
   calls zero h = refl
   calls (suc k) h =
-      ap (λ (t : Turns). after t (playOf l k (drop (t .count) (t .out)))) (calls k (omega arith))
+      ap (λ (t : Turns). afterCall t (play l k (drop (t .count) (t .out)))) (calls k (omega arith))
       ∙ call k (omega arith)
 
 -- no call is refused
-pub each-accepted : (l : List ℕ) (out : List ℤ) (k : ℕ) → allAnswer l (length out) ≡ Accepted → k < blocksIn l
-    → (let t = turns l k out in playAnswer l k (length (drop (t .count) (t .out))) ≡ Accepted)
+pub each-accepted : (l : List ℕ) (out : List ℤ) (k : ℕ) → allAnswer l (length out) ≡ accepted tt → k < blocksIn l
+    → (let t = turns l k out in playAnswer l k (length (drop (t .count) (t .out))) ≡ accepted tt)
 each-accepted l out k e h =
     let p = all-accepted l (length out) e in
     rw (calls l out p k (omega arith)) (play-accepts l k _ (turn-playable l out p k h))
 
 -- blocks 0 to K−1 by a call of `play` each leave what playing the whole image leaves
-pub all-in-turn : (l : List ℕ) (out : List ℤ) → allAnswer l (length out) ≡ Accepted
-    → turns l (blocksIn l) out ≡ record { count = totalIn l; context = playAllOf l out .context; out = playAllOf l out .out }
+pub all-in-turn : (l : List ℕ) (out : List ℤ) → allAnswer l (length out) ≡ accepted tt
+    → turns l (blocksIn l) out ≡ record { count = totalIn l; context = playAll l out .context; out = playAll l out .out }
 unfolding samplesIn
 all-in-turn l out e =
     let p = all-accepted l (length out) e in
