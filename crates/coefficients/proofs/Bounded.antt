@@ -13,14 +13,14 @@ use lib.Pow.{pow-pos}
 use lib.Ieee.{Float, nan, inf, fin, binary64, up, down, neg, add, lt, eq, le, ne, round, ofBits, fits, toSigned}
 use lib.Ieee.Fits.{down-pos, div-fits, cond-fits}
 use lib.Ieee.Compare.{differs-from-itself}
-use Rattle.coefficients.specs.Kit.{fma, larger, smaller, roundAway}
+use Rattle.coefficients.specs.Binary64.{fma, larger, smaller, roundAway}
 use Rattle.float.specs.FusedMultiplyAdd.{times, fusedMultiplyAdd}
 use Rattle.float.specs.Operations.{negative, less, maximumNumber, minimumNumber, roundToIntegralTiesToAway}
 use Rattle.float.proofs.Sizes.{Size, Reach, Number, nought, unit, size-neg, size-round, holds-up, holds-down, times-size, add-reach, div-number, factor-above, square-size}
 use Rattle.float.proofs.Signs.{less-plus, less-minus}
 use Rattle.float.proofs.Bounds.{Upto, Least, upto-more, upto-neg, upto-add, upto-fma, upto-mul, upto-div, upto-number}
 use Rattle.coefficients.specs.Constants.{f0, f1, fNear1, f2048, f32767, f32768, _*f_, _+f_, _/f_}
-use Rattle.coefficients.specs.Analysis.{held, finishRecord, matrixFilter, quotient, mergeFinish}
+use Rattle.coefficients.specs.Analysis.{withinOne, finishRecord, matrixFilter, quotient, mergeFinishRecord}
 use Rattle.coefficients.specs.Finish.{coefficient}
 use Rattle.coefficients.specs.declared.merging.Vec3.{Vec3}
 use Rattle.coefficients.specs.declared.merging.Record.{Record}
@@ -122,9 +122,9 @@ inside (fin false m e) n t p q = small false m e t (one (m * up e) (down e) (no-
     one : (a b : ℕ) → a * 1 < 1 * b → a < b
     one a b h = omega arith
 
-pub held-under : (x : Float) → Number x → T (fits binary64 x) → Under (held x)
-unfolding held
-held-under x n t = record { size = go (le f1 x) (le x (neg f1)) refl refl }
+pub within-one-under : (x : Float) → Number x → T (fits binary64 x) → Under (withinOne x)
+unfolding withinOne
+within-one-under x n t = record { size = go (le f1 x) (le x (neg f1)) refl refl }
   where
     go : (p q : Bool) → le f1 x ≡ p → le x (neg f1) ≡ q → Size (cond p fNear1 (cond q (neg fNear1) x)) 9007199254740991 9007199254740992
     go true q e d = near-under
@@ -153,8 +153,8 @@ pub record Good (r : Record) : Type 0 where
 pub finish-good : (a b : Float) → Number a → T (fits binary64 a) → Number b → T (fits binary64 b) → Good (finishRecord a b)
 unfolding finishRecord
 finish-good a b n t n' t' =
-    let p = held-under a n t in
-    let q = held-under b n' t' in
+    let p = within-one-under a n t in
+    let q = within-one-under b n' t' in
     record { first = upto-fma 1 (under-upto q) (under-upto p) (under-upto p) tt tt tt; second = q }
 
 -- ---- matrix_filter
@@ -226,8 +226,8 @@ first-upto x0 x n t = go (lt f0 x0) refl
         record { size = square-size (quotient x0 x) n (subst (λ (z : Float). T (lt nought (fma (quotient x0 x) (neg (quotient x0 x)) z))) f1-is u) }
     go false e = subst (λ (z : Float). Upto z 0) (sym (none e)) upto-f0
 
-pub merge-good : (s : Vec3) → Summed s 80 → Good (mergeFinish s)
-unfolding mergeFinish
+pub merge-good : (s : Vec3) → Summed s 80 → Good (mergeFinishRecord s)
+unfolding mergeFinishRecord
 merge-good s h =
     let e1 = f0 +f s .x1 in
     let d1 = quotient (s .x0) e1 in

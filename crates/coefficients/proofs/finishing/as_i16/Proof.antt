@@ -6,7 +6,7 @@ use lib.Ieee.Casts.{toSigned-in}
 use mir.Syntax.{w16, w64}
 use mir.Val.{SFits}
 use mir.Facts.{toZ-ofZ, sfits-widen}
-use Rattle.coefficients.proofs.Ends.{yes, no, range, agree, above, under, neither}
+use Rattle.coefficients.proofs.CastToSixteenBits.{yes, no, range, agree, above, under, neither}
 use Rattle.coefficients.proofs.finishing.as_i16.Statement.{statement}
 use Rattle.coefficients.proofs.finishing.as_i16.Tie as tie
 

@@ -4,7 +4,7 @@ use Prim.Native.Nat.{_≤_, _-_}
 use native.Mathlib.Omega.{arith}
 use native.Mathlib.Numerals.{add-one}
 use mir.Syntax.{w16}
-use Rattle.coefficients.proofs.Samples.{back}
+use Rattle.coefficients.proofs.SampleSizes.{back}
 use Rattle.coefficients.specs.Finish.{pairs}
 use Rattle.coefficients.proofs.finishing.pairs.Statement.{statement}
 use Rattle.coefficients.proofs.finishing.pairs.Tie as tie

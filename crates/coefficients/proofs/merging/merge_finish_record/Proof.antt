@@ -1,10 +1,10 @@
 -- `merge_finish_record` meets its contract. Assumes nothing.
-use Rattle.coefficients.specs.Analysis.{mergeFinish}
+use Rattle.coefficients.specs.Analysis.{mergeFinishRecord}
 use Rattle.coefficients.proofs.merging.merge_finish_record.Statement.{statement}
 use Rattle.coefficients.proofs.merging.merge_finish_record.Tie as tie
 
 returns : tie.Need-returns
-unfolding mergeFinish
+unfolding mergeFinishRecord
 returns c = cc
 
 pub merge-finish-record-spec : {M : Type 1} → statement M

@@ -1,5 +1,5 @@
 -- `record_terms` meets its contract. Assumes nothing.
-use Rattle.coefficients.specs.Hoisted.{recordTerms}
+use Rattle.coefficients.specs.inner.SharedTerms.{recordTerms}
 use Rattle.coefficients.proofs.merging.record_terms.Statement.{statement}
 use Rattle.coefficients.proofs.merging.record_terms.Tie as tie
 

@@ -1,5 +1,5 @@
 -- `vector_terms` meets its contract. Assumes nothing.
-use Rattle.coefficients.specs.Hoisted.{vectorTerms}
+use Rattle.coefficients.specs.inner.SharedTerms.{vectorTerms}
 use Rattle.coefficients.proofs.merging.vector_terms.Statement.{statement}
 use Rattle.coefficients.proofs.merging.vector_terms.Tie as tie
 

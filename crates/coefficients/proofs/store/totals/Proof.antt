@@ -4,7 +4,7 @@ use Prim.Native.Nat.{_≤_, _-_}
 use native.Mathlib.Omega.{arith}
 use Rattle.coefficients.specs.Store as Store
 use Rattle.coefficients.specs.Store.{records, addFiltered, start}
-use Rattle.coefficients.proofs.Folds.{foldl-none, foldl-records}
+use Rattle.coefficients.proofs.StoredRecords.{foldl-none, foldl-records}
 use Rattle.coefficients.proofs.store.totals.Statement.{statement}
 use Rattle.coefficients.proofs.store.totals.Tie as tie
 
