@@ -1,4 +1,4 @@
--- finish_record, matrix_filter, merge_finish_record and the last conversion keep within bounds.
+-- Exported for the bounds of the coefficients: finish_record, matrix_filter, merge_finish_record and the last conversion keep within bounds.
 use mathlib.Core.Path.{_≡_, refl, sym, ap, _∙_, subst}
 use Prim.Native.Nat.{ℕ, zero, suc, _+_, _-_, _*_, _/_, _%_, _^_, _≤_, _<_, min, zero-le}
 use native.Mathlib.Nat.{le-trans, le-of-eq, lt-of-le-of-lt, zero-lt-suc, zero-mul, mul-one, mul-pos, min-le-left, div-lt-iff-lt-mul, lt-of-not-le, eq-or-lt-of-le, suc-mul, mul-left-comm}
@@ -14,6 +14,7 @@ use lib.Ieee.{Float, nan, inf, fin, binary64, up, down, neg, add, lt, eq, le, ne
 use lib.Ieee.Fits.{down-pos, div-fits, cond-fits}
 use lib.Ieee.Compare.{differs-from-itself}
 use Rattle.coefficients.specs.Binary64.{fma, larger, smaller, roundAway}
+use Rattle.whole.proofs.Values.{abs-neg}
 use Rattle.float.specs.FusedMultiplyAdd.{times, fusedMultiplyAdd}
 use Rattle.float.specs.Operations.{negative, less, maximumNumber, minimumNumber, roundToIntegralTiesToAway}
 use Rattle.float.proofs.Sizes.{Size, Reach, Number, nought, unit, size-neg, size-round, holds-up, holds-down, times-size, add-reach, div-number, factor-above, square-size}
@@ -191,9 +192,6 @@ is-yes e = subst T (sym e) tt
 above-nought : (x : Float) → T (lt f0 x) → T (lt nought x)
 above-nought x t = subst (λ (z : Float). T (lt z x)) f0-is t
 
-above-f0 : (x : Float) → T (lt nought x) → T (lt f0 x)
-above-f0 x t = subst (λ (z : Float). T (lt z x)) (sym f0-is) t
-
 quotient-number : (val x : Float) (k : ℕ) → (T (lt f0 val) → Upto x k) → Number (quotient val x)
 unfolding quotient
 quotient-number val x k h = go (lt f0 val) refl
@@ -319,12 +317,8 @@ signed-size (fin s m e) q h = go s
         next : (a d q : ℕ) → 0 < d → a * 1 ≤ q * d → a < suc q * d
         next a d q D h = rw suc-mul (omega arith)
 
-    abs-neg : (n : ℕ) → natAbs (negℤ (pos n)) ≡ n
-    abs-neg zero = refl
-    abs-neg (suc n) = refl
-
     go : (b : Bool) → natAbs (cond b (negℤ (pos (min (m * up e / down e) 32768))) (pos (min (m * up e / down e) 32767))) ≤ q
-    go true = le-trans (le-of-eq (abs-neg (min (m * up e / down e) 32768))) (le-trans (min-le-left (m * up e / down e) 32768) part)
+    go true = le-trans (le-of-eq (abs-neg (pos (min (m * up e / down e) 32768)))) (le-trans (min-le-left (m * up e / down e) 32768) part)
     go false = le-trans (min-le-left (m * up e / down e) 32767) part
 
 pub coefficient-size : (v : Float) (k : ℕ) → Upto v k → T (leb k 1) → natAbs (coefficient v) ≤ 2 ^ (k + 11)
@@ -348,10 +342,3 @@ coefficient-size v k h t =
     pick : (b : Bool) (x y d : Float) → x ≡ d → y ≡ d → cond b x y ≡ d
     pick true x y d p q = p
     pick false x y d p q = q
-
--- the two coefficients of a finished record
-pub c0-within : (r : Record) → Good r → natAbs (coefficient (r .v1)) ≤ 4096
-c0-within r g = coefficient-size (r .v1) 1 (g .first) tt
-
-pub c1-within : (r : Record) → Good r → natAbs (coefficient (r .v2)) ≤ 2048
-c1-within r g = coefficient-size (r .v2) 0 (under-upto (g .second)) tt

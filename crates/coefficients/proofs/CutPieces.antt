@@ -2,17 +2,17 @@
 use mathlib.Core.Path.{_≡_, refl, sym, ap, _∙_}
 use mathlib.Core.Bool.{Bool, true, false, cond}
 use mathlib.Core.List.{List, [], _∷_, _++_, foldl, foldl-append}
-use Prim.Native.Nat.{ℕ, _+_, _*_, _/_, _%_, _≤_}
+use Prim.Native.Nat.{_+_, _/_, _%_, _≤_}
 use native.Mathlib.Omega.{arith}
 use lib.Dec.{eqb}
 use lib.Ieee.{Float}
 use lib.IntN.{ℤ}
 use lib.ListN.{length, set, length-append}
-use Rattle.whole.specs.Frames.{most, framesOf}
+use Rattle.whole.specs.Frames.{framesOf}
 use Rattle.whole.specs.Outcome.{Outcome, accepted, refused}
 use Rattle.coefficients.specs.declared.CoefficientCalculator.{CoefficientCalculator}
 use Rattle.coefficients.specs.FrameRecord.{analyse}
-use Rattle.coefficients.specs.Measure.{needed, Measuring, calculator, measuring, framed, push, processAnswer, ProcessEffect, processEffect, processBy, process}
+use Rattle.coefficients.specs.Measure.{Measuring, calculator, measuring, framed, push, processAnswer, ProcessEffect, processEffect, processBy, process}
 use Rattle.coefficients.specs.inner.Measurable.{Measurable}
 use Rattle.coefficients.proofs.FrameHistories.{stored-length}
 use Rattle.coefficients.proofs.OneSample.{push-records}

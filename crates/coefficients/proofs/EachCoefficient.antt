@@ -95,7 +95,8 @@ module _ (P Q : ℤ → Type 0) (p0 : P (pos 0)) (q0 : Q (pos 0)) where
     odd = subst Q (sym (getD-replicate 16 (2 * i + 1) (pos 0) (pos 0) (omega arith))) q0;
   }
 
-  step-each : (cs : List ℤ) (k : ℕ) (a b : ℤ) → length cs ≡ 16 → k < 8 → P a → Q b → ((i : ℕ) → i < 8 → OfPair P Q cs i) → (i : ℕ) → i < 8 → OfPair P Q (set (set cs (2 * k) a) (2 * k + 1) b) i
+  step-each : (cs : List ℤ) (k : ℕ) (a b : ℤ) → length cs ≡ 16 → k < 8 → P a → Q b → ((i : ℕ) → i < 8 → OfPair P Q cs i)
+      → (i : ℕ) → i < 8 → OfPair P Q (set (set cs (2 * k) a) (2 * k + 1) b) i
   step-each cs k a b e l p q h i s = elim (ℕ-discrete i k) [
     | yes r ↦
         subst (λ (x : ℕ). OfPair P Q (set (set cs (2 * k) a) (2 * k + 1) b) x) (sym r)
@@ -105,19 +106,24 @@ module _ (P Q : ℤ → Type 0) (p0 : P (pos 0)) (q0 : Q (pos 0)) where
           odd = subst Q (sym (getD-set-same (set cs (2 * k) a) (2 * k + 1) b (pos 0) (omega arith))) q;
         })
     | no n ↦
+        let other : (j : ℕ) → (j ≡ 2 * k → ⊥) → (j ≡ 2 * k + 1 → ⊥) → getD (set (set cs (2 * k) a) (2 * k + 1) b) j (pos 0) ≡ getD cs j (pos 0) =
+        λ j u v. getD-set-other (set cs (2 * k) a) (2 * k + 1) j b (pos 0) v ∙ getD-set-other cs (2 * k) j a (pos 0) u in
         record {
-          even = subst P (sym (getD-set-other (set cs (2 * k) a) (2 * k + 1) (2 * i) b (pos 0) (λ (z : 2 * i ≡ 2 * k + 1). omega arith) ∙ getD-set-other cs (2 * k) (2 * i) a (pos 0) (λ (z : 2 * i ≡ 2 * k). n (omega arith)))) (h i s .even);
-          odd = subst Q (sym (getD-set-other (set cs (2 * k) a) (2 * k + 1) (2 * i + 1) b (pos 0) (λ (z : 2 * i + 1 ≡ 2 * k + 1). n (omega arith)) ∙ getD-set-other cs (2 * k) (2 * i + 1) a (pos 0) (λ (z : 2 * i + 1 ≡ 2 * k). omega arith))) (h i s .odd);
+          even = subst P (sym (other (2 * i) (λ (z : 2 * i ≡ 2 * k). n (omega arith)) (λ (z : 2 * i ≡ 2 * k + 1). omega arith))) (h i s .even);
+          odd = subst Q (sym (other (2 * i + 1) (λ (z : 2 * i + 1 ≡ 2 * k). omega arith) (λ (z : 2 * i + 1 ≡ 2 * k + 1). n (omega arith)))) (h i s .odd);
         }
   ]
 
-  pairs-each : (vs : List Vec3) (k : ℕ) → k ≤ 8 → ((j : ℕ) → j < 8 → P (coefficient (getD vs j blank .x1)) × Q (coefficient (getD vs j blank .x2))) → (i : ℕ) → i < 8 → OfPair P Q (pairs vs k) i
+  pairs-each : (vs : List Vec3) (k : ℕ) → k ≤ 8 → ((j : ℕ) → j < 8 → P (coefficient (getD vs j blank .x1)) × Q (coefficient (getD vs j blank .x2)))
+      → (i : ℕ) → i < 8 → OfPair P Q (pairs vs k) i
   unfolding pairs
   pairs-each vs zero l h i s = zeros-each i s
   pairs-each vs (suc k) l h i s =
-      step-each (pairs vs k) k (coefficient (getD vs k blank .x1)) (coefficient (getD vs k blank .x2)) (pairs-length vs k) l (h k l .0) (h k l .1) (pairs-each vs k (omega arith) h) i s
+      let v = getD vs k blank in
+      step-each (pairs vs k) k (coefficient (v .x1)) (coefficient (v .x2)) (pairs-length vs k) l (h k l .0) (h k l .1) (pairs-each vs k (omega arith) h) i s
 
-  pub finish-each : (rs : List Record) → ((j : ℕ) → j < 8 → P (coefficient (getD (vectors rs) j blank .x1)) × Q (coefficient (getD (vectors rs) j blank .x2))) → (i : ℕ) → i < 8 → OfPair P Q (recordCoefficients rs) i
+  pub finish-each : (rs : List Record) → ((j : ℕ) → j < 8 → P (coefficient (getD (vectors rs) j blank .x1)) × Q (coefficient (getD (vectors rs) j blank .x2)))
+      → (i : ℕ) → i < 8 → OfPair P Q (recordCoefficients rs) i
   unfolding recordCoefficients
   finish-each rs h i s = go (eqb (length rs) 0)
     where

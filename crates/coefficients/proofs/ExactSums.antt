@@ -110,7 +110,8 @@ module _ (y z : ℤ) (hy : natAbs y ≤ 9007199254740992) (hz : natAbs z ≤ 900
   pub sub-whole : sub binary64 (ofInt binary64 y) (ofInt binary64 z) ≡ ofInt binary64 (y -ℤ z)
   unfolding sub
   sub-whole =
-      add-value binary64 (ofInt binary64 y) (neg (ofInt binary64 z)) (signOf y) (not (signOf z)) (natAbs y) (natAbs z) 1 (omega arith) (whole-value y hy) (neg-value (ofInt binary64 z) (signOf z) (natAbs z) 1 (whole-value z hz))
+      let n = neg-value (ofInt binary64 z) (signOf z) (natAbs z) 1 (whole-value z hz) in
+      add-value binary64 (ofInt binary64 y) (neg (ofInt binary64 z)) (signOf y) (not (signOf z)) (natAbs y) (natAbs z) 1 (omega arith) (whole-value y hy) n
       ∙ sum-signed binary64 (signOf y) (natAbs y) (not (signOf z)) (natAbs z) (some-sign y)
       ∙ ap₂ (λ (a b : ℤ). ofInt binary64 (a +ℤ b)) (signed-is y) (signed-neg z)
       ∙ ap (ofInt binary64) (diff-eq (diff-add (diff-of y) (diff-neg (diff-of z))) (diff-sub (diff-of y) (diff-of z)) (omega arith))

@@ -81,7 +81,9 @@ module _ (v : VectorTerms) (b : Record) (val : Float) (sv : SmallTerms v) (sb : 
   last' = mul-held ample64 f2-held inner' (lit≤ tt)
 
   last-apart : Apart binary64 15 (f2 *f fma (neg (b .v1)) val (neg (b .v2))) (f2 *f (neg (b .v1) *f val +f neg (b .v2))) 8
-  last-apart = mul-apart ample64 3 f2-held inner inner' (lit≤ tt) (lit≤ tt) (fma-apart ample64 0 0 x q y x y (lit≤ tt) (lit≤ tt) (apart-same binary64 15 (neg (b .v1))) (apart-same binary64 15 (neg (b .v2))))
+  last-apart =
+      mul-apart ample64 3 f2-held inner inner' (lit≤ tt) (lit≤ tt)
+      (fma-apart ample64 0 0 x q y x y (lit≤ tt) (lit≤ tt) (apart-same binary64 15 (neg (b .v1))) (apart-same binary64 15 (neg (b .v2))))
 
   twice : Held binary64 (f2 *f val) 33
   twice = mul-held ample64 f2-held q (lit≤ tt)
@@ -134,7 +136,8 @@ pub record Wide (g : Float) : Type 0 where
   pub wide : 269 * slack binary64 15 + under binary64 g ≤ over binary64 g
 
 -- a is exact and p plain, and so are c and q; s is p and the gap g, t the second of the plain ones
-clash : (a a' p p' c c' q q' s s' t t' g g' e : ℕ) → a + p' ≤ a' + p + 134 * e → c' + q ≤ c + q' + 134 * e → s' + (p + g) ≤ s + (p' + g') + e → s + t' < t + s' → t + q' ≤ q + t' → 269 * e + g' ≤ g → c + a' ≤ a + c' → ⊥
+clash : (a a' p p' c c' q q' s s' t t' g g' e : ℕ) → a + p' ≤ a' + p + 134 * e → c' + q ≤ c + q' + 134 * e
+    → s' + (p + g) ≤ s + (p' + g') + e → s + t' < t + s' → t + q' ≤ q + t' → 269 * e + g' ≤ g → c + a' ≤ a + c' → ⊥
 clash a a' p p' c c' q q' s s' t t' g g' e A B C D E F G = omega arith
 
 module _ (ts : List VectorTerms) (n : ℕ) (b : Record) (val : Float) (sv : AllSmall ts n) (sb : Smalls (b .v1) (b .v2) val) where
@@ -161,7 +164,8 @@ module _ (ts : List VectorTerms) (n : ℕ) (b : Record) (val : Float) (sv : AllS
   leads (suc k) h = leads-next plain n (λ j h. plain-at j h .is) (suc k) _ h (leads k (omega arith))
 
   -- no other place i than that of the least plain one has an exact one that is as small
-  no-other : (m i : ℕ) (l : Lead) (f : Float) → Wide f → m ≤ n → i < m → Leads plain n (λ j h. plain-at j h .is) m l → lt (l .least +f f) (l .second) ≡ true → Below (exact i) (exact (l .index)) → (i ≡ l .index → ⊥) → ⊥
+  no-other : (m i : ℕ) (l : Lead) (f : Float) → Wide f → m ≤ n → i < m → Leads plain n (λ j h. plain-at j h .is) m l → lt (l .least +f f) (l .second) ≡ true
+      → Below (exact i) (exact (l .index)) → (i ≡ l .index → ⊥) → ⊥
   no-other m i l f w M h r d g q =
       let k = l .index in
       let K : k < n = omega (arith, r .place) in
@@ -171,20 +175,30 @@ module _ (ts : List VectorTerms) (n : ℕ) (b : Record) (val : Float) (sv : AllS
       let B = contrasts-apart (getD ts i blankTerms) b val (sv i I) sb in
       let C = add-near ample64 e (w .held) (lit≤ tt) in
       let D = lt-true binary64 (l .least +f f) (l .second) (add-held ample64 e (w .held) (lit≤ tt) .is) (r .own2) d in
-      clash (over binary64 (exact k)) (under binary64 (exact k)) (over binary64 (l .least)) (under binary64 (l .least)) (over binary64 (exact i)) (under binary64 (exact i)) (over binary64 (plain i)) (under binary64 (plain i))
-      (over binary64 (l .least +f f)) (under binary64 (l .least +f f)) (over binary64 (l .second)) (under binary64 (l .second)) (over binary64 f) (under binary64 f) (slack binary64 15)
+      clash
+      (over binary64 (exact k)) (under binary64 (exact k)) (over binary64 (l .least)) (under binary64 (l .least))
+      (over binary64 (exact i)) (under binary64 (exact i)) (over binary64 (plain i)) (under binary64 (plain i))
+      (over binary64 (l .least +f f)) (under binary64 (l .least +f f)) (over binary64 (l .second)) (under binary64 (l .second))
+      (over binary64 f) (under binary64 f) (slack binary64 15)
       (A .is .le) (B .is .ge) (C .ge) D (r .others i h q) (w .wide) g
 
-  pub clear : (g : Float) → Wide g → lt (leading ts (plainSide b val) n .least +f g) (leading ts (plainSide b val) n .second) ≡ true → leading ts (plainSide b val) n .index ≡ leastByTerms ts (recordSide b val) n .index
+  abbrev lead : ℕ → Lead
+  lead k = leading ts (plainSide b val) k
+
+  abbrev least : ℕ → ℕ
+  least k = leastByTerms ts (recordSide b val) k .index
+
+  pub clear : (g : Float) → Wide g → lt (leading ts (plainSide b val) n .least +f g) (leading ts (plainSide b val) n .second) ≡ true
+      → leading ts (plainSide b val) n .index ≡ leastByTerms ts (recordSide b val) n .index
   unfolding leading leastByTerms
   clear g w d = go n refl d
     where
-      go : (m : ℕ) → m ≡ n → lt (leading ts (plainSide b val) m .least +f g) (leading ts (plainSide b val) m .second) ≡ true → leading ts (plainSide b val) m .index ≡ leastByTerms ts (recordSide b val) m .index
+      go : (m : ℕ) → m ≡ n → lt (lead m .least +f g) (lead m .second) ≡ true → lead m .index ≡ least m
       go zero e d = refl
       go (suc k) e d =
           let L = leads k (omega arith) in
           let F = finds k (omega arith) in
-          elim (ℕ-discrete (leastByTerms ts (recordSide b val) (suc k) .index) (leading ts (plainSide b val) (suc k) .index)) [
+          elim (ℕ-discrete (least (suc k)) (lead (suc k) .index)) [
             | yes p ↦ sym p
-            | no q ↦ absurd (no-other (suc k) (leastByTerms ts (recordSide b val) (suc k) .index) (leading ts (plainSide b val) (suc k)) g w (omega arith) (F .place) L d (rw (F .value) at (F .all (leading ts (plainSide b val) (suc k) .index) (L .place))) q)
+            | no q ↦ absurd (no-other (suc k) (least (suc k)) (lead (suc k)) g w (omega arith) (F .place) L d (rw (F .value) at (F .all (lead (suc k) .index) (L .place))) q)
           ]

@@ -1,13 +1,13 @@
 -- A store with records at its front: one record more, and the same records written again.
-use mathlib.Core.Path.{_≡_, refl, sym, ap, ap₂, _∙_}
-use mathlib.Core.List.{List, [], _∷_, _++_, append-nil, append-assoc}
+use mathlib.Core.Path.{_≡_, refl, sym, ap, _∙_}
+use mathlib.Core.List.{List, [], _∷_, _++_, append-nil}
 use Prim.Native.Nat.{ℕ, suc, _+_, _*_, _<_}
 use native.Mathlib.Numerals.{add-one}
 use native.Mathlib.Omega.{arith}
 use lib.Ieee.{Float}
 use lib.IntN.{ℤ}
 use lib.ListN.{length, set}
-use lib.Seq.{sets, set-set, set-comm, length-sets}
+use lib.Seq.{sets, set-set, set-comm}
 use Rattle.whole.proofs.Stores.{sets-append}
 use Rattle.whole.specs.Frames.{framesOf}
 use Rattle.coefficients.specs.declared.framing.Found.{Found}
@@ -43,10 +43,6 @@ numbers-length : (rs : List Record) → length (numbersOf rs) ≡ 2 * length rs
 unfolding numbersOf
 numbers-length [] = refl
 numbers-length (r ∷ rs) = omega (arith, numbers-length rs)
-
-pub front-length : (s : List Float) (rs : List Record) → length (withRecords s rs) ≡ length s
-unfolding withRecords
-front-length s rs = length-sets s 0 (numbersOf rs)
 
 -- one record more
 front-more : (s : List Float) (rs : List Record) (r : Record) → writeRecord (withRecords s rs) (length rs) r ≡ withRecords s (rs ++ (r ∷ []))

@@ -1,4 +1,4 @@
--- Two stores that a state goes on with alike: what one record, a sample and a piece do to them.
+-- Two stores that are the same in the records that a state counts: what one record, a sample and a piece do to them.
 use mathlib.Core.Path.{_≡_, refl, sym, _∙_, subst}
 use mathlib.Core.Logic.{_≢_}
 use mathlib.Core.Bool.{Bool, true, false, cond}
@@ -24,9 +24,6 @@ use Rattle.coefficients.proofs.FrameHistories.{stored-length}
 
 pub same-refl : (r : ℕ) (s : List Float) → SameSoFar r s s
 same-refl r s = record { size = refl; numbers = λ i l. refl }
-
-pub same-sym : (r : ℕ) (s t : List Float) → SameSoFar r s t → SameSoFar r t s
-same-sym r s t a = record { size = sym (a .size); numbers = λ i l. sym (a .numbers i l) }
 
 pub same-trans : (r : ℕ) (s t u : List Float) → SameSoFar r s t → SameSoFar r t u → SameSoFar r s u
 same-trans r s t u a b = record { size = a .size ∙ b .size; numbers = λ i l. a .numbers i l ∙ b .numbers i l }
@@ -54,11 +51,14 @@ write-both : (r : ℕ) (s t : List Float) (x : Record) → SameSoFar r s t → S
 unfolding writeRecord
 write-both r s t x a =
     record {
-      size = length-set (set s (2 * r) (x .v1)) (2 * r + 1) (x .v2) ∙ length-set s (2 * r) (x .v1) ∙ a .size ∙ sym (length-set (set t (2 * r) (x .v1)) (2 * r + 1) (x .v2) ∙ length-set t (2 * r) (x .v1));
+      size = written s ∙ a .size ∙ sym (written t);
       numbers = λ i l.
           both-set (set s (2 * r) (x .v1)) (set t (2 * r) (x .v1)) (2 * r + 1) i (x .v2) (length-set s (2 * r) (x .v1) ∙ a .size ∙ sym (length-set t (2 * r) (x .v1)))
           (λ n. both-set s t (2 * r) i (x .v1) (a .size) (λ k. a .numbers i (omega arith)));
     }
+  where
+    written : (l : List Float) → length (set (set l (2 * r) (x .v1)) (2 * r + 1) (x .v2)) ≡ length l
+    written l = length-set (set l (2 * r) (x .v1)) (2 * r + 1) (x .v2) ∙ length-set l (2 * r) (x .v1)
 
 pub found-same : (r : ℕ) (s t : List Float) (f : Found) → SameSoFar r s t → SameSoFar (counted r f) (stored s r f) (stored t r f)
 unfolding counted stored
@@ -86,9 +86,10 @@ later-refl m = record { count = le-refl (m .calculator .records); store = same-r
 
 pub later-trans : (m n o : Measuring) → Later m n → Later n o → Later m o
 later-trans m n o a b =
+    let r = m .calculator .records in
     record {
       count = le-trans (a .count) (b .count);
-      store = same-trans (m .calculator .records) (m .store) (n .store) (o .store) (a .store) (same-earlier (m .calculator .records) (n .calculator .records) (n .store) (o .store) (a .count) (b .store));
+      store = same-trans r (m .store) (n .store) (o .store) (a .store) (same-earlier r (n .calculator .records) (n .store) (o .store) (a .count) (b .store));
     }
 
 module _ (c : CoefficientCalculator) (x : ℤ) where

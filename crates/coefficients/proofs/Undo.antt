@@ -17,7 +17,8 @@ use Rattle.coefficients.specs.declared.framing.Found.{Found}
 use Rattle.coefficients.specs.declared.merging.Record.{Record}
 use Rattle.coefficients.specs.FrameRecord.{analyse, stored, counted}
 use Rattle.coefficients.specs.Finish.{recordCoefficients}
-use Rattle.coefficients.specs.Measure.{Measuring, calculator, measuring, fresh, padded, paddedStore, paddedCount, processAnswer, ProcessEffect, processBy, process, finishAnswer, FinishEffect, finishBy, finish}
+use Rattle.coefficients.specs.Measure.{Measuring, calculator, measuring, fresh, padded, paddedStore, paddedCount, processAnswer, processBy, process, finishAnswer, finishBy}
+use Rattle.coefficients.specs.Measure.{finish}
 use Rattle.coefficients.specs.Runs.{Call, measures, asks, withValues, plainRun, callOutcome, callNext, run}
 use Rattle.coefficients.specs.Undo.{SameSoFar, Same, Later, SameProcess, SameFinish, Steps, done, call, undone, reached, kept, stepRun}
 use Rattle.coefficients.specs.Store as Store
@@ -36,8 +37,9 @@ process-by (refused k) m n xs s = record { outcome = refl; calculator = s .state
 pub process-same : (c : CoefficientCalculator) (xs : List ℤ) (s t : List Float) → SameSoFar (c .records) s t → SameProcess (process c xs s) (process c xs t)
 unfolding process
 process-same c xs s t a =
-    subst (λ (n : ℕ). SameProcess (processBy (processAnswer (c .samples) (c .records) (length xs) (length s)) (measuring c s) xs) (processBy (processAnswer (c .samples) (c .records) (length xs) n) (measuring c t) xs)) (a .size)
-    (process-by (processAnswer (c .samples) (c .records) (length xs) (length s)) (measuring c s) (measuring c t) xs (record { state = refl; store = a }))
+    let o = processAnswer (c .samples) (c .records) (length xs) (length s) in
+    subst (λ (n : ℕ). SameProcess (processBy o (measuring c s) xs) (processBy (processAnswer (c .samples) (c .records) (length xs) n) (measuring c t) xs)) (a .size)
+    (process-by o (measuring c s) (measuring c t) xs (record { state = refl; store = a }))
 
 process-by-later : (o : Outcome Unit) (m : Measuring) (xs : List ℤ) → Later m (let e = processBy o m xs in measuring (e .calculator) (e .store))
 process-by-later (accepted u) m xs = piece-later xs m

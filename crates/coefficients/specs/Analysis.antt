@@ -1,6 +1,5 @@
 -- The coefficient analysis, one definition for each function of coefficients.rs. Definitions only.
-use mathlib.Core.Bool.{Bool, true, false, cond}
-use lib.Ieee as Ieee
+use mathlib.Core.Bool.{true, cond}
 use lib.Ieee.{Float, neg, lt, le, eq}
 use Prim.Native.Nat.{ℕ}
 use lib.Dec.{eqb}

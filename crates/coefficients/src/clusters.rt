@@ -1,7 +1,7 @@
 // The vectors that the records are gathered around.
 ghost use mathlib.Core.Path.{_≡_};
-ghost use Prim.Native.Nat.{ℕ, _+_, _*_, _≤_, _<_};
-ghost use lib.ListN.{length, getD};
+ghost use Prim.Native.Nat.{_+_, _*_, _≤_, _<_};
+ghost use lib.ListN.{length};
 ghost use mathlib.Core.Bool.{true};
 ghost use Rattle.coefficients.specs.Clusters as Clusters;
 ghost use Rattle.coefficients.specs.inner.PlainContrasts.{AllSmall};

@@ -1,6 +1,6 @@
 // The lent store of records.
 ghost use mathlib.Core.Path.{_≡_};
-ghost use Prim.Native.Nat.{ℕ, _+_, _*_, _≤_, _<_};
+ghost use Prim.Native.Nat.{_+_, _*_, _≤_, _<_};
 ghost use lib.ListN.{length};
 ghost use Rattle.coefficients.specs.Store as Store;
 ghost use Rattle.coefficients.specs.Store.{records};

@@ -3,7 +3,6 @@ ghost use mathlib.Core.Path.{_≡_};
 ghost use Prim.Native.Nat.{_≤_};
 ghost use lib.IntN.{natAbs};
 ghost use lib.Ieee.{binary64, ofInt};
-ghost use lib.ListN.{length};
 ghost use Rattle.coefficients.specs.Sums as Sums;
 ghost use Rattle.coefficients.specs.inner.SmallSums.{Product, Dot, Plus, Negated};
 use crate::merging::Vec3;

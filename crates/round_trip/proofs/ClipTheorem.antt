@@ -12,7 +12,6 @@ use Rattle.frame.specs.declared.History.{History}
 use Rattle.frame.proofs.LawsFrame.{limits-bounded}
 use Rattle.coefficients.specs.Measure.{needed}
 use Rattle.whole.specs.Outcome.{accepted}
-use Rattle.coefficients.specs.Runs as measured
 use Rattle.coefficients.specs.Runs.{coefficientsOf}
 use Rattle.coefficients.proofs.WholeRuns.{measuring-runs}
 use Rattle.clip.specs.declared.Answer.the-variants as Encoding

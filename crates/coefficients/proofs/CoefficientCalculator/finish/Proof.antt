@@ -1,9 +1,8 @@
 -- `finish` meets its contract. Assumes nothing.
-use mathlib.Core.Path.{_≡_, refl, sym, ap, _∙_}
+use mathlib.Core.Path.{sym, ap, _∙_}
 use borrow.Author.Needs.{needs}
-use Prim.Native.Nat.{ℕ, _*_, _≤_}
 use lib.ListN.{length}
-use Rattle.coefficients.specs.Measure.{outcome, finish, paddedCount, paddedStore}
+use Rattle.coefficients.specs.Measure.{outcome, finish}
 use Rattle.coefficients.specs.inner.Measurable.{Measurable}
 use Rattle.coefficients.proofs.AcceptedCalls.{finish-measurable, padded-le}
 use Rattle.coefficients.proofs.CoefficientCalculator.finish.Statement.{statement}

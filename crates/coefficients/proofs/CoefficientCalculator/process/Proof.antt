@@ -1,5 +1,5 @@
 -- `process` meets its contract. Assumes nothing.
-use mathlib.Core.Path.{_≡_, refl, sym, ap, _∙_}
+use mathlib.Core.Path.{sym, ap, _∙_}
 use borrow.Author.Needs.{needs}
 use Rattle.coefficients.specs.Measure.{outcome, process, processEffect}
 use Rattle.whole.specs.Outcome.{accepted}

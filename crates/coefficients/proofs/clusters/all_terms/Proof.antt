@@ -1,6 +1,6 @@
 -- `all_terms` meets its contract. Assumes nothing.
 use mathlib.Core.Path.{_≡_, refl}
-use Prim.Native.Nat.{ℕ, _≤_, _-_}
+use Prim.Native.Nat.{_≤_, _-_}
 use native.Mathlib.Omega.{arith}
 use Rattle.coefficients.specs.inner.SharedTerms.{noTerms, allTerms}
 use Rattle.coefficients.proofs.SharedTerms.{terms-more}

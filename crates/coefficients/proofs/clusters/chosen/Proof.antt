@@ -20,12 +20,16 @@ leading-requires c κs = search needs
 returns : tie.Need-returns
 unfolding ofBits fits over under mag negative slack
 returns c =
-    let s = c .before .before .before .before .before .before .before .before in
+    let p = c .before .before .before in
+    let d = p .before .before in
+    let s = d .before .before .before in
     let a = s .args in
-    let l = c .before .before .before .leading .result in
-    let e : l ≡ leading (a .ts) (plainSide (a .r) (a .val)) (a .n) = rw (c .before .before .before .before .plain-side .ensures) at (c .before .before .before .leading .ensures) in
+    let l = p .leading .result in
+    let e : l ≡ leading (a .ts) (plainSide (a .r) (a .val)) (a .n) = rw (p .before .plain-side .ensures) at (p .leading .ensures) in
+    let small = d .before .are-small .ensures (d .if2 .taken) in
     let v : l .index ≡ leastByTerms (a .ts) (recordSide (a .r) (a .val)) (a .n) .index =
-    rw e (clear (a .ts) (a .n) (a .r) (a .val) (s .pre .1 (c .before .before .before .before .before .before .before .if1 .taken)) (c .before .before .before .before .before .before .are-small .ensures (c .before .before .before .before .before .if2 .taken)) _ (record { held = held-literal 1 tt (lit≤ tt); wide = lit≤ tt }) (rw e at (c .if3 .taken))) in
+    rw e
+    (clear (a .ts) (a .n) (a .r) (a .val) (s .pre .1 (d .before .before .if1 .taken)) small _ (record { held = held-literal 1 tt (lit≤ tt); wide = lit≤ tt }) (rw e at (c .if3 .taken))) in
     record { value = v; below = rw v (least-below _ _ (a .n) 8 (omega arith) (s .pre .0)) }
 
 nearest-requires : tie.Need-nearest-requires

@@ -1,6 +1,6 @@
 -- `doubled` meets its contract. Assumes nothing.
 use mathlib.Core.Path.{_≡_, refl, ap, _∙_}
-use Prim.Native.Nat.{ℕ, _≤_, _-_}
+use Prim.Native.Nat.{_≤_, _-_}
 use native.Mathlib.Omega.{arith}
 use Rattle.coefficients.specs.Clusters.{doubled}
 use Rattle.coefficients.proofs.RenewedVectors.{doubled-more}

@@ -1,5 +1,5 @@
 -- `gather` meets its contract. Assumes nothing.
-use mathlib.Core.Path.{_≡_, refl, sym, ap, _∙_}
+use mathlib.Core.Path.{_≡_, sym, ap, _∙_}
 use mathlib.Core.List.{List}
 use Prim.Native.Nat.{ℕ, _≤_, _-_}
 use native.Mathlib.Omega.{arith}
@@ -76,7 +76,9 @@ loop-again c =
     let q = c .before .before .before .before .record-terms in
     let r = c .before .before .before .before .before .read-record in
     let h = c .before .before .before .chosen in
-    let e = added-is (l .before .before .all-terms .result) (l .before .before .before .before .args .m) (l .loop .t) (r .result) (q .result) (h .result) (c .plus3 .result) (q .ensures) (h .ensures .value) (c .plus3 .ensures) in
+    let ts = l .before .before .all-terms .result in
+    let m = l .before .before .before .before .args .m in
+    let e = added-is ts m (l .loop .t) (r .result) (q .result) (h .result) (c .plus3 .result) (q .ensures) (h .ensures .value) (c .plus3 .ensures) in
     (omega arith, rw (foldl-records, ← l .loop .inv .1, ← r .ensures) e, counts-le (l .loop .t .counts) (h .result) (l .loop .k) (l .loop .inv .2))
 
 returns : tie.Need-returns Inv-loop μ-loop
@@ -89,7 +91,8 @@ returns c =
     let t : l .loop .t ≡ foldl (addToNearestByTerms (l .before .before .all-terms .result) (a .args .m)) empty rs = rw e at (l .loop .inv .1) in
     t
     ∙ ap (λ (ts : List VectorTerms). foldl (addToNearestByTerms ts (a .args .m)) empty rs) (l .before .before .all-terms .ensures)
-    ∙ foldl-same (addToNearestByTerms (allTerms (a .args .vs) (a .args .m)) (a .args .m)) (addToNearest (a .args .vs) (a .args .m)) empty rs (λ u r. added-terms (a .args .vs) (a .args .m) u r (a .pre .0))
+    ∙ foldl-same (addToNearestByTerms (allTerms (a .args .vs) (a .args .m)) (a .args .m)) (addToNearest (a .args .vs) (a .args .m)) empty rs
+    (λ u r. added-terms (a .args .vs) (a .args .m) u r (a .pre .0))
 
 pub gather-spec : {M : Type 1} → statement M
 gather-spec =

@@ -1,8 +1,7 @@
 -- `renewed` meets its contract. Assumes nothing.
-use mathlib.Core.Path.{_≡_, refl, sym}
-use Prim.Native.Nat.{ℕ, _≤_, _-_}
+use mathlib.Core.Path.{_≡_, refl}
+use Prim.Native.Nat.{_≤_, _-_}
 use native.Mathlib.Omega.{arith}
-use native.Mathlib.Numerals.{add-one}
 use Rattle.coefficients.specs.Clusters.{renewed}
 use Rattle.coefficients.proofs.RenewedVectors.{renewed-more}
 use Rattle.coefficients.proofs.clusters.renewed.Statement.{statement}

@@ -1,6 +1,5 @@
 -- `all_small` meets its contract. Assumes nothing.
-use mathlib.Core.Path.{_≡_}
-use Prim.Native.Nat.{ℕ, _≤_, _<_, _-_}
+use Prim.Native.Nat.{_≤_, _-_}
 use native.Mathlib.Omega.{arith}
 use Rattle.coefficients.specs.inner.PlainContrasts.{AllSmall}
 use Rattle.coefficients.proofs.PlainContrasts.{never, unless, small-more}

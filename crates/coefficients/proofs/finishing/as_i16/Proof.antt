@@ -1,7 +1,6 @@
 -- `as_i16` meets its contract. Assumes nothing.
 use mathlib.Core.Path.{_∙_}
-use native.Mathlib.Omega.{arith}
-use lib.Ieee.{ofBits, neg, toSigned}
+use lib.Ieee.{ofBits, neg}
 use lib.Ieee.Casts.{toSigned-in}
 use mir.Syntax.{w16, w64}
 use mir.Val.{SFits}

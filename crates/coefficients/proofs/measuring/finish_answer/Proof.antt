@@ -1,8 +1,6 @@
 -- `finish_answer` meets its contract. Assumes nothing.
 use mathlib.Core.Path.{_≡_, sym, _∙_}
 use mathlib.Core.Bool.{true}
-use Prim.Native.Nat.{_≤_}
-use native.Mathlib.Omega.{arith}
 use borrow.Author.Tests.{lt-ltb, le-ltb, not-false}
 use Rattle.coefficients.specs.Measure.{finishAnswer, valid, needed}
 use Rattle.coefficients.proofs.AcceptedCalls.{valid-samples}

@@ -1,5 +1,4 @@
 -- `push` meets its contract. Assumes nothing.
-use mathlib.Core.Path.{_≡_, _∙_}
 use borrow.Author.Needs.{needs}
 use mir.Facts.{toZ-ofZ}
 use Rattle.coefficients.proofs.OneSample.{push-full, push-part}

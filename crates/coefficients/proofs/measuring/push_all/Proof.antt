@@ -1,14 +1,12 @@
 -- `push_all` meets its contract: after i turns the first i samples are measured. Assumes nothing.
-use mathlib.Core.Path.{_≡_, refl, sym, ap, _∙_}
+use mathlib.Core.Path.{_≡_, refl, ap, _∙_}
 use mathlib.Core.List.{foldl}
-use Prim.Native.Nat.{ℕ, _+_, _-_, _*_, _/_, _≤_, _<_}
+use Prim.Native.Nat.{_+_, _-_, _/_, _≤_}
 use native.Mathlib.Omega.{arith}
-use lib.IntN.{ℤ, pos}
 use lib.ListN.{length, take}
 use lib.Seq.{take-all}
 use mir.Facts.{toZ-ofZ}
 use Rattle.coefficients.specs.Measure.{measuring, calculator, push}
-use Rattle.coefficients.specs.inner.Measurable.{Measurable}
 use Rattle.coefficients.proofs.AcceptedCalls.{measurable-push}
 use Rattle.coefficients.proofs.OneSample.{all-step, step-records}
 use Rattle.coefficients.proofs.measuring.push_all.Statement.{statement}
@@ -42,7 +40,9 @@ push-requires c κs =
     let l = c .before .before .before .before in
     let a = l .before .before .before .before in
     let e = l .loop .inv .3 in
-    let h = measurable-push (a .args .c .samples) (a .args .c .records) (length (a .args .samples .now)) (length (a .args .s .now)) (l .loop .i) (l .loop .n) (l .loop .r) (a .pre) (l .loop .inv .0) (omega arith) (l .loop .inv .2) in
+    let k = a .args .c in
+    let v = l .loop .inv in
+    let h = measurable-push (k .samples) (k .records) (length (a .args .samples .now)) (length (a .args .s .now)) (l .loop .i) (l .loop .n) (l .loop .r) (a .pre) (v .0) (omega arith) (v .2) in
     omega (arith, e, h)
 
 add-n : tie.Need-add-n Inv-loop μ-loop

@@ -5,11 +5,11 @@ use native.Mathlib.Numerals.{add-one}
 use Rattle.whole.proofs.Values.{sfits-abs}
 use Prim.Native.Nat.{ℕ, _≤_, _-_, _*_, _+_}
 use native.Mathlib.Omega.{arith}
-use borrow.Author.Needs.{needs, sfits-of}
+use borrow.Author.Needs.{sfits-of}
 use lib.IntN.{ℤ, natAbs, pos, _*ℤ_, _+ℤ_}
 use lib.ListN.{getD}
 use mir.Syntax.{w16, w64}
-use mir.Val.{toZ, ofZ, SFits}
+use mir.Val.{toZ, SFits}
 use mir.Facts.{toZ-ofZ}
 use Rattle.coefficients.specs.Sums.{dot}
 use Rattle.coefficients.proofs.sums.dot.Statement.{statement}
@@ -91,4 +91,21 @@ returns c =
 pub dot-spec : {M : Type 1} → statement M
 dot-spec =
     tie.close
-    (tie.spec Inv-loop μ-loop loop-holds add-product sub-product mul-product element-copy-out-product add-product-2 sub-product-2 mul-product-2 element-copy-out-product-2 (λ _ _. tt) plus-requires add-z loop-less loop-again returns)
+    (tie.spec
+    Inv-loop
+    μ-loop
+    loop-holds
+    add-product
+    sub-product
+    mul-product
+    element-copy-out-product
+    add-product-2
+    sub-product-2
+    mul-product-2
+    element-copy-out-product-2
+    (λ _ _. tt)
+    plus-requires
+    add-z
+    loop-less
+    loop-again
+    returns)

@@ -1,8 +1,7 @@
 -- `lag` meets its contract. Assumes nothing.
-use borrow.Author.Needs.{needs, sfits-of}
+use borrow.Author.Needs.{needs}
 use native.Mathlib.Omega.{arith}
 use mir.Syntax.{w64}
-use mir.Val.{SFits}
 use mir.Facts.{toZ-ofZ}
 use Rattle.coefficients.specs.Sums.{lag}
 use Rattle.whole.proofs.Values.{sfits-abs}

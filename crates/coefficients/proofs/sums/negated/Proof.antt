@@ -1,5 +1,5 @@
 -- `negated` meets its contract. Assumes nothing.
-use mathlib.Core.Path.{refl, _∙_}
+use mathlib.Core.Path.{refl}
 use native.Mathlib.Omega.{arith}
 use Prim.Native.Nat.{_≤_}
 use lib.IntN.{pos, natAbs, _-ℤ_}
