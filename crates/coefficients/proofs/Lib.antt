@@ -10,7 +10,6 @@ mod LeastAndNext
 mod OneSample
 mod AcceptedCalls
 mod RecordsAtFront
-mod SameStores
 pub mod FrameHistories
 pub mod StateOfSamples
 pub mod WholeRuns
@@ -20,4 +19,5 @@ pub mod EachCoefficient
 pub mod AnyStore
 pub mod ExactSums
 pub mod EmptyVector
+pub mod SameStores
 pub mod Undo

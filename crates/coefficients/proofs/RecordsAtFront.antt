@@ -14,7 +14,8 @@ use Rattle.coefficients.specs.declared.framing.Found.{Found}
 use Rattle.coefficients.specs.declared.framing.Found.the-variants.{Nothing, One}
 use Rattle.coefficients.specs.declared.merging.Record.{Record}
 use Rattle.coefficients.specs.FrameRecord.{stored}
-use Rattle.coefficients.specs.Runs.{recordOf, recordsOf, numbersOf, withRecords, askedOf}
+use Rattle.coefficients.specs.Runs.{recordOf, recordsOf}
+use Rattle.coefficients.specs.StateOfSamples.{numbersOf, withRecords, askedOf}
 use Rattle.coefficients.specs.Store.{writeRecord}
 
 -- ---- numbers written again

@@ -19,7 +19,7 @@ use Rattle.coefficients.specs.declared.merging.Record.{Record}
 use Rattle.coefficients.specs.FrameRecord.{analyse, stored, counted}
 use Rattle.coefficients.specs.Measure.{Measuring, calculator, measuring, framed, push}
 use Rattle.coefficients.specs.Store.{writeRecord}
-use Rattle.coefficients.specs.Undo.{SameSoFar, Same, Later}
+use Rattle.coefficients.specs.Undo.{SameSoFar, Same}
 use Rattle.coefficients.proofs.FrameHistories.{stored-length}
 
 pub same-refl : (r : ℕ) (s : List Float) → SameSoFar r s s
@@ -80,6 +80,11 @@ found-counts r Nothing = le-refl r
 found-counts r (One x) = omega arith
 
 -- ---- one sample, a piece
+
+-- n counts no fewer records than m, and those of m are as they were
+pub record Later (m n : Measuring) : Type 0 where
+  pub count : m .calculator .records ≤ n .calculator .records
+  pub store : SameSoFar (m .calculator .records) (m .store) (n .store)
 
 pub later-refl : (m : Measuring) → Later m m
 later-refl m = record { count = le-refl (m .calculator .records); store = same-refl (m .calculator .records) (m .store) }

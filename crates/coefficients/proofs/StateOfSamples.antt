@@ -18,7 +18,8 @@ use Rattle.coefficients.specs.declared.merging.Record.{Record}
 use Rattle.coefficients.specs.FrameRecord.{analyse, stored, counted}
 use Rattle.coefficients.specs.Finish.{recordCoefficients}
 use Rattle.coefficients.specs.Measure.{needed, Measuring, calculator, measuring, fresh, shift, framed, push, padded, paddedStore, paddedCount}
-use Rattle.coefficients.specs.Runs.{holding, leftAt, recordOf, recordsOf, coefficientsOf, historyAt, stateOf, askedOf, numbersOf, withRecords, storeOf}
+use Rattle.coefficients.specs.Runs.{holding, leftAt, recordOf, recordsOf, coefficientsOf}
+use Rattle.coefficients.specs.StateOfSamples.{historyAt, stateOf, askedOf, numbersOf, withRecords, storeOf}
 use Rattle.coefficients.specs.Store as Store
 use Rattle.coefficients.proofs.StoredRecords.{records-length}
 use Rattle.coefficients.proofs.RecordsAtFront.{front-found, front-again, asked-more}

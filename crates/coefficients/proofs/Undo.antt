@@ -17,17 +17,23 @@ use Rattle.coefficients.specs.declared.framing.Found.{Found}
 use Rattle.coefficients.specs.declared.merging.Record.{Record}
 use Rattle.coefficients.specs.FrameRecord.{analyse, stored, counted}
 use Rattle.coefficients.specs.Finish.{recordCoefficients}
-use Rattle.coefficients.specs.Measure.{Measuring, calculator, measuring, fresh, padded, paddedStore, paddedCount, processAnswer, processBy, process, finishAnswer, finishBy}
+use Rattle.coefficients.specs.Measure.{ProcessEffect, FinishEffect, Measuring, calculator, measuring, fresh, padded, paddedStore, paddedCount, processAnswer, processBy, process, finishAnswer, finishBy}
 use Rattle.coefficients.specs.Measure.{finish}
 use Rattle.coefficients.specs.Runs.{Call, measures, asks, withValues, plainRun, callOutcome, callNext, run}
-use Rattle.coefficients.specs.Undo.{SameSoFar, Same, Later, SameProcess, SameFinish, Steps, done, call, undone, reached, kept, stepRun}
+use Rattle.coefficients.specs.Undo.{SameSoFar, Same, Steps, done, call, undone, reached, kept, stepRun}
 use Rattle.coefficients.specs.Store as Store
 use Rattle.coefficients.specs.Store.{readRecord}
 use Rattle.coefficients.proofs.FrameHistories.{stored-length}
 use Rattle.coefficients.proofs.WholeRuns.{measuring-runs}
-use Rattle.coefficients.proofs.SameStores.{same-refl, same-trans, same-earlier, found-same, found-writes, found-counts, later-refl, later-trans, piece-same, piece-later}
+use Rattle.coefficients.proofs.SameStores.{same-refl, same-trans, same-earlier, found-same, found-writes, found-counts, Later, later-refl, later-trans, piece-same, piece-later}
 
 -- ---- the calls: processing
+
+-- two measurings of a piece: the same outcome and state, and stores that are the same in the records that it counts
+pub record SameProcess (e f : ProcessEffect) : Type 0 where
+  pub outcome : e .outcome ≡ f .outcome
+  pub calculator : e .calculator ≡ f .calculator
+  pub store : SameSoFar (e .calculator .records) (e .store) (f .store)
 
 process-by : (o : Outcome Unit) (m n : Measuring) (xs : List ℤ) → Same m n → SameProcess (processBy o m xs) (processBy o n xs)
 process-by (accepted u) m n xs s = let q = piece-same xs m n s in record { outcome = refl; calculator = q .state; store = q .store }
@@ -51,6 +57,14 @@ unfolding process
 process-later c xs s = process-by-later (processAnswer (c .samples) (c .records) (length xs) (length s)) (measuring c s) xs
 
 -- ---- the calls: asking
+
+-- two askings: the same outcome, coefficients and state, and stores that are the same in the records that it counts, with the padded frame's where one was written
+pub record SameFinish (e f : FinishEffect) : Type 0 where
+  pub outcome : e .outcome ≡ f .outcome
+  pub coefficients : e .coefficients ≡ f .coefficients
+  pub calculator : e .calculator ≡ f .calculator
+  pub store : SameSoFar (e .calculator .records) (e .store) (f .store)
+  pub written : e .outcome ≡ accepted tt → SameSoFar (paddedCount (e .calculator)) (e .store) (f .store)
 
 -- the first records of two such stores
 records-same : (r : ℕ) (s t : List Float) → SameSoFar r s t → Store.records s r ≡ Store.records t r

@@ -14,8 +14,9 @@ use Rattle.whole.specs.Frames.{most}
 use Rattle.whole.specs.Outcome.{Outcome, accepted, refused}
 use Rattle.whole.proofs.Outcomes.{failed}
 use Rattle.coefficients.specs.Measure.{needed, Measuring, measuring, fresh, valid, processAnswer, process, processBy, finishAnswer, finish, finishBy}
-use Rattle.coefficients.specs.Runs.{coefficientsOf, Call, measures, asks, plainOutcome, plainNext, plainRun, withValues, callOutcome, callNext, run, stateOf, storeOf}
-use Rattle.coefficients.specs.Runs.{askedAt, plainAfter, plainAsked}
+use Rattle.coefficients.specs.Runs.{coefficientsOf, Call, measures, asks, plainOutcome, plainNext, plainRun, withValues, callOutcome, callNext, run}
+use Rattle.coefficients.specs.StateOfSamples.{stateOf, storeOf}
+use Rattle.coefficients.specs.StateOfSamples.{askedAt, plainAfter, plainAsked}
 use Rattle.coefficients.proofs.StateOfSamples.{Follows, count-few, state-is, fresh-follows, piece-follows, asked, asked-follows}
 
 -- ---- what the calls answer

@@ -10,6 +10,7 @@ pub mod Finish
 pub mod FrameRecord
 pub mod Measure
 pub mod Runs
+pub mod StateOfSamples
 pub mod Undo
 pub mod CoefficientLimits
 pub mod inner

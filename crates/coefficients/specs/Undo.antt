@@ -1,12 +1,12 @@
 -- Steps taken back: calls some of which are undone, by going on from the state before them with the store as they left it. Definitions only.
 use mathlib.Core.Path.{_≡_}
 use mathlib.Core.List.{List, [], _∷_}
-use Prim.Native.Nat.{ℕ, _*_, _≤_, _<_}
+use Prim.Native.Nat.{ℕ, _*_, _<_}
 use lib.Ieee.{Float, nan}
 use lib.IntN.{ℤ}
 use lib.ListN.{length, getD}
-use Rattle.whole.specs.Outcome.{Outcome, accepted}
-use Rattle.coefficients.specs.Measure.{Measuring, measuring, ProcessEffect, FinishEffect, paddedCount}
+use Rattle.whole.specs.Outcome.{Outcome}
+use Rattle.coefficients.specs.Measure.{Measuring, measuring}
 use Rattle.coefficients.specs.Runs.{Call, callOutcome, callNext}
 
 -- a call and the steps after it; or some steps that are taken back, and the steps after that
@@ -45,22 +45,3 @@ pub record SameSoFar (r : ℕ) (s t : List Float) : Type 0 where
 pub record Same (m n : Measuring) : Type 0 where
   pub state : m .calculator ≡ n .calculator
   pub store : SameSoFar (m .calculator .records) (m .store) (n .store)
-
--- n counts no fewer records than m, and those of m are as they were
-pub record Later (m n : Measuring) : Type 0 where
-  pub count : m .calculator .records ≤ n .calculator .records
-  pub store : SameSoFar (m .calculator .records) (m .store) (n .store)
-
--- two measurings of a piece: the same outcome and state, and stores that are the same in the records that it counts
-pub record SameProcess (e f : ProcessEffect) : Type 0 where
-  pub outcome : e .outcome ≡ f .outcome
-  pub calculator : e .calculator ≡ f .calculator
-  pub store : SameSoFar (e .calculator .records) (e .store) (f .store)
-
--- two askings: the same outcome, coefficients and state, and stores that are the same in the records that it counts, with the padded frame's where one was written
-pub record SameFinish (e f : FinishEffect) : Type 0 where
-  pub outcome : e .outcome ≡ f .outcome
-  pub coefficients : e .coefficients ≡ f .coefficients
-  pub calculator : e .calculator ≡ f .calculator
-  pub store : SameSoFar (e .calculator .records) (e .store) (f .store)
-  pub written : e .outcome ≡ accepted tt → SameSoFar (paddedCount (e .calculator)) (e .store) (f .store)
