@@ -5,7 +5,7 @@ use Rattle.coefficients.proofs.merging.record_side.Tie as tie
 
 returns : tie.Need-returns
 unfolding recordSide
-returns c = cc
+returns c = simp (← c .mul-add .ensures)
 
 pub record-side-spec : {M : Type 1} → statement M
 record-side-spec = tie.close (tie.spec (λ _ _. tt) returns)

@@ -5,7 +5,7 @@ use Rattle.coefficients.proofs.merging.terms_contrast.Tie as tie
 
 returns : tie.Need-returns
 unfolding termsContrast
-returns c = cc
+returns c = simp (← c .before .mul-add .ensures, ← c .mul-add2 .ensures)
 
 pub terms-contrast-spec : {M : Type 1} → statement M
 terms-contrast-spec = tie.close (tie.spec (λ _ _. tt) (λ _ _. tt) returns)

@@ -5,7 +5,7 @@ use Rattle.coefficients.proofs.merging.within_one.Tie as tie
 
 returns : tie.Need-returns
 unfolding withinOne
-returns c = cc
+returns c = simp (c .if1 .taken)
 
 returns-2 : tie.Need-returns-2
 unfolding withinOne
@@ -13,7 +13,7 @@ returns-2 c = simp (c .before .if1 .left, c .if2 .taken)
 
 returns-3 : tie.Need-returns-3
 unfolding withinOne
-returns-3 c = cc
+returns-3 c = simp (c .before .if1 .left, c .if2 .left)
 
 pub within-one-spec : {M : Type 1} → statement M
 within-one-spec = tie.close (tie.spec returns returns-2 returns-3)

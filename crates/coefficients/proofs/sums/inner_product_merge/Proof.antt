@@ -15,7 +15,7 @@ neg-lag-requires-3 c κs = search needs
 
 returns : tie.Need-returns
 unfolding innerProductMerge
-returns c = cc
+returns c = simp (← c .before .before .neg-lag .ensures, ← c .before .neg-lag2 .ensures, ← c .neg-lag3 .ensures)
 
 pub inner-product-merge-spec : {M : Type 1} → statement M
 inner-product-merge-spec =

@@ -18,7 +18,7 @@ lag-requires-4 c κs = search needs
 
 returns : tie.Need-returns
 unfolding outerProductMerge
-returns c = cc
+returns c = simp (← c .before .before .before .lag .ensures, ← c .before .before .lag2 .ensures, ← c .before .lag3 .ensures, ← c .lag4 .ensures)
 
 pub outer-product-merge-spec : {M : Type 1} → statement M
 outer-product-merge-spec =
