@@ -15,7 +15,7 @@ use lib.Ieee.Digits.{size-le}
 use lib.Ieee.Fits.{two, two-le-pos, down-pos, round-fits}
 use lib.Ieee.Bits.{ofBits-toBits, cond-no}
 use lib.Ieee.Exact.{HasValue, units-val}
-use Rattle.float.proofs.Rounding.{size-exact}
+use Rattle.float.proofs.RoundingByDigits.{size-exact}
 
 -- ---- the bits of a finite value, by its size in units
 toBits-fin : (f : Format) (s : Bool) (m : ℕ) (e : ℤ) (n : ℕ) → m * up e * 2 ^ low f / down e ≡ n → toBits f (fin s m e) ≡ cond s (top f) 0 + (size n - prec f) * hid f + n / 2 ^ (size n - prec f)
@@ -73,10 +73,10 @@ module _ (f : Format) (s : Bool) (q k : ℕ) where
 
   -- q below 2 ^ prec
   below : (k ≡ 0) ⊎ (hid f ≤ q) → k < 2 * emax f → q < 2 ^ prec f → toBits f (units f s q k) ≡ cond s (top f) 0 + (k * hid f + q)
-  below d l h = fine k q (lt-of-lt-of-le (shl-lt (prec f) k h) (pow-mono (room (prec f) (emax f) k (two f) l))) (digits d h) refl
+  below d l h = fine k q (lt-of-lt-of-le (shl-lt (prec f) k h) (pow-mono (bound (prec f) (emax f) k (two f) l))) (digits d h) refl
     where
-      room : (p e k : ℕ) → 2 ≤ p → k < 2 * e → p + k ≤ e + p - 2 + suc e
-      room p e k a b = omega arith
+      bound : (p e k : ℕ) → 2 ≤ p → k < 2 * e → p + k ≤ e + p - 2 + suc e
+      bound p e k a b = omega arith
 
   -- rounding carried: q is 2 ^ prec
   carried : k < 2 * emax f → q ≡ 2 ^ prec f → toBits f (units f s q k) ≡ cond s (top f) 0 + (k * hid f + q)
@@ -94,8 +94,8 @@ module _ (f : Format) (s : Bool) (q k : ℕ) where
       spread : (k h : ℕ) → (k + 2) * h ≡ k * h + 2 * h
       spread k h = simp add-mul
 
-      room : (p e k : ℕ) → 2 ≤ p → suc k < 2 * e → suc (p + k) ≤ e + p - 2 + suc e
-      room p e k a b = omega arith
+      bound : (p e k : ℕ) → 2 ≤ p → suc k < 2 * e → suc (p + k) ≤ e + p - 2 + suc e
+      bound p e k a b = omega arith
 
       is : q * 2 ^ k ≡ 2 ^ (prec f + k)
       is = ap (λ (z : ℕ). z * 2 ^ k) e ∙ sym (pow-add 2 (prec f) k)
@@ -115,7 +115,7 @@ module _ (f : Format) (s : Bool) (q k : ℕ) where
           ∙ toBits-inf f s
           ∙ ap (λ (z : ℕ). cond s (top f) 0 + z) (tops k (emax f) (hid f) q (2 ^ prec f) t (pw' f) e ∙ spread k (hid f) ∙ ap (λ (z : ℕ). k * hid f + z) (sym (pw' f) ∙ sym e))
       go (inr t) =
-          fine (suc k) (hid f) (lt-of-le-of-lt (le-of-eq is) (pow-lt (room (prec f) (emax f) k (two f) t)))
+          fine (suc k) (hid f) (lt-of-le-of-lt (le-of-eq is) (pow-lt (bound (prec f) (emax f) k (two f) t)))
           (ap (λ (z : ℕ). z - prec f) (ap size is ∙ size-exact (2 ^ (prec f + k)) (prec f + k) (le-refl (2 ^ (prec f + k))) (pow-lt (le-refl (suc (prec f + k))))) ∙ cut (prec f) k)
           (sym (pow-add 2 (prec f - 1) (suc k)) ∙ ap (λ (z : ℕ). 2 ^ z) (meet (prec f) k (two f)) ∙ sym is)
           ∙ ap (λ (z : ℕ). cond s (top f) 0 + z) (one-up k (hid f) q (e ∙ pw' f))
@@ -130,10 +130,10 @@ module _ (f : Format) (s : Bool) (q k : ℕ) where
   -- and an infinity's from there on
   pub pack-inf : hid f ≤ q → 2 * emax f ≤ k → toBits f (units f s q k) ≡ cond s (top f) 0 + ones f * hid f
   pack-inf g l =
-      ap (toBits f) (units-inf f s q k (le-trans (pow-mono (room (prec f) (emax f) k (two f) l)) (le-trans (le-of-eq (pow-add 2 (prec f - 1) k)) (mul-le-mul-right (2 ^ k) g)))) ∙ toBits-inf f s
+      ap (toBits f) (units-inf f s q k (le-trans (pow-mono (bound (prec f) (emax f) k (two f) l)) (le-trans (le-of-eq (pow-add 2 (prec f - 1) k)) (mul-le-mul-right (2 ^ k) g)))) ∙ toBits-inf f s
     where
-      room : (p e k : ℕ) → 2 ≤ p → 2 * e ≤ k → e + p - 2 + suc e ≤ p - 1 + k
-      room p e k a b = omega arith
+      bound : (p e k : ℕ) → 2 ≤ p → 2 * e ≤ k → e + p - 2 + suc e ≤ p - 1 + k
+      bound p e k a b = omega arith
 
 -- ---- a float made of the pattern of a rounded value is that value
 pub made : (f : Format) (s : Bool) (m d b : ℕ) (v : Float) → round f s m d ≡ v → toBits f v ≡ b → ofBits f b ≡ round f s m d

@@ -12,7 +12,7 @@ use lib.Ieee.{Float, nan, inf, fin, Format, binary64, up, down, mul, div, lt, eq
 use lib.Ieee.Fits.{up-pos, down-pos}
 use lib.Ieee.Compare.{differs-from-itself}
 use lib.Ieee.Positive.{through}
-use Rattle.float.specs.Operations.{abs, negative, less, maximumNumber, minimumNumber}
+use Rattle.float.specs.Operations.{abs, negative, isLess, maximumNumber, minimumNumber}
 use Rattle.float.proofs.Sizes.{Size, Reach, Plus, Number, nought, holds-zero, size-round, round-plus, some-digit}
 
 pub plus-abs : (x : Float) → Number x → Plus (abs x)
@@ -138,11 +138,11 @@ small-first (fin false m e) (inf false) h p k q = refl
 small-first (fin false m e) (fin true n d) h p k q = absurd (true≢false q)
 small-first (fin false m e) (fin false n d) h p k q =
     lt-ltb (m * up e * down d) (n * up d * down e)
-    (lt-of-lt-of-le (mul-lt-mul-of-pos-right (less (m * up e) (down e) (down-pos e) h) (down-pos d))
+    (lt-of-lt-of-le (mul-lt-mul-of-pos-right (isLess (m * up e) (down e) (down-pos e) h) (down-pos d))
     (le-trans (le-of-eq (mul-comm (down e) (down d))) (mul-le-mul-right (down e) (at (n * up d) (down d) k))))
   where
-    less : (a b : ℕ) → 0 < b → a * 17179869184 ≤ 1 * b → a < b
-    less a b B h = omega arith
+    isLess : (a b : ℕ) → 0 < b → a * 17179869184 ≤ 1 * b → a < b
+    isLess a b B h = omega arith
 
     at : (a b : ℕ) → 1 * b ≤ a * 1 → b ≤ a
     at a b h = omega arith
@@ -180,15 +180,15 @@ plain false true = refl
 plain false false = refl
 
 -- where x has no minus sign, `less` is `lt`
-pub less-plus : (x y : Float) → Plus x → less x y ≡ lt x y
-unfolding less negative
+pub less-plus : (x y : Float) → Plus x → isLess x y ≡ lt x y
+unfolding isLess negative
 less-plus nan y p = absurd p
 less-plus (inf s) y p = rw p (plain (lt (inf false) y) (eq (inf false) y))
 less-plus (fin s m e) y p = rw p (plain (lt (fin false m e) y) (eq (fin false m e) y))
 
 -- where y has a minus sign too
-pub less-minus : (x y : Float) → negative y ≡ true → less x y ≡ lt x y
-unfolding less
+pub less-minus : (x y : Float) → negative y ≡ true → isLess x y ≡ lt x y
+unfolding isLess
 less-minus x y e = rw e (none (lt x y) (eq x y) (negative x))
   where
     none : (a b c : Bool) → (a || (b && (c && false))) ≡ a
@@ -200,15 +200,15 @@ less-minus x y e = rw e (none (lt x y) (eq x y) (negative x))
 pub larger-reach : (x y : Float) (n g : ℕ) → Plus x → Plus y → Reach x n g → Reach (maximumNumber x y) n g
 unfolding maximumNumber
 larger-reach x y n g p q h =
-    subst (λ (b : Bool). Reach (cond b y (cond (less x y) y x)) n g) (sym (is-number x (plus-number x p))) (go (less x y) refl)
+    subst (λ (b : Bool). Reach (cond b y (cond (isLess x y) y x)) n g) (sym (is-number x (plus-number x p))) (go (isLess x y) refl)
   where
-    go : (b : Bool) → less x y ≡ b → Reach (cond b y x) n g
+    go : (b : Bool) → isLess x y ≡ b → Reach (cond b y x) n g
     go true e = lt-reach x y n g (sym (less-plus x y p) ∙ e) p q h
     go false e = h
 
 pub larger-size : (x y : Float) (n g : ℕ) → Size x n g → Size y n g → Size (maximumNumber x y) n g
 unfolding maximumNumber
-larger-size x y n g h k = go (ne x x) (less x y)
+larger-size x y n g h k = go (ne x x) (isLess x y)
   where
     go : (a b : Bool) → Size (cond a y (cond b y x)) n g
     go true b = k
@@ -217,15 +217,15 @@ larger-size x y n g h k = go (ne x x) (less x y)
 
 pub larger-plus : (x y : Float) → Plus x → Plus y → Plus (maximumNumber x y)
 unfolding maximumNumber
-larger-plus x y h k = plus-pick (ne x x) y (cond (less x y) y x) k (plus-pick (less x y) y x k h)
+larger-plus x y h k = plus-pick (ne x x) y (cond (isLess x y) y x) k (plus-pick (isLess x y) y x k h)
 
 pub smaller-plus : (x y : Float) → Plus x → Plus y → Plus (minimumNumber x y)
 unfolding minimumNumber
-smaller-plus x y h k = plus-pick (ne x x) y (cond (less y x) y x) k (plus-pick (less y x) y x k h)
+smaller-plus x y h k = plus-pick (ne x x) y (cond (isLess y x) y x) k (plus-pick (isLess y x) y x k h)
 
 pub smaller-reach : (x y : Float) (n g : ℕ) → Reach x n g → Reach y n g → Reach (minimumNumber x y) n g
 unfolding minimumNumber
-smaller-reach x y n g h k = go (ne x x) (less y x)
+smaller-reach x y n g h k = go (ne x x) (isLess y x)
   where
     go : (a b : Bool) → Reach (cond a y (cond b y x)) n g
     go true b = k
@@ -235,9 +235,9 @@ smaller-reach x y n g h k = go (ne x x) (less y x)
 -- of a number from 1 on and one up to 1 / 2 ^ 34, the smaller is the latter
 pub smaller-small : (x y : Float) → Reach x 1 1 → Plus x → Size y 1 17179869184 → Plus y → Size (minimumNumber x y) 1 17179869184
 unfolding minimumNumber
-smaller-small x y h p k q = go (ne x x) (less y x) refl
+smaller-small x y h p k q = go (ne x x) (isLess y x) refl
   where
-    go : (a b : Bool) → less y x ≡ b → Size (cond a y (cond b y x)) 1 17179869184
+    go : (a b : Bool) → isLess y x ≡ b → Size (cond a y (cond b y x)) 1 17179869184
     go true b e = k
     go false true e = k
     go false false e = absurd (true≢false (sym (less-plus y x q ∙ small-first y x k q h p) ∙ e))
@@ -245,9 +245,9 @@ smaller-small x y h p k q = go (ne x x) (less y x) refl
 -- of 0 and a number from 1 on, the larger is the latter
 pub larger-zero : (x : Float) → Reach x 1 1 → Plus x → Reach (maximumNumber nought x) 1 1
 unfolding maximumNumber
-larger-zero x h p = go (ne nought nought) (less nought x) refl
+larger-zero x h p = go (ne nought nought) (isLess nought x) refl
   where
-    go : (a b : Bool) → less nought x ≡ b → Reach (cond a x (cond b x nought)) 1 1
+    go : (a b : Bool) → isLess nought x ≡ b → Reach (cond a x (cond b x nought)) 1 1
     go true b e = h
     go false true e = h
     go false false e = absurd (true≢false (sym (less-plus nought x refl ∙ small-first nought x zero-le refl h p) ∙ e))

@@ -13,7 +13,8 @@ use lib.Ieee.{Float, nan, inf, fin, Format, prec, emax, low, unlike, up, down, r
 use lib.Ieee.Fits.{up-pos, down-pos}
 use lib.Ieee.Exact.{HasValue, round-exact}
 use lib.Ieee.Scale.{round-same}
-use Rattle.float.specs.FusedMultiplyAdd.{times, fusedMultiplyAdd, plainly}
+use Rattle.float.specs.FusedMultiplyAdd.{times, fusedMultiplyAdd}
+use Rattle.float.specs.inner.Operands.{isPlain}
 use Rattle.float.proofs.Sizes.{up-add}
 
 -- ---- a fraction at another scale

@@ -3,13 +3,15 @@ ghost use mathlib.Core.Path.{_≡_};
 ghost use Prim.Native.Nat.{ℕ, _+_, _*_, _/_, _%_, _^_, _<_};
 ghost use lib.Dec.{leb};
 ghost use lib.Ieee.{binary64, toBits, ofBits};
-ghost use Rattle.float.specs.FusedMultiplyAdd.{fusedMultiplyAdd, plainly};
+ghost use Rattle.float.specs.FusedMultiplyAdd.{fusedMultiplyAdd};
+ghost use Rattle.float.specs.inner.Operands.{isPlain, Normal, Near, Plain, Decomposed};
 ghost use mathlib.Core.Bool.{true};
-ghost use Rattle.float.specs.Split.{Normal, Near, Plain, Split};
-ghost use Rattle.float.specs.Wide.{Framed, summing, Ready};
+ghost use Rattle.float.specs.inner.Sticky.{Aligned};
+ghost use Rattle.float.specs.inner.Rounded.{signedSum};
+ghost use Rattle.float.specs.inner.TwoWords.{LeftJustified};
 use crate::packing::normalised;
 use crate::two_words::merged;
-use crate::two_words::shift_right_jam;
+use crate::two_words::shift_right_sticky;
 use crate::two_words::shifted_right;
 use crate::two_words::wide_is_zero;
 use crate::two_words::wide_mul;
@@ -17,8 +19,8 @@ use crate::two_words::wide_mul;
 // The pattern of ±a / 2^2272 + ±b / 2^2272, rounded once, where the two numbers stand for a / 2^e and b / 2^e.
 fn signed_sum(np: bool, ph: u64, pl: u64, nc: bool, ch: u64, cl: u64, e: u64) -> u64
     requires { ⌜ (ph < 2 ^ 62) × (ch < 2 ^ 62) × (0 < ph * 2 ^ 64 + pl) × (e < 8000) ⌝ }
-    ensures { λ r. ⌜ ((a b : ℕ) → Framed a (ph * 2 ^ 64 + pl) b (ch * 2 ^ 64 + cl) (2 ^ e)
-        → r ≡ toBits binary64 (summing 1198 np a nc b)) ⌝ }
+    ensures { λ r. ⌜ ((a b : ℕ) → Aligned a (ph * 2 ^ 64 + pl) b (ch * 2 ^ 64 + cl) (2 ^ e)
+        → r ≡ toBits binary64 (signedSum 1198 np a nc b)) ⌝ }
 {
     let s = merged(np != nc, ph, pl, ch, cl);
     if wide_is_zero(s.hi, s.lo) {
@@ -31,14 +33,14 @@ fn signed_sum(np: bool, ph: u64, pl: u64, nc: bool, ch: u64, cl: u64, e: u64) ->
 // The pattern of ±p * 2^ep / 2^2272 + ±c * 2^ec / 2^2272, rounded once, where p is ph * 2^64 + pl and c is ch * 2^64:
 // the one with the smaller exponent is shifted down to the other's.
 fn aligned_sum(np: bool, ph: u64, pl: u64, ep: u64, nc: bool, ch: u64, ec: u64) -> u64
-    requires { ⌜ Ready (ph * 2 ^ 64 + pl) × Ready (ch * 2 ^ 64) × (ep < 8000) × (ec < 8000) ⌝ }
-    ensures { λ r. ⌜ r ≡ toBits binary64 (summing 1198 np ((ph * 2 ^ 64 + pl) * 2 ^ ep) nc (ch * 2 ^ 64 * 2 ^ ec)) ⌝ }
+    requires { ⌜ LeftJustified (ph * 2 ^ 64 + pl) × LeftJustified (ch * 2 ^ 64) × (ep < 8000) × (ec < 8000) ⌝ }
+    ensures { λ r. ⌜ r ≡ toBits binary64 (signedSum 1198 np ((ph * 2 ^ 64 + pl) * 2 ^ ep) nc (ch * 2 ^ 64 * 2 ^ ec)) ⌝ }
 {
     if ec <= ep {
-        let w = shift_right_jam(ch, 0, ep - ec);
+        let w = shift_right_sticky(ch, 0, ep - ec);
         signed_sum(np, ph, pl, nc, w.hi, w.lo, ep)
     } else {
-        let w = shift_right_jam(ph, pl, ec - ep);
+        let w = shift_right_sticky(ph, pl, ec - ep);
         signed_sum(np, w.hi, w.lo, nc, ch, 0, ec)
     }
 }
@@ -53,7 +55,7 @@ struct Digits {
 // m * 2^e / 2^1126.
 fn decomposed(bits: u64) -> Digits
     requires { ⌜ Plain bits ⌝ }
-    ensures { λ r. ⌜ Split (ofBits binary64 bits) (leb (2 ^ 63) bits) (r .m) (r .e) ⌝ }
+    ensures { λ r. ⌜ Decomposed (ofBits binary64 bits) (leb (2 ^ 63) bits) (r .m) (r .e) ⌝ }
 {
     let field = bits % 0x8000_0000_0000_0000 / 0x10_0000_0000_0000;
     let t = bits % 0x10_0000_0000_0000;
@@ -146,7 +148,7 @@ pub(crate) fn fused_near(a: u64, b: u64, c: u64) -> u64
 
 // Whether x is finite and not a zero.
 pub(crate) fn is_plain(x: f64) -> bool
-    ensures { λ r. ⌜ r ≡ plainly x ⌝ }
+    ensures { λ r. ⌜ r ≡ isPlain x ⌝ }
 {
     let top: f64 = f64::from_bits(0x7ff0_0000_0000_0000);
     if x < top {

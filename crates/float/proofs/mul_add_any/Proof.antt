@@ -5,32 +5,33 @@ use borrow.Author.Needs.{needs}
 use borrow.Author.Tests.{not-true, not-false}
 use lib.Dec.{T}
 use lib.Ieee.{Float, binary64, eq, fits, toBits, ofBits}
-use Rattle.float.specs.FusedMultiplyAdd.{fusedMultiplyAdd, plainly}
-use Rattle.float.proofs.Special.{zero-is, special-left, special-right, zero-third, other-third, plain-no-nan, plain-bits, plain-finite, fma-read, fma-bits, own}
+use Rattle.float.specs.FusedMultiplyAdd.{fusedMultiplyAdd}
+use Rattle.float.specs.inner.Operands.{isPlain}
+use Rattle.float.proofs.SpecialValues.{zero-is, special-left, special-right, zero-third, other-third, plain-no-nan, plain-bits, plain-finite, fma-read, fma-bits, read-back}
 use Rattle.float.proofs.mul_add_any.Statement.{statement}
 use Rattle.float.proofs.mul_add_any.Tie as tie
 
 -- what owning an `f64` tells: the format holds it
-held-a : (c : tie.Start) → T (fits binary64 (c .args .a))
-held-a c = subst T (sym (c .good .0 .1)) tt
+fits-a : (c : tie.Start) → T (fits binary64 (c .args .a))
+fits-a c = subst T (sym (c .good .0 .1)) tt
 
-held-b : (c : tie.Start) → T (fits binary64 (c .args .b))
-held-b c = subst T (sym (c .good .1 .0 .1)) tt
+fits-b : (c : tie.Start) → T (fits binary64 (c .args .b))
+fits-b c = subst T (sym (c .good .1 .0 .1)) tt
 
-held-c : (c : tie.Start) → T (fits binary64 (c .args .c))
-held-c c = subst T (sym (c .good .1 .1 .0 .1)) tt
+fits-c : (c : tie.Start) → T (fits binary64 (c .args .c))
+fits-c c = subst T (sym (c .good .1 .1 .0 .1)) tt
 
 -- what the tests say
-plain-a : (c : tie.Else1) → plainly (c .before .before .args .a) ≡ true
+plain-a : (c : tie.Else1) → isPlain (c .before .before .args .a) ≡ true
 plain-a c = sym (c .before .is-plain .ensures) ∙ not-false (c .before .is-plain .result) (c .if1 .left)
 
-plain-b : (c : tie.Else2) → plainly (c .before .before .before .before .args .b) ≡ true
+plain-b : (c : tie.Else2) → isPlain (c .before .before .before .before .args .b) ≡ true
 plain-b c = sym (c .before .is-plain2 .ensures) ∙ not-false (c .before .is-plain2 .result) (c .if2 .left)
 
-plain-c : (c : tie.Then3) → plainly (c .before .before .before .before .before .before .args .c) ≡ true
+plain-c : (c : tie.Then3) → isPlain (c .before .before .before .before .before .before .args .c) ≡ true
 plain-c c = sym (c .before .is-plain3 .ensures) ∙ c .if3 .taken
 
-other-c : (c : tie.Else3) → plainly (c .before .before .before .before .before .before .args .c) ≡ false
+other-c : (c : tie.Else3) → isPlain (c .before .before .before .before .before .before .args .c) ≡ false
 other-c c = sym (c .before .is-plain3 .ensures) ∙ c .if3 .left
 
 is-plain-requires : tie.Need-is-plain-requires
@@ -60,9 +61,9 @@ float-to-bits-fused-3 c = plain-no-nan (c .before .before .before .before .befor
 fused-requires : tie.Need-fused-requires
 fused-requires c κs =
     let s = c .before .before .before .before .before .before in (
-      plain-bits (s .args .a) (held-a s) (plain-a (c .before .before .before .before)),
-      plain-bits (s .args .b) (held-b s) (plain-b (c .before .before)),
-      plain-bits (s .args .c) (held-c s) (plain-c c),
+      plain-bits (s .args .a) (fits-a s) (plain-a (c .before .before .before .before)),
+      plain-bits (s .args .b) (fits-b s) (plain-b (c .before .before)),
+      plain-bits (s .args .c) (fits-c s) (plain-c c),
     )
 
 -- what `fused` gives
@@ -70,7 +71,7 @@ bits : (c : tie.After-fused)
     → c .fused .result ≡ toBits binary64 (fusedMultiplyAdd binary64 (c .before .before .before .before .before .before .before .args .a) (c .before .before .before .before .before .before .before .args .b) (c .before .before .before .before .before .before .before .args .c))
 bits c =
     let s = c .before .before .before .before .before .before .before in
-    c .fused .ensures ∙ own (s .args .a) (s .args .b) (s .args .c) (held-a s) (held-b s) (held-c s)
+    c .fused .ensures ∙ read-back (s .args .a) (s .args .b) (s .args .c) (fits-a s) (fits-b s) (fits-c s)
 
 float-from-bits-result : tie.Need-float-from-bits-result
 float-from-bits-result c =

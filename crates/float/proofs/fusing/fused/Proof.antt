@@ -5,8 +5,9 @@ use borrow.Author.Needs.{needs}
 use native.Mathlib.Omega.{arith}
 use lib.Dec.{leb}
 use lib.Ieee.{binary64, unlike, toBits, ofBits}
-use Rattle.float.specs.Wide.{wide, Ready, summing}
-use Rattle.float.proofs.Apart.{ready-product, ready-sum, fused-law}
+use Rattle.float.specs.inner.TwoWords.{wide, LeftJustified}
+use Rattle.float.specs.inner.Rounded.{signedSum}
+use Rattle.float.proofs.Decomposition.{product-justified, addend-justified, fused-law}
 use Rattle.float.proofs.fusing.fused.Statement.{statement}
 use Rattle.float.proofs.fusing.fused.Tie as tie
 
@@ -43,8 +44,8 @@ aligned-sum-requires c κs =
     let z = c .before .before .before .before .before .before .before .decomposed3 in
     let y = c .before .before .before .before .before .before .before .before .decomposed2 in
     let x = c .before .before .before .before .before .before .before .before .before .decomposed in (
-      subst (λ (n : ℕ). Ready n) (sym (q .ensures)) (ready-product (x .result .m) (y .result .m) (x .ensures .least) (x .ensures .most) (y .ensures .least) (y .ensures .most)),
-      ready-sum (z .result .m) (z .ensures .least) (z .ensures .most),
+      subst (λ (n : ℕ). LeftJustified n) (sym (q .ensures)) (product-justified (x .result .m) (y .result .m) (x .ensures .least) (x .ensures .most) (y .ensures .least) (y .ensures .most)),
+      addend-justified (z .result .m) (z .ensures .least) (z .ensures .most),
       sum-lt (x .result .e) (y .result .e) (x .ensures .low) (y .ensures .low),
       third-lt (z .result .e) (z .ensures .low),
     )
@@ -66,7 +67,7 @@ returns c =
     let t = leb (2 ^ 63) (a .b) in
     let r = leb (2 ^ 63) (a .c) in
     c .aligned-sum .ensures
-    ∙ ap (λ (n : ℕ). toBits binary64 (summing 1198 (unlike s t) (n * 2 ^ (x .result .e + y .result .e)) r (z .result .m * 512 * 2 ^ 64 * 2 ^ (z .result .e + 1073)))) (q .ensures)
+    ∙ ap (λ (n : ℕ). toBits binary64 (signedSum 1198 (unlike s t) (n * 2 ^ (x .result .e + y .result .e)) r (z .result .m * 512 * 2 ^ 64 * 2 ^ (z .result .e + 1073)))) (q .ensures)
     ∙ ap (toBits binary64)
     (fused-law (ofBits binary64 (a .a)) (ofBits binary64 (a .b)) (ofBits binary64 (a .c)) s t r (x .result .m) (x .result .e) (y .result .m) (y .result .e) (z .result .m) (z .result .e) (x .ensures) (y .ensures) (z .ensures))
 

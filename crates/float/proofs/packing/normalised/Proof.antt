@@ -6,8 +6,8 @@ use borrow.Author.Needs.{needs}
 use native.Mathlib.Omega.{arith}
 use lib.Count.{leadingZeros, leading-le}
 use lib.Ieee.{binary64, toBits}
-use Rattle.float.specs.Jam.{Jam}
-use Rattle.float.proofs.Words.{zeros-lt, zeros-top, finish-high, finish-low, rounding-up}
+use Rattle.float.specs.inner.Sticky.{Sticky}
+use Rattle.float.proofs.TwoWordShifts.{zeros-lt, zeros-top, finish-high, finish-low, rounded-up}
 use Rattle.float.proofs.packing.normalised.Statement.{statement}
 use Rattle.float.proofs.packing.normalised.Tie as tie
 
@@ -76,8 +76,8 @@ returns c m s =
     let z = c .before .if1 .taken in
     let t = zeros-top lo (lo-pos a z) (a .fits .lo .fits) in
     c .rounded .ensures (m * 2 ^ 64)
-    (subst (λ (w : ℕ). Jam (m * 2 ^ 64) w (2 ^ (a .args .e + 64 - l))) (sym (mod-eq-of-lt (t .1))) (finish-low m (a .args .hi) lo (a .args .e) l z (a .fits .lo .fits) (leading-le 64 lo) s))
-    ∙ ap (toBits binary64) (rounding-up 1198 (a .args .neg) m)
+    (subst (λ (w : ℕ). Sticky (m * 2 ^ 64) w (2 ^ (a .args .e + 64 - l))) (sym (mod-eq-of-lt (t .1))) (finish-low m (a .args .hi) lo (a .args .e) l z (a .fits .lo .fits) (leading-le 64 lo) s))
+    ∙ ap (toBits binary64) (rounded-up 1198 (a .args .neg) m)
 
 returns-2 : tie.Need-returns-2
 returns-2 c m s =
@@ -85,7 +85,7 @@ returns-2 c m s =
     let hi = a .args .hi in
     let l = leadingZeros 64 hi in
     c .rounded2 .ensures (m * 2 ^ 64) (finish-high m (hi * 2 ^ 64 + a .args .lo) (c .before .leading .result) (a .args .e) l (leading-le 64 hi) s (c .before .leading .ensures .0))
-    ∙ ap (toBits binary64) (rounding-up 1198 (a .args .neg) m)
+    ∙ ap (toBits binary64) (rounded-up 1198 (a .args .neg) m)
 
 pub normalised-spec : {M : Type 1} → statement M
 normalised-spec =

@@ -5,7 +5,7 @@ use Prim.Native.Nat.{ℕ, _-_, _^_, _≤_, zero-le}
 use borrow.Author.Needs.{needs}
 use native.Mathlib.Omega.{arith}
 use lib.Ieee.{Float, binary64, units, toBits}
-use Rattle.float.proofs.Ranges.{closest-le, closest-ge, at-normal, at-low, at-none}
+use Rattle.float.proofs.RoundedByExponent.{closest-le, closest-ge, at-normal, at-low, at-none}
 use Rattle.float.proofs.packing.rounded.Statement.{statement}
 use Rattle.float.proofs.packing.rounded.Tie as tie
 

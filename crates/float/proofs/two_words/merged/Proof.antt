@@ -3,7 +3,7 @@ use mathlib.Core.Path.{refl}
 use Prim.Native.Nat.{ℕ, _+_, _^_, _≤_, _<_}
 use native.Mathlib.Omega.{arith}
 use lib.Dec.{leb}
-use Rattle.float.proofs.Sums.{carry-le, flip-top, merge-law}
+use Rattle.float.proofs.TwoWordSums.{carry-le, flip-top, merge-law}
 use borrow.Author.Needs.{needs}
 use Rattle.float.proofs.two_words.merged.Statement.{statement}
 use Rattle.float.proofs.two_words.merged.Tie as tie
@@ -17,10 +17,10 @@ carried-requires c κs = search needs
 add-carried : tie.Need-add-carried
 add-carried c =
     let a = c .before .before .before in
-    record { fits = room (a .args .ah) (c .before .carried .result .hi) (a .pre .0) (carry-le (c .before .carried .result .hi) (c .before .carried .result .lo) (a .args .al) (c .before .before .flipped .result) (c .before .carried .ensures) (a .fits .al .fits) (c .before .before .flipped .ok)) }
+    record { fits = bound (a .args .ah) (c .before .carried .result .hi) (a .pre .0) (carry-le (c .before .carried .result .hi) (c .before .carried .result .lo) (a .args .al) (c .before .before .flipped .result) (c .before .carried .ensures) (a .fits .al .fits) (c .before .before .flipped .ok)) }
   where
-    room : (a c : ℕ) → a < 2 ^ 62 → c ≤ 1 → a + c < 2 ^ 64
-    room a c h k = omega arith
+    bound : (a c : ℕ) → a < 2 ^ 62 → c ≤ 1 → a + c < 2 ^ 64
+    bound a c h k = omega arith
 
 flipped-requires-2 : tie.Need-flipped-requires-2
 flipped-requires-2 c κs = search needs
@@ -46,10 +46,10 @@ add-t11 c =
     let w = c .before .before .carried3 in
     let y = c .before .before .before .before .flipped3 in
     let o = c .before .before .before .missing in
-    record { fits = room (c .before .flipped4 .result) (w .result .hi) (flip-top (leb (2 ^ 63) t) t (c .before .flipped4 .result) refl (c .before .flipped4 .ensures)) (carry-le (w .result .hi) (w .result .lo) (y .result) (o .result) (w .ensures) (y .ok) (o .ok)) }
+    record { fits = bound (c .before .flipped4 .result) (w .result .hi) (flip-top (leb (2 ^ 63) t) t (c .before .flipped4 .result) refl (c .before .flipped4 .ensures)) (carry-le (w .result .hi) (w .result .lo) (y .result) (o .result) (w .ensures) (y .ok) (o .ok)) }
   where
-    room : (a c : ℕ) → a < 2 ^ 63 → c ≤ 1 → a + c < 2 ^ 64
-    room a c h k = omega arith
+    bound : (a c : ℕ) → a < 2 ^ 63 → c ≤ 1 → a + c < 2 ^ 64
+    bound a c h k = omega arith
 
 returns : tie.Need-returns
 returns c =

@@ -10,8 +10,8 @@ use lib.Ieee.{Float, Format, prec, emax, low, size, units, round}
 use lib.Ieee.Digits.{size-lt, size-le, size-reaches}
 use lib.Ieee.Fits.{round-is}
 use lib.Ieee.Nearest.{closest, closest-same, div-same}
-use Rattle.float.specs.Jam.{Jam}
-use Rattle.float.proofs.Jam.{closest-jam, at-least}
+use Rattle.float.specs.inner.Sticky.{Sticky}
+use Rattle.float.proofs.StickyRounding.{closest-sticky, at-least}
 
 -- ---- a number's digits
 size-gt : (n j : ℕ) → 2 ^ j ≤ n → j < size n
@@ -71,7 +71,7 @@ round-cut f s m g k e =
     ∙ ap (λ (z : ℕ). units f s z k) c
 
 -- ---- `round` from a number w of prec + c digits, c at least 2, that stands for the numerator m over 2 ^ x
-module _ (f : Format) (s : Bool) (m w x g b : ℕ) (j : Jam m w (2 ^ x)) (lo : 2 ^ suc (prec f + b) ≤ w) (hi : w < 2 ^ suc (suc (prec f + b))) where
+module _ (f : Format) (s : Bool) (m w x g b : ℕ) (j : Sticky m w (2 ^ x)) (lo : 2 ^ suc (prec f + b) ≤ w) (hi : w < 2 ^ suc (suc (prec f + b))) where
   -- c is 2 + b
   twice : (z : ℕ) → 2 ^ suc z ≡ 2 * 2 ^ z
   twice z = pow-succ' 2 z
@@ -100,7 +100,7 @@ module _ (f : Format) (s : Bool) (m w x g b : ℕ) (j : Jam m w (2 ^ x)) (lo : 2
   at : (k i : ℕ) → g + k ≡ suc (suc i) + x → closest m (2 ^ g * 2 ^ k) ≡ closest w (2 ^ suc (suc i))
   at k i e =
       ap (closest m) (sym (pow-add 2 g k) ∙ ap (λ (z : ℕ). 2 ^ z) e ∙ pow-add 2 (suc (suc i)) x ∙ ap (λ (z : ℕ). z * 2 ^ x) (four i))
-      ∙ closest-jam m w (2 ^ x) (2 ^ i) (pow-pos x) (pow-pos i) j
+      ∙ closest-sticky m w (2 ^ x) (2 ^ i) (pow-pos x) (pow-pos i) j
       ∙ ap (closest w) (sym (four i))
 
   -- a normal result: c digits of w are dropped

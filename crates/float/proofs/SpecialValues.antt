@@ -14,10 +14,10 @@ use lib.Ieee.Fits.{up-pos, down-pos, eq→eqb, round-is, add-fits}
 use lib.Ieee.Bits.{is-true, is-false, ofBits-toBits, nanBits-is}
 use lib.Ieee.Exact.{HasValue, round-exact}
 use lib.Ieee.Nearest.{closest}
-use Rattle.float.specs.FusedMultiplyAdd.{times, fusedMultiplyAdd, plainly}
-use Rattle.float.specs.Split.{Normal, Plain}
+use Rattle.float.specs.FusedMultiplyAdd.{times, fusedMultiplyAdd}
+use Rattle.float.specs.inner.Operands.{isPlain, Normal, Plain}
 use Rattle.float.proofs.Value.{value-scale, value-is, times-value, add-value, fma-value, sum-is}
-use Rattle.float.proofs.Apart.{normal-split}
+use Rattle.float.proofs.Decomposition.{normal-decomposed}
 
 never : false ≡ true → ⊥
 never e = true≢false (sym e)
@@ -56,20 +56,20 @@ not-not : (b : Bool) → not (not b) ≡ b
 not-not true = refl
 not-not false = refl
 
-pub plain-yes : (x : Float) → lt x (inf false) ≡ true → lt (inf true) x ≡ true → ne x (fin false 0 (pos 0)) ≡ plainly x
+pub plain-yes : (x : Float) → lt x (inf false) ≡ true → lt (inf true) x ≡ true → ne x (fin false 0 (pos 0)) ≡ isPlain x
 unfolding lt ne
 plain-yes nan a b = absurd (never a)
 plain-yes (inf true) a b = absurd (never b)
 plain-yes (inf false) a b = absurd (never a)
 plain-yes (fin s m e) a b = ap not (eq-zero s m e) ∙ not-not (ltb 0 m)
 
-pub plain-over : (x : Float) → lt x (inf false) ≡ false → false ≡ plainly x
+pub plain-over : (x : Float) → lt x (inf false) ≡ false → false ≡ isPlain x
 unfolding lt
 plain-over nan a = refl
 plain-over (inf s) a = refl
 plain-over (fin s m e) a = absurd (true≢false a)
 
-pub plain-under : (x : Float) → lt (inf true) x ≡ false → false ≡ plainly x
+pub plain-under : (x : Float) → lt (inf true) x ≡ false → false ≡ isPlain x
 unfolding lt
 plain-under nan a = refl
 plain-under (inf s) a = refl
@@ -85,9 +85,9 @@ add-cong f (fin u m e) (inf v) z s a c C h k = absurd k
 add-cong f (fin u m e) (fin v n d) nan s a c C h k = refl
 add-cong f (fin u m e) (fin v n d) (inf t) s a c C h k = refl
 add-cong f (fin u m e) (fin v n d) (fin t o g) s a c C h k =
-    let own : HasValue (fin t o g) t (o * up g * c) (c * down g) = value-is (fin t o g) t (o * up g * c) (o * up g * c) (down g * c) (c * down g) refl (mul-comm (down g) c) (value-scale (fin t o g) t (o * up g) (down g) c (refl, refl)) in
-    add-value f (fin u m e) (fin t o g) s t (a * down g) (o * up g * c) (c * down g) (mul-pos C (down-pos g)) (value-scale (fin u m e) s a c (down g) h) own
-    ∙ sym (add-value f (fin v n d) (fin t o g) s t (a * down g) (o * up g * c) (c * down g) (mul-pos C (down-pos g)) (value-scale (fin v n d) s a c (down g) k) own)
+    let read-back : HasValue (fin t o g) t (o * up g * c) (c * down g) = value-is (fin t o g) t (o * up g * c) (o * up g * c) (down g * c) (c * down g) refl (mul-comm (down g) c) (value-scale (fin t o g) t (o * up g) (down g) c (refl, refl)) in
+    add-value f (fin u m e) (fin t o g) s t (a * down g) (o * up g * c) (c * down g) (mul-pos C (down-pos g)) (value-scale (fin u m e) s a c (down g) h) read-back
+    ∙ sym (add-value f (fin v n d) (fin t o g) s t (a * down g) (o * up g * c) (c * down g) (mul-pos C (down-pos g)) (value-scale (fin v n d) s a c (down g) k) read-back)
 
 zero-product : (f : Format) (s t : Bool) (m n : ℕ) (e d : ℤ) (z : Float) → m * n ≡ 0 → add f (mul f (fin s m e) (fin t n d)) z ≡ add f (times (fin s m e) (fin t n d)) z
 unfolding mul times
@@ -109,7 +109,7 @@ zero-product f s t m n e d z h =
 none : (m : ℕ) → ltb 0 m ≡ false → m ≡ 0
 none m e = le-antisymm (ltb-false 0 m e) zero-le
 
-pub special-left : (x y z : Float) → plainly x ≡ false → add binary64 (mul binary64 x y) z ≡ fusedMultiplyAdd binary64 x y z
+pub special-left : (x y z : Float) → isPlain x ≡ false → add binary64 (mul binary64 x y) z ≡ fusedMultiplyAdd binary64 x y z
 unfolding fusedMultiplyAdd mul times
 special-left nan y z h = refl
 special-left (inf s) nan z h = refl
@@ -119,7 +119,7 @@ special-left (fin s m e) nan z h = refl
 special-left (fin s m e) (inf t) z h = refl
 special-left (fin s m e) (fin t n d) z h = zero-product binary64 s t m n e d z (ap (λ (x : ℕ). x * n) (none m h) ∙ zero-mul n)
 
-pub special-right : (x y z : Float) → plainly y ≡ false → add binary64 (mul binary64 x y) z ≡ fusedMultiplyAdd binary64 x y z
+pub special-right : (x y z : Float) → isPlain y ≡ false → add binary64 (mul binary64 x y) z ≡ fusedMultiplyAdd binary64 x y z
 unfolding fusedMultiplyAdd mul times
 special-right nan y z h = refl
 special-right (inf s) nan z h = refl
@@ -148,7 +148,7 @@ sum-zero f s r a c h =
         at true = refl
         at false = refl
 
-pub zero-third : (x y z : Float) → plainly x ≡ true → plainly y ≡ true → plainly z ≡ false → eq z (fin false 0 (pos 0)) ≡ true → mul binary64 x y ≡ fusedMultiplyAdd binary64 x y z
+pub zero-third : (x y z : Float) → isPlain x ≡ true → isPlain y ≡ true → isPlain z ≡ false → eq z (fin false 0 (pos 0)) ≡ true → mul binary64 x y ≡ fusedMultiplyAdd binary64 x y z
 unfolding mul eq
 zero-third nan y z a b c d = absurd (never a)
 zero-third (inf s) y z a b c d = absurd (never a)
@@ -165,7 +165,7 @@ zero-third (fin s m e) (fin t n g) (fin r o k) a b c d =
     (refl, ap (λ (x : ℕ). x * up k * D) (none o c) ∙ ap (λ (x : ℕ). x * D) (zero-mul (up k)) ∙ zero-mul D ∙ sym (zero-mul (down k)))
     ∙ sum-zero binary64 (unlike s t) r A D (mul-pos (mul-pos (ltb-true 0 m a) (up-pos e)) (mul-pos (ltb-true 0 n b) (up-pos g))))
 
-pub other-third : (x y z : Float) → plainly x ≡ true → plainly y ≡ true → plainly z ≡ false → eq z (fin false 0 (pos 0)) ≡ false → z ≡ fusedMultiplyAdd binary64 x y z
+pub other-third : (x y z : Float) → isPlain x ≡ true → isPlain y ≡ true → isPlain z ≡ false → eq z (fin false 0 (pos 0)) ≡ false → z ≡ fusedMultiplyAdd binary64 x y z
 unfolding fusedMultiplyAdd times add
 other-third nan y z a b c d = absurd (never a)
 other-third (inf s) y z a b c d = absurd (never a)
@@ -176,7 +176,7 @@ other-third (fin s m e) (fin t n g) (inf r) a b c d = refl
 other-third (fin s m e) (fin t n g) (fin r o k) a b c d = absurd (true≢false (sym (eq-zero r o k ∙ ap not c) ∙ d))
 
 -- ---- the pattern of a number that is finite and not a zero
-pub plain-no-nan : (x : Float) → plainly x ≡ true → T (not (isNan x))
+pub plain-no-nan : (x : Float) → isPlain x ≡ true → T (not (isNan x))
 unfolding isNan
 plain-no-nan nan h = absurd (never h)
 plain-no-nan (inf s) h = absurd (never h)
@@ -186,31 +186,31 @@ ofBits-is : (b : ℕ) → ofBits binary64 b ≡ ofFields binary64 (leb (2 ^ 63) 
 unfolding ofBits
 ofBits-is b = refl
 
-fields-zero : (s : Bool) (x t : ℕ) → x ≡ 0 → t ≡ 0 → plainly (ofFields binary64 s x t) ≡ false
+fields-zero : (s : Bool) (x t : ℕ) → x ≡ 0 → t ≡ 0 → isPlain (ofFields binary64 s x t) ≡ false
 unfolding ofFields odd
-fields-zero s x t e h = ap₂ (λ (y z : ℕ). plainly (ofFields binary64 s y z)) e h
+fields-zero s x t e h = ap₂ (λ (y z : ℕ). isPlain (ofFields binary64 s y z)) e h
 
-not-plain : (b : Bool) (s : Bool) → plainly (cond b (inf s) nan) ≡ false
+not-plain : (b : Bool) (s : Bool) → isPlain (cond b (inf s) nan) ≡ false
 not-plain true s = refl
 not-plain false s = refl
 
-fields-top : (s : Bool) (x t : ℕ) → x ≡ 2047 → plainly (ofFields binary64 s x t) ≡ false
+fields-top : (s : Bool) (x t : ℕ) → x ≡ 2047 → isPlain (ofFields binary64 s x t) ≡ false
 unfolding ofFields
-fields-top s x t e = ap (λ (y : ℕ). plainly (ofFields binary64 s y t)) e ∙ not-plain (eqb t 0) s
+fields-top s x t e = ap (λ (y : ℕ). isPlain (ofFields binary64 s y t)) e ∙ not-plain (eqb t 0) s
 
-plain-at : (b : ℕ) → plainly (ofBits binary64 b) ≡ true → Plain b
+plain-at : (b : ℕ) → isPlain (ofBits binary64 b) ≡ true → Plain b
 plain-at b h = record {
   some = elim (eq-zero-or-pos (b % 2 ^ 63)) [
-    | inl z ↦ absurd (never (sym (ap plainly (ofBits-is b) ∙ fields-zero (leb (2 ^ 63) b) (b % 2 ^ 63 / 2 ^ 52) (b % 2 ^ 52) (ap (λ (y : ℕ). y / 2 ^ 52) z) (sym (mod-mod-pow b 11 52) ∙ ap (λ (y : ℕ). y % 2 ^ 52) z)) ∙ h))
+    | inl z ↦ absurd (never (sym (ap isPlain (ofBits-is b) ∙ fields-zero (leb (2 ^ 63) b) (b % 2 ^ 63 / 2 ^ 52) (b % 2 ^ 52) (ap (λ (y : ℕ). y / 2 ^ 52) z) (sym (mod-mod-pow b 11 52) ∙ ap (λ (y : ℕ). y % 2 ^ 52) z)) ∙ h))
     | inr p ↦ p
   ];
   finite = lt-of-not-le (λ (g : 2047 * 2 ^ 52 ≤ b % 2 ^ 63).
-      never (sym (ap plainly (ofBits-is b) ∙ fields-top (leb (2 ^ 63) b) (b % 2 ^ 63 / 2 ^ 52) (b % 2 ^ 52)
+      never (sym (ap isPlain (ofBits-is b) ∙ fields-top (leb (2 ^ 63) b) (b % 2 ^ 63 / 2 ^ 52) (b % 2 ^ 52)
       (le-antisymm (le-of-suc-le-suc (div-lt-iff-lt-mul {k = 2 ^ 52} (pow-pos 52) .1 (mod-lt b (pow-pos 63)))) (le-div-iff-mul-le (pow-pos 52) .1 g))) ∙ h));
 }
 
-pub plain-bits : (x : Float) → T (fits binary64 x) → plainly x ≡ true → Plain (toBits binary64 x)
-plain-bits x f h = plain-at (toBits binary64 x) (ap plainly (ofBits-toBits binary64 x f) ∙ h)
+pub plain-bits : (x : Float) → T (fits binary64 x) → isPlain x ≡ true → Plain (toBits binary64 x)
+plain-bits x f h = plain-at (toBits binary64 x) (ap isPlain (ofBits-toBits binary64 x f) ∙ h)
 
 -- ---- numbers that are finite
 pub not-nan : (x : Float) → ne x x ≡ false → T (not (isNan x))
@@ -224,7 +224,7 @@ Finite nan = ⊥
 Finite (inf s) = ⊥
 Finite (fin s m e) = T true
 
-pub plain-finite : (x : Float) → plainly x ≡ true → Finite x
+pub plain-finite : (x : Float) → isPlain x ≡ true → Finite x
 plain-finite nan h = never h
 plain-finite (inf s) h = never h
 plain-finite (fin s m e) h = tt
@@ -237,7 +237,7 @@ value-finite (fin t m e) s a c h = tt
 pub normal-finite : (x : Float) → T (fits binary64 x) → Normal (toBits binary64 x) → Finite x
 normal-finite x f N =
     let b = toBits binary64 x in
-    subst Finite (ofBits-toBits binary64 x f) (value-finite (ofBits binary64 b) (leb (2 ^ 63) b) ((2 ^ 52 + b % 2 ^ 52) * 2 ^ (b % 2 ^ 63 / 2 ^ 52 + 51)) (2 ^ 1126) (normal-split b (2 ^ 52 + b % 2 ^ 52) (b % 2 ^ 63 / 2 ^ 52) N refl refl .value))
+    subst Finite (ofBits-toBits binary64 x f) (value-finite (ofBits binary64 b) (leb (2 ^ 63) b) ((2 ^ 52 + b % 2 ^ 52) * 2 ^ (b % 2 ^ 63 / 2 ^ 52 + 51)) (2 ^ 1126) (normal-decomposed b (2 ^ 52 + b % 2 ^ 52) (b % 2 ^ 63 / 2 ^ 52) N refl refl .value))
 
 -- ---- the result is no NaN, and its pattern is read back as it
 odd-no-nan : (d : ℕ) (s : Bool) (q k l : ℕ) → isNan (odd d s q k l) ≡ false
@@ -287,9 +287,9 @@ pub fma-bits : (x y z : Float) (b : ℕ) → Finite x → Finite y → Finite z 
 fma-bits x y z b p q r e = subst (λ (v : Bool). T (not v)) (sym (nanBits-is binary64 b ∙ ap isNan (fma-read x y z b e) ∙ fma-no-nan x y z p q r)) tt
 
 -- a number is read back from its own pattern
-pub own : (x y z : Float) → T (fits binary64 x) → T (fits binary64 y) → T (fits binary64 z)
+pub read-back : (x y z : Float) → T (fits binary64 x) → T (fits binary64 y) → T (fits binary64 z)
     → toBits binary64 (fusedMultiplyAdd binary64 (ofBits binary64 (toBits binary64 x)) (ofBits binary64 (toBits binary64 y)) (ofBits binary64 (toBits binary64 z))) ≡ toBits binary64 (fusedMultiplyAdd binary64 x y z)
-own x y z f g h =
+read-back x y z f g h =
     ap (λ (v : Float). toBits binary64 (fusedMultiplyAdd binary64 v (ofBits binary64 (toBits binary64 y)) (ofBits binary64 (toBits binary64 z)))) (ofBits-toBits binary64 x f)
     ∙ ap (λ (v : Float). toBits binary64 (fusedMultiplyAdd binary64 x v (ofBits binary64 (toBits binary64 z)))) (ofBits-toBits binary64 y g)
     ∙ ap (λ (v : Float). toBits binary64 (fusedMultiplyAdd binary64 x y v)) (ofBits-toBits binary64 z h)

@@ -9,7 +9,7 @@ use lib.Dec.{T, ltb, eqb}
 use lib.IntN.{ℤ, pos}
 use lib.Ieee.{Float, nan, inf, fin, binary64, up, down, below, level, lt, eq, div}
 use lib.Ieee.Fits.{down-pos, up-pos}
-use Rattle.float.specs.Operations.{negative, less}
+use Rattle.float.specs.Operations.{negative, isLess}
 
 never : {P : Type 0} → false ≡ true → P
 never e = absurd (subst (λ (b : Bool). T (not b)) e tt)
@@ -70,11 +70,11 @@ not-zero s m e h =
     let r = some m e (pos 0) in
     omega arith
 
-less-signs : (s t : Bool) (e d : ℤ) → eq (fin s zero e) (fin t zero d) ≡ true → less (fin s zero e) (fin t zero d) ≡ s && not t
-unfolding less lt negative
+less-signs : (s t : Bool) (e d : ℤ) → eq (fin s zero e) (fin t zero d) ≡ true → isLess (fin s zero e) (fin t zero d) ≡ s && not t
+unfolding isLess lt negative
 less-signs s t e d h = rw (h, below-zeros s t (zero * up e * down d) (zero * up d * down e) (none e d) (none d e))
 
-pub less-zeros : (x y : Float) → eq x y ≡ true → eq x (fin false 0 (pos 0)) ≡ true → lt (div binary64 (fin false 1 (pos 0)) x) (div binary64 (fin false 1 (pos 0)) y) ≡ less x y
+pub less-zeros : (x y : Float) → eq x y ≡ true → eq x (fin false 0 (pos 0)) ≡ true → lt (div binary64 (fin false 1 (pos 0)) x) (div binary64 (fin false 1 (pos 0)) y) ≡ isLess x y
 less-zeros nan y h z = unfold eq in never h
 less-zeros (inf s) y h z = unfold eq in never z
 less-zeros (fin s (suc m) e) y h z = absurd (not-zero s m e z)
@@ -112,8 +112,8 @@ inf-case false t h = no-and (Bool·beq false t)
 inf-case true true h = refl
 inf-case true false h = never h
 
-pub less-equal : (x y : Float) → eq x y ≡ true → eq x (fin false 0 (pos 0)) ≡ false → false ≡ less x y
-unfolding less eq lt negative
+pub less-equal : (x y : Float) → eq x y ≡ true → eq x (fin false 0 (pos 0)) ≡ false → false ≡ isLess x y
+unfolding isLess eq lt negative
 less-equal nan y h z = never h
 less-equal (inf s) nan h z = never h
 less-equal (inf s) (inf t) h z = sym (inf-case s t h)
@@ -124,8 +124,8 @@ less-equal (fin s m e) (fin t n d) h z = sym (level-case s t (m * up e * down d)
 
 -- ---- not equal
 
-pub less-apart : (x y : Float) → eq x y ≡ false → lt x y ≡ less x y
-unfolding less
+pub less-apart : (x y : Float) → eq x y ≡ false → lt x y ≡ isLess x y
+unfolding isLess
 less-apart x y h = rw h (or-no (lt x y))
 
 -- ---- a test `n || l` that chooses y

@@ -7,10 +7,10 @@ use lib.Pow.{pow-pos}
 use lib.Bits.{bitOr, bitAnd, or-add-and, and-mask}
 use lib.Ieee.{nearest}
 use lib.Ieee.Nearest.{closest}
-use Rattle.float.specs.Jam.{jammed}
-use Rattle.float.proofs.Jam.{Cmp, cmp}
+use Rattle.float.specs.inner.Sticky.{sticky}
+use Rattle.float.proofs.StickyRounding.{Cmp, cmp}
 
-pub sticky-law : (v rest : ℕ) → (rest ≡ 0 → ⊥) → bitOr v 1 ≡ jammed v rest
+pub sticky-law : (v rest : ℕ) → (rest ≡ 0 → ⊥) → bitOr v 1 ≡ sticky v rest
 sticky-law v zero n = absurd (n refl)
 sticky-law v (suc r) n = go (bitOr v 1) (bitAnd v 1) (or-add-and v 1) (and-mask v 1)
   where
@@ -118,8 +118,8 @@ half d h = sym (ap (λ (z : ℕ). 2 ^ z) (go d h) ∙ pow-suc 2 (d - 1))
 pub unshifted : (w h : ℕ) → w < 2 ^ 64 → (w / h * h) % 2 ^ 64 ≡ w / h * h
 unshifted w h l = mod-eq-of-lt (lt-of-le-of-lt (div-mul-le-self w h) l)
 
-pub room : (w h : ℕ) → 0 < h → w < 2 ^ 64 → w / h / 2 < 2 ^ 63
-room w h H l = go (w / h) (lt-of-le-of-lt (native-le w h H) l)
+pub bound : (w h : ℕ) → 0 < h → w < 2 ^ 64 → w / h / 2 < 2 ^ 63
+bound w h H l = go (w / h) (lt-of-le-of-lt (native-le w h H) l)
   where
     go : (q : ℕ) → q < 2 ^ 64 → q / 2 < 2 ^ 63
     go q h = omega arith
