@@ -26,7 +26,11 @@ aligned-swap a p b c t (inr (inr f)) = inr (inl f)
 module _ (a p b c t : ℕ) (T₀ : 0 < t) where
   far-sum : FarAbove a p b c t → ExactOrSticky (a + b) (p + c) t
   far-sum f =
-      inr (big p c (f .far), subst (λ (z : ℕ). Sticky (z + b) (p + c) t) (sym (f .exact ∙ ap (λ (z : ℕ). z * t) (f .even))) (subst (λ (z : ℕ). Sticky (2 * f .half * t + b) (z + c) t) (sym (f .even)) (sticky-add b c t (f .half) T₀ (f .below))))
+      inr (
+        big p c (f .far),
+        subst (λ (z : ℕ). Sticky (z + b) (p + c) t) (sym (f .exact ∙ ap (λ (z : ℕ). z * t) (f .even)))
+            (subst (λ (z : ℕ). Sticky (2 * f .half * t + b) (z + c) t) (sym (f .even)) (sticky-add b c t (f .half) T₀ (f .below))),
+      )
     where
       big : (p c : ℕ) → c + 2 ^ 64 ≤ p → 2 ^ 64 ≤ p + c
       big p c h = omega arith
@@ -40,7 +44,12 @@ module _ (a p b c t : ℕ) (T₀ : 0 < t) where
   far-diff : FarAbove a p b c t → ExactOrSticky (a - b) (p - c) t
   far-diff f =
       let e : a ≡ 2 * f .half * t = f .exact ∙ ap (λ (z : ℕ). z * t) (f .even) in
-      inr (big p c (f .far), subst (λ (z : ℕ). Sticky (z - b) (p - c) t) (sym e) (subst (λ (z : ℕ). Sticky (2 * f .half * t - b) (z - c) t) (sym (f .even)) (sticky-sub b c t (f .half) T₀ (f .below) (subst (λ (z : ℕ). b ≤ z) e (le-of-lt (far-under f))) (subst (λ (z : ℕ). c ≤ z) (f .even) (less p c (f .far))))))
+      inr (
+        big p c (f .far),
+        subst (λ (z : ℕ). Sticky (z - b) (p - c) t) (sym e)
+            (subst (λ (z : ℕ). Sticky (2 * f .half * t - b) (z - c) t) (sym (f .even))
+            (sticky-sub b c t (f .half) T₀ (f .below) (subst (λ (z : ℕ). b ≤ z) e (le-of-lt (far-under f))) (subst (λ (z : ℕ). c ≤ z) (f .even) (less p c (f .far))))),
+      )
     where
       big : (p c : ℕ) → c + 2 ^ 64 ≤ p → 2 ^ 64 ≤ p - c
       big p c h = omega arith

@@ -3,20 +3,14 @@ use mathlib.Core.Path.{_≡_, refl, sym, ap, _∙_, subst}
 use mathlib.Core.Logic.{_⊎_, inl, inr}
 use mathlib.Core.Bool.{Bool, true, false, not}
 use Prim.Native.Nat.{ℕ, zero, suc, _+_, _-_, _*_, _/_, _%_, _^_, _≤_, _<_, zero-le}
-use native.Mathlib.Nat.{le-refl, le-of-eq, le-of-lt, le-trans, lt-of-lt-of-le, lt-of-le-of-lt, lt-of-not-le, not-le-of-lt, lt-irrefl, le-of-suc-le-suc, eq-or-lt-of-le, add-comm, add-zero, mul-comm, mul-assoc, mul-le-mul-left, mul-le-mul-right, mul-lt-mul-of-pos-right, one-mul, le-add-right, lt-of-mul-lt-mul-right, eq-of-mul-eq-mul-right, div-add-mod'}
+use native.Mathlib.Nat.{le-refl, le-of-eq, le-of-lt, le-trans, lt-of-lt-of-le, lt-of-le-of-lt, lt-of-not-le, not-le-of-lt, lt-irrefl, le-of-suc-le-suc, eq-or-lt-of-le, add-comm, add-zero, mul-comm}
+use native.Mathlib.Nat.{mul-assoc, mul-le-mul-left, mul-le-mul-right, mul-lt-mul-of-pos-right, one-mul, le-add-right, lt-of-mul-lt-mul-right, eq-of-mul-eq-mul-right, div-add-mod'}
 use native.Mathlib.Omega.{arith}
 use lib.Dec.{T, leb, leb→le, nleb→lt, lit<, lit≤}
 use lib.Pow.{pow-add, pow-pos, pow-mono}
 use Rattle.float.specs.inner.Sticky.{Sticky, FarAbove, Aligned}
 use Rattle.float.specs.inner.TwoWords.{LeftJustified}
-use Rattle.float.proofs.Sticky.{sticky-scale}
-
-split : (a b : ℕ) → (a ≤ b) ⊎ (b < a)
-split a b = go (leb a b) (leb→le a b) (nleb→lt a b)
-  where
-    go : (x : Bool) → (T x → a ≤ b) → (T (not x) → b < a) → (a ≤ b) ⊎ (b < a)
-    go true p q = inl (p tt)
-    go false p q = inr (q tt)
+use Rattle.float.proofs.Sticky.{sticky-scale, le-or-lt}
 
 -- ---- what stands for a whole number is that number
 module _ (k r t : ℕ) (T₀ : 0 < t) (j : Sticky (k * t) r t) where
@@ -36,9 +30,9 @@ module _ (k r t : ℕ) (T₀ : 0 < t) (j : Sticky (k * t) r t) where
       go q e s f a b c d p o =
           let x : 2 * q ≤ r = a (x1 k q p) in
           let y : r ≤ 2 * suc q = c (y1 k q p) in
-          elim (split k (2 * q)) [
+          elim (le-or-lt k (2 * q)) [
             | inl h ↦ end1 k r q p x (b h) h
-            | inr h ↦ elim (split 1 (r % 2)) [ inl g ↦ end2 k r q p x y h g | inr g ↦ end3 k r s o g (d (half r s o g)) ]
+            | inr h ↦ elim (le-or-lt 1 (r % 2)) [ inl g ↦ end2 k r q p x y h g | inr g ↦ end3 k r s o g (d (half r s o g)) ]
           ]
         where
           x1 : (k q : ℕ) → k / 2 ≡ q → 2 * q ≤ k
@@ -61,7 +55,8 @@ module _ (k r t : ℕ) (T₀ : 0 < t) (j : Sticky (k * t) r t) where
 
 -- ---- how large it can be
 pub sticky-under : (m w t v : ℕ) → Sticky m w t → m < 2 * v * t → w < 2 * v
-sticky-under m w t v j h = lt-of-not-le (λ (g : 2 * v ≤ w). elim (eq-or-lt-of-le g) [ inl e ↦ lt-irrefl m (subst (λ (z : ℕ). m < z) (sym (j .at v (sym e))) h) | inr l ↦ not-le-of-lt h (le-of-lt (j .over v l)) ])
+sticky-under m w t v j h =
+    lt-of-not-le (λ (g : 2 * v ≤ w). elim (eq-or-lt-of-le g) [ inl e ↦ lt-irrefl m (subst (λ (z : ℕ). m < z) (sym (j .at v (sym e))) h) | inr l ↦ not-le-of-lt h (le-of-lt (j .over v l)) ])
 
 -- ---- x, and y shifted down by d. y's exponent is e, and x's is d + e
 module _ (x y w d e : ℕ) (X : LeftJustified x) (Y : LeftJustified y) (j : Sticky y w (2 ^ d)) where
@@ -124,7 +119,7 @@ module _ (x y w d e : ℕ) (X : LeftJustified x) (Y : LeftJustified y) (j : Stic
       sum w h = omega arith
 
   pub aligned : Aligned (x * 2 ^ (d + e)) x (y * 2 ^ e) w (2 ^ (d + e))
-  aligned = elim (split d 20) [
+  aligned = elim (le-or-lt d 20) [
     | inl h ↦ inl (refl, exact h)
     | inr h ↦ inr (inl (record { half = x / 2 ^ 20 * 2 ^ 19; even = x-even; exact = refl; below = moved; far = far h }))
   ]

@@ -3,7 +3,9 @@ use mathlib.Core.Path.{_≡_, refl, sym, ap, ap₂, _∙_, subst}
 use mathlib.Core.Logic.{_⊎_, inl, inr}
 use mathlib.Core.Bool.{Bool, true, false, not, cond}
 use Prim.Native.Nat.{ℕ, zero, suc, _+_, _-_, _*_, _/_, _%_, _^_, _≤_, _<_, zero-le}
-use native.Mathlib.Nat.{le-of-eq, le-of-lt, le-trans, lt-of-lt-of-le, lt-of-le-of-lt, lt-of-not-le, not-le-of-lt, lt-irrefl, zero-lt-suc, le-add-right, add-comm, mul-one, mul-comm, mul-assoc, mul-left-comm, mul-right-comm, mul-le-mul, mul-le-mul-left, mul-le-mul-right, mul-lt-mul-of-pos-right, lt-of-mul-lt-mul-right, le-of-mul-le-mul-right, mod-lt, mod-eq-of-lt, mul-mod-left, div-lt-iff-lt-mul, div-add-mod'}
+use native.Mathlib.Nat.{le-of-eq, le-of-lt, le-trans, lt-of-lt-of-le, lt-of-le-of-lt, lt-of-not-le, not-le-of-lt, lt-irrefl, zero-lt-suc, le-add-right, add-comm, mul-one, mul-comm, mul-assoc}
+use native.Mathlib.Nat.{mul-left-comm, mul-right-comm, mul-le-mul, mul-le-mul-left, mul-le-mul-right, mul-lt-mul-of-pos-right, lt-of-mul-lt-mul-right, le-of-mul-le-mul-right, mod-lt, mod-eq-of-lt}
+use native.Mathlib.Nat.{mul-mod-left, div-lt-iff-lt-mul, div-add-mod'}
 use native.Mathlib.Omega.{arith}
 use lib.Dec.{T, leb, eqb, eqb→eq, not-T, lit<, lit≤}
 use lib.Pow.{pow-add, pow-pos, pow-mono, mod-mod-pow}
@@ -19,7 +21,7 @@ use Rattle.float.specs.inner.Rounded.{signedSum}
 use Rattle.float.proofs.TwoWordShifts.{zeros-lt, zeros-top}
 use Rattle.float.proofs.Value.{value-scale, value-is, times-value, fma-value}
 
-ofBits-is : (b : ℕ) → ofBits binary64 b ≡ ofFields binary64 (leb (2 ^ 63) b) (b % 2 ^ 63 / 2 ^ 52) (b % 2 ^ 52)
+pub ofBits-is : (b : ℕ) → ofBits binary64 b ≡ ofFields binary64 (leb (2 ^ 63) b) (b % 2 ^ 63 / 2 ^ 52) (b % 2 ^ 52)
 unfolding ofBits
 ofBits-is b = refl
 
@@ -85,7 +87,7 @@ high-value s x t h =
     same : (x : ℕ) → x + 52 ≡ suc x + 51
     same x = omega arith
 
--- ---- `parts`
+-- ---- `decomposed`
 module _ (b : ℕ) (P : Plain b) where
   field-lt : b % 2 ^ 63 / 2 ^ 52 < 2047
   field-lt = div-lt-iff-lt-mul (pow-pos 52) .1 (P .finite)
@@ -104,7 +106,9 @@ module _ (b : ℕ) (P : Plain b) where
       let p = t-pos e in
       subst (λ (m : ℕ). Decomposed (ofBits binary64 b) (leb (2 ^ 63) b) m (52 - l)) (sym (up-word t p T))
       (record {
-        value = subst (λ (v : Float). HasValue v (leb (2 ^ 63) b) (t * 2 ^ l * 2 ^ (52 - l)) (2 ^ 1126)) (sym (ofBits-is b ∙ ap (λ (x : ℕ). ofFields binary64 (leb (2 ^ 63) b) x t) e)) (low-value (leb (2 ^ 63) b) t l (zeros-le t p T));
+        value =
+            subst (λ (v : Float). HasValue v (leb (2 ^ 63) b) (t * 2 ^ l * 2 ^ (52 - l)) (2 ^ 1126)) (sym (ofBits-is b ∙ ap (λ (x : ℕ). ofFields binary64 (leb (2 ^ 63) b) x t) e))
+            (low-value (leb (2 ^ 63) b) t l (zeros-le t p T));
         least = up-least t p T;
         most = up-most t p T;
         low = go l;
@@ -161,7 +165,7 @@ addend-justified m a b = record {
     over : (m : ℕ) → m < 2 ^ 53 → m * 512 < 2 ^ 62
     over m h = omega arith
 
--- ---- the whole: over 2 ^ 2272 the exact product and the third number are what `meet` adds
+-- ---- the whole: over 2 ^ 2272 the exact product and the third number are what `aligned_sum` adds
 product-value : (x y : Float) (s t : Bool) (m e n d : ℕ) → Decomposed x s m e → Decomposed y t n d → HasValue (times x y) (unlike s t) (m * 1024 * (n * 1024) * 2 ^ (e + d)) (2 ^ 2272)
 product-value x y s t m e n d X Y =
     value-is (times x y) (unlike s t) (m * 2 ^ e * (n * 2 ^ d) * 2 ^ 20) (m * 1024 * (n * 1024) * 2 ^ (e + d)) (2 ^ 1126 * 2 ^ 1126 * 2 ^ 20) (2 ^ 2272)
@@ -196,7 +200,8 @@ pub fused-law : (x y z : Float) (s t r : Bool) (m e n d o k : ℕ) → Decompose
     → signedSum 1198 (unlike s t) (m * 1024 * (n * 1024) * 2 ^ (e + d)) r (o * 512 * 2 ^ 64 * 2 ^ (k + 1073)) ≡ fusedMultiplyAdd binary64 x y z
 fused-law x y z s t r m e n d o k X Y Z =
     signed-sum-is 1198 (unlike s t) (m * 1024 * (n * 1024) * 2 ^ (e + d)) r (o * 512 * 2 ^ 64 * 2 ^ (k + 1073))
-    ∙ sym (fma-value binary64 x y z (unlike s t) r (m * 1024 * (n * 1024) * 2 ^ (e + d)) (o * 512 * 2 ^ 64 * 2 ^ (k + 1073)) (2 ^ 2272) (pow-pos 2272) (product-value x y s t m e n d X Y) (third-value z r o k Z))
+    ∙ sym (fma-value binary64 x y z (unlike s t) r (m * 1024 * (n * 1024) * 2 ^ (e + d)) (o * 512 * 2 ^ 64 * 2 ^ (k + 1073)) (2 ^ 2272) (pow-pos 2272) (product-value x y s t m e n d X Y)
+    (third-value z r o k Z))
 
 -- ---- `fused_near`
 pub normal-decomposed : (b m x : ℕ) → Normal b → m ≡ 2 ^ 52 + b % 2 ^ 52 → x ≡ b % 2 ^ 63 / 2 ^ 52 → Decomposed (ofBits binary64 b) (leb (2 ^ 63) b) m (x + 51)
@@ -214,14 +219,15 @@ normal-decomposed b m x N p q =
     none : (x : ℕ) → 1 ≤ x → x ≡ 0 → ⊥
     none x h e = omega arith
 
-module _ (f g h : Float) (s t u : Bool) (m x n y o z p w : ℕ) (X : Decomposed f s m (x + 51)) (Y : Decomposed g t n (y + 51)) (Z : Decomposed h u o (z + 51)) (E : p ≡ m * n) (F : w * 2 ^ (x + y - (z + 1002)) ≡ o * 512 * 2 ^ 64) where
-  pub near-p : (0 < p) × (p < 2 ^ 126)
+module _ (f g h : Float) (s t u : Bool) (m x n y o z p w : ℕ) (X : Decomposed f s m (x + 51)) (Y : Decomposed g t n (y + 51)) (Z : Decomposed h u o (z + 51)) (E : p ≡ m * n)
+    (F : w * 2 ^ (x + y - (z + 1002)) ≡ o * 512 * 2 ^ 64) where
+  near-p : (0 < p) × (p < 2 ^ 126)
   near-p = (
     lt-of-lt-of-le (pow-pos 104) (le-trans (le-trans (mul-le-mul-left (2 ^ 52) (Y .least)) (mul-le-mul-right n (X .least))) (le-of-eq (sym E))),
     lt-of-le-of-lt (le-of-eq E) (lt-of-le-of-lt (mul-le-mul-left m (le-of-lt (Y .most))) (lt-of-lt-of-le (mul-lt-mul-of-pos-right (X .most) (pow-pos 53)) (lit≤ tt))),
   )
 
-  pub near-w : w < 2 ^ 126
+  near-w : w < 2 ^ 126
   near-w = lt-of-le-of-lt (le-trans (le-of-eq (sym (mul-one w))) (le-trans (mul-le-mul-left w (pow-pos (x + y - (z + 1002)))) (le-of-eq F))) (mul-lt-mul-of-pos-right (over o (Z .most)) (pow-pos 64))
     where
       over : (m : ℕ) → m < 2 ^ 53 → m * 512 < 2 ^ 62
@@ -249,7 +255,13 @@ module _ (f g h : Float) (s t u : Bool) (m x n y o z p w : ℕ) (X : Decomposed 
       same : (x y z : ℕ) → z + 1002 ≤ x + y → x + y - (z + 1002) + (z + 51 + 1073) ≡ x + y + 122
       same x y z h = omega arith
 
-  pub near-law : (r : ℕ) → z + 1002 ≤ x + y → ((a b : ℕ) → Aligned a p b w (2 ^ (x + y + 122)) → r ≡ toBits binary64 (signedSum 1198 (unlike s t) a u b)) → r ≡ toBits binary64 (fusedMultiplyAdd binary64 f g h)
+  near-law : (r : ℕ) → z + 1002 ≤ x + y → ((a b : ℕ) → Aligned a p b w (2 ^ (x + y + 122)) → r ≡ toBits binary64 (signedSum 1198 (unlike s t) a u b))
+      → r ≡ toBits binary64 (fusedMultiplyAdd binary64 f g h)
   near-law r l k =
       k (m * 1024 * (n * 1024) * 2 ^ (x + 51 + (y + 51))) (o * 512 * 2 ^ 64 * 2 ^ (z + 51 + 1073)) (inl (p-is, w-is l))
       ∙ ap (toBits binary64) (fused-law f g h s t u m (x + 51) n (y + 51) o (z + 51) X Y Z)
+
+  -- the words' sizes, and what the rounded sum of both is
+  pub near-facts : z + 1002 ≤ x + y → (0 < p) × (p < 2 ^ 126) × (w < 2 ^ 126)
+      × ((r : ℕ) → ((a b : ℕ) → Aligned a p b w (2 ^ (x + y + 122)) → r ≡ toBits binary64 (signedSum 1198 (unlike s t) a u b)) → r ≡ toBits binary64 (fusedMultiplyAdd binary64 f g h))
+  near-facts l = (near-p .0, near-p .1, near-w, λ r k. near-law r l k)

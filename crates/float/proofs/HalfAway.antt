@@ -2,7 +2,8 @@
 use mathlib.Core.Path.{_≡_, refl, sym, ap, subst, _∙_}
 use mathlib.Core.Bool.{Bool, true, false, not, cond, _&&_}
 use Prim.Native.Nat.{ℕ, zero, suc, _+_, _-_, _*_, _/_, _%_, _^_, _≤_, _<_, min}
-use native.Mathlib.Nat.{min-eq-left, mul-assoc, mul-comm, mul-one, zero-mul, mul-pos, div-lt-iff-lt-mul, div-div-eq-div-mul, add-div-right, lt-of-lt-of-le, lt-of-le-of-lt, le-trans, le-of-lt, lt-of-not-le, le-suc, zero-lt-suc, mul-le-mul, mul-lt-mul-of-pos-right, not-le-of-lt, pow-succ'}
+use native.Mathlib.Nat.{min-eq-left, mul-assoc, mul-comm, mul-one, zero-mul, mul-pos, div-lt-iff-lt-mul, div-div-eq-div-mul, add-div-right, lt-of-lt-of-le, lt-of-le-of-lt, le-trans, le-of-lt}
+use native.Mathlib.Nat.{lt-of-not-le, le-suc, zero-lt-suc, mul-le-mul, mul-lt-mul-of-pos-right, not-le-of-lt, pow-succ'}
 use native.Mathlib.Omega.{arith}
 use native.Mathlib.Decide.{decLe}
 use lib.Dec.{T, eqb, eqb→eq, lt→ltb, nltb→le, ltb, leb, ltb→lt, leb→le}
@@ -16,6 +17,7 @@ use lib.Ieee.Back.{round-whole, whole-unique}
 use mir.Facts.{T-not}
 use lib.Ieee.Exact.{HasValue, round-exact}
 use lib.Ieee.Nearest.{div-same}
+use Rattle.float.proofs.Sizes.{round-neg}
 
 -- what `fits` says of a number that is not 0
 parts : (a b c d : Bool) → T (a && b && c && d) → T b × T c
@@ -122,23 +124,6 @@ fits-plus : (f : Format) (s : Bool) (m : ℕ) (e : ℤ) → T (fits f (fin s m e
 unfolding fits
 fits-plus f s zero e t = t
 fits-plus f s (suc m) e t = t
-
-neg-odd : (d q k l : ℕ) → neg (odd d false q k l) ≡ odd d true q k l
-unfolding neg odd
-neg-odd d zero k l = refl
-neg-odd d (suc q) k l = refl
-
-neg-cond : (b : Bool) (d q k l : ℕ) → neg (cond b (odd d false q k l) (inf false)) ≡ cond b (odd d true q k l) (inf true)
-neg-cond true d q k l = neg-odd d q k l
-neg-cond false d q k l = unfold neg in refl
-
-neg-units : (f : Format) (q k : ℕ) → neg (units f false q k) ≡ units f true q k
-unfolding units
-neg-units f q k = neg-cond (ltb (q * 2 ^ k) (2 ^ (low f + suc (emax f)))) (suc (prec f)) q k (low f)
-
-pub neg-round : (f : Format) (a c : ℕ) → neg (round f false a c) ≡ round f true a c
-unfolding round
-neg-round f a c = neg-units f _ _
 
 -- ---- x + x, for x = m * 2 ^ e below 2 ^ 52
 
@@ -300,5 +285,6 @@ pub near-minus : (x : Float) → T (fits binary64 x) → Below x → T (lt x (fi
 unfolding abs lt ofInt
 near-minus nan t h p = absurd h
 near-minus (inf s) t h p = absurd h
-near-minus (fin true m e) t h p = neg-round binary64 ((toUnsigned 64 (add binary64 (fin false m e) (fin false m e)) + 1) / 2) 1 ∙ near true m e t (ltb→lt (m * up e * 1) (4503599627370496 * down e) h)
+near-minus (fin true m e) t h p =
+    sym (round-neg binary64 ((toUnsigned 64 (add binary64 (fin false m e) (fin false m e)) + 1) / 2) 1) ∙ near true m e t (ltb→lt (m * up e * 1) (4503599627370496 * down e) h)
 near-minus (fin false m e) t h p = absurd (not-below m e p)

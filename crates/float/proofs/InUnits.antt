@@ -3,7 +3,8 @@ use mathlib.Core.Path.{_≡_, refl, sym, ap, _∙_, subst}
 use mathlib.Core.Bool.{Bool, true, false, not, cond, _&&_}
 use Prim.Native.Nat.{ℕ, zero, suc, _+_, _-_, _*_, _/_, _%_, _^_, _≤_, _<_}
 use native.Mathlib.Decide.{decLe}
-use native.Mathlib.Nat.{le-trans, le-of-eq, lt-of-le-of-lt, lt-of-lt-of-le, lt-of-not-le, not-le-of-lt, mul-right-comm, mul-comm, mul-assoc, mul-pos, mul-le-mul-right, le-of-mul-le-mul-right, mul-lt-mul-of-pos-right, lt-of-mul-lt-mul-right, mul-div-cancel, mul-one, zero-mul}
+use native.Mathlib.Nat.{le-trans, le-of-eq, lt-of-le-of-lt, lt-of-lt-of-le, lt-of-not-le, not-le-of-lt, mul-right-comm, mul-comm, mul-assoc, mul-pos, mul-le-mul-right, le-of-mul-le-mul-right}
+use native.Mathlib.Nat.{mul-lt-mul-of-pos-right, lt-of-mul-lt-mul-right, mul-div-cancel, mul-one, zero-mul}
 use native.Mathlib.Omega.{arith}
 use borrow.Author.Tests.{le-ltb, lt-ltb, ltb-true, ltb-false}
 use lib.Dec.{T, ltb, leb, eqb, ltb→lt, lt→ltb, leb→le}
@@ -13,6 +14,8 @@ use lib.Ieee.{Float, nan, inf, fin, Format, prec, emax, low, up, down, neg, belo
 use lib.Ieee.Fits.{down-pos, and-l, and-r}
 use lib.Ieee.Exact.{HasValue}
 use Rattle.float.specs.Operations.{negative}
+use Rattle.float.proofs.Flags.{never}
+use Rattle.float.proofs.Value.{less-same}
 
 -- the size of x in such counts
 unfoldable pub mag : Format → Float → ℕ
@@ -82,35 +85,12 @@ neg-sides f (fin true m e) v = (refl, refl)
 neg-sides f (fin false m e) v = (refl, refl)
 
 -- ---- order
-same-test : (a b c d : ℕ) → (a < b → c < d) → (c < d → a < b) → ltb a b ≡ ltb c d
-same-test a b c d p q = go (ltb a b) (ltb c d) (λ t. lt→ltb c d (p (ltb→lt a b t))) (λ t. lt→ltb a b (q (ltb→lt c d t)))
-  where
-    go : (x y : Bool) → (T x → T y) → (T y → T x) → x ≡ y
-    go true true p q = refl
-    go true false p q = absurd (p tt)
-    go false true p q = absurd (q tt)
-    go false false p q = refl
-
 -- A / u and a / w are equal, and B / u and b / w
-module _ (A B a b u w : ℕ) (U : 0 < u) (W : 0 < w) (p : A * u ≡ a * w) (q : B * u ≡ b * w) where
-  less-to : A < B → a < b
-  less-to h = lt-of-mul-lt-mul-right w (lt-of-le-of-lt (le-of-eq (sym p)) (lt-of-lt-of-le (mul-lt-mul-of-pos-right h U) (le-of-eq q)))
-
-  less-from : a < b → A < B
-  less-from h = lt-of-mul-lt-mul-right u (lt-of-le-of-lt (le-of-eq p) (lt-of-lt-of-le (mul-lt-mul-of-pos-right h W) (le-of-eq (sym q))))
-
 below-in-units : (s t : Bool) (A B a b u w : ℕ) → 0 < u → 0 < w → A * u ≡ a * w → B * u ≡ b * w → below s A t B ≡ ltb (plus s a + minus t b) (plus t b + minus s a)
-below-in-units false false A B a b u w U W p q = same-test A B (a + 0) (b + 0) (λ h. omega (arith, less-to A B a b u w U W p q h)) (λ h. less-from A B a b u w U W p q (omega arith))
+below-in-units false false A B a b u w U W p q = less-same A B w (a + 0) (b + 0) u W U (omega arith) (omega arith)
 below-in-units false true A B a b u w U W p q = sym (le-ltb (a + b) (0 + 0) (omega arith))
-below-in-units true false A B a b u w U W p q =
-    same-test 0 (A + B) (0 + 0) (b + a) (λ h. omega (arith, less-to 0 (A + B) 0 (a + b) u w U W z r h)) (λ h. less-from 0 (A + B) 0 (a + b) u w U W z r (omega arith))
-  where
-    z : 0 * u ≡ 0 * w
-    z = zero-mul u ∙ sym (zero-mul w)
-
-    r : (A + B) * u ≡ (a + b) * w
-    r = omega arith
-below-in-units true true A B a b u w U W p q = same-test B A (0 + b) (0 + a) (λ h. omega (arith, less-to B A b a u w U W q p h)) (λ h. less-from B A b a u w U W q p (omega arith))
+below-in-units true false A B a b u w U W p q = less-same 0 (A + B) w (0 + 0) (b + a) u W U (omega arith) (omega arith)
+below-in-units true true A B a b u w U W p q = less-same B A w (0 + b) (0 + a) u W U (omega arith) (omega arith)
 
 pub lt-in-units : (f : Format) (x y : Float) → InUnits f x → InUnits f y → lt x y ≡ ltb (over f x + under f y) (over f y + under f x)
 unfolding lt over under negative
@@ -161,9 +141,6 @@ at-most-literal {f} {s} {m} {e} n t h =
       is = v;
       size = le-of-mul-le-mul-right (le-trans (le-of-eq (sym (v .1))) (le-trans (mul-le-mul-right (2 ^ low f) h) (le-of-eq (mul-right-comm n (down e) (2 ^ low f))))) (down-pos e);
     }
-
-never : {P : Type 0} → false ≡ true → P
-never e = absurd (subst (λ (b : Bool). T (not b)) e tt)
 
 -- finite by two tests
 tested-in-units : (f : Format) (x y : Float) → T (fits f x) → InUnits f y → lt (neg y) x ≡ true → lt x y ≡ true → InUnits f x

@@ -1,4 +1,4 @@
--- What the tests of `is_less` say of `less`.
+-- What the tests of `is_less` say of `isLess`, and what a test of two flags chooses.
 use mathlib.Core.Path.{_≡_, refl, sym, ap, subst, _∙_}
 use mathlib.Core.Bool.{Bool, true, false, not, cond, _&&_, _||_, Bool·beq}
 use Prim.Native.Nat.{ℕ, zero, suc, _+_, _*_, _<_}
@@ -10,12 +10,7 @@ use lib.IntN.{ℤ, pos}
 use lib.Ieee.{Float, nan, inf, fin, binary64, up, down, below, level, lt, eq, div}
 use lib.Ieee.Fits.{down-pos, up-pos}
 use Rattle.float.specs.Operations.{negative, isLess}
-
-never : {P : Type 0} → false ≡ true → P
-never e = absurd (subst (λ (b : Bool). T (not b)) e tt)
-
-never′ : {P : Type 0} → true ≡ false → P
-never′ e = never (sym e)
+use Rattle.float.proofs.Flags.{never, never′}
 
 and-left : (a b : Bool) → a && b ≡ true → a ≡ true
 and-left true b e = refl

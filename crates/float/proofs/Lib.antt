@@ -3,6 +3,7 @@ mod AlignedSums
 mod Alignment
 pub mod Bounds
 mod Decomposition
+mod Flags
 mod HalfAway
 pub mod InUnits
 mod LessThan

@@ -2,7 +2,8 @@
 use mathlib.Core.Path.{_≡_, refl, sym, ap, _∙_, subst}
 use mathlib.Core.Logic.{_⊎_, inl, inr}
 use Prim.Native.Nat.{ℕ, zero, suc, _+_, _-_, _*_, _/_, _%_, _^_, _≤_, _<_, zero-le}
-use native.Mathlib.Nat.{le-refl, le-of-eq, le-trans, lt-of-lt-of-le, lt-of-le-of-lt, le-of-lt, eq-or-lt-of-le, mul-assoc, mul-comm, mul-one, mul-pos, mul-div-cancel, mul-le-mul-right, suc-mul, add-mul, pow-succ', add-assoc}
+use native.Mathlib.Nat.{le-refl, le-of-eq, le-trans, lt-of-lt-of-le, lt-of-le-of-lt, le-of-lt, eq-or-lt-of-le, mul-assoc, mul-comm, mul-one, mul-pos, mul-div-cancel, mul-le-mul-right, suc-mul}
+use native.Mathlib.Nat.{add-mul, pow-succ', add-assoc}
 use native.Mathlib.Omega.{arith}
 use mathlib.Core.Bool.{Bool, true, false, not, cond}
 use lib.IntN.{ℤ}
@@ -134,10 +135,6 @@ module _ (f : Format) (s : Bool) (q k : ℕ) where
     where
       bound : (p e k : ℕ) → 2 ≤ p → 2 * e ≤ k → e + p - 2 + suc e ≤ p - 1 + k
       bound p e k a b = omega arith
-
--- ---- a float made of the pattern of a rounded value is that value
-pub made : (f : Format) (s : Bool) (m d b : ℕ) (v : Float) → round f s m d ≡ v → toBits f v ≡ b → ofBits f b ≡ round f s m d
-made f s m d b v e h = ap (ofBits f) (sym h ∙ ap (toBits f) (sym e)) ∙ ofBits-toBits f (round f s m d) (round-fits f s m d)
 
 -- ---- at an f64, as `magnitude` and `pattern` write it
 pub magnitude-under : (k q : ℕ) → k < 2046 → q ≤ 2 ^ 53 → (k * 2 ^ 52 + q ≡ cond (ltb k 2046) (k * 2 ^ 52 + q) (2047 * 2 ^ 52)) × (k * 2 ^ 52 + q < 2 ^ 63)

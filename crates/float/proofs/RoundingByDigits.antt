@@ -2,7 +2,8 @@
 use mathlib.Core.Path.{_≡_, refl, sym, ap, _∙_, subst}
 use mathlib.Core.Logic.{_⊎_, inl, inr}
 use Prim.Native.Nat.{ℕ, zero, suc, _+_, _-_, _*_, _/_, _%_, _^_, _≤_, _<_, zero-le}
-use native.Mathlib.Nat.{le-antisymm, le-of-eq, le-trans, lt-of-lt-of-le, lt-of-le-of-lt, lt-of-not-le, not-le-of-lt, le-of-lt, le-of-suc-le-suc, mul-assoc, mul-comm, mul-right-comm, mul-one, mul-pos, pow-succ', le-div-iff-mul-le, div-lt-iff-lt-mul, eq-zero-or-pos}
+use native.Mathlib.Nat.{le-antisymm, le-of-eq, le-trans, lt-of-lt-of-le, lt-of-le-of-lt, lt-of-not-le, not-le-of-lt, le-of-lt, le-of-suc-le-suc, mul-assoc, mul-comm, mul-right-comm, mul-one}
+use native.Mathlib.Nat.{mul-pos, pow-succ', le-div-iff-mul-le, div-lt-iff-lt-mul, eq-zero-or-pos}
 use native.Mathlib.Omega.{arith}
 use mathlib.Core.Bool.{Bool}
 use lib.Pow.{pow-add, pow-pos, pow-mono}

@@ -27,7 +27,8 @@ rounded-at-most {f} {j} {r} {p} {n} {c} k C S l h = record { is = h .is; size = 
     t : slack f j * c ≤ 2 ^ low f * c
     t = mul-le-mul-right c S
 
-    go : (s : Bool) → Close (plus s (mag f r) * c + n * 2 ^ low f) (minus s (mag f r) * c + p * 2 ^ low f) (slack f j * c) → (p + n) * 2 ^ low f ≤ k * c * 2 ^ low f → slack f j * c ≤ 2 ^ low f * c → mag f r * c ≤ (k + 1) * 2 ^ low f * c
+    go : (s : Bool) → Close (plus s (mag f r) * c + n * 2 ^ low f) (minus s (mag f r) * c + p * 2 ^ low f) (slack f j * c) → (p + n) * 2 ^ low f ≤ k * c * 2 ^ low f
+        → slack f j * c ≤ 2 ^ low f * c → mag f r * c ≤ (k + 1) * 2 ^ low f * c
     go true d m t = omega arith
     go false d m t = omega arith
 
@@ -112,7 +113,8 @@ half u s r r' g g' t t' z z' v v' X X' W W' d k A B C D E =
     (spread r r' X X' z z' A) B (shift g g' t t' v v' (mul-le-mul-right u C)) (level X X' W W' (d * s) (mul-le-mul-right u D)) (lift z z' v v' (k * s) (mul-le-mul-right q E)))
     (le-of-eq (gather r' g d k)))
   where
-    spread : (r r' X X' z z' : ℕ) → r * (u * u) + (X' + z' * u) * u ≤ r' * (u * u) + (X + z * u) * u + s * (u * u) → r * (u * u) + X' * u + z' * (u * u) ≤ r' * (u * u) + X * u + z * (u * u) + s * (u * u)
+    spread : (r r' X X' z z' : ℕ) → r * (u * u) + (X' + z' * u) * u ≤ r' * (u * u) + (X + z * u) * u + s * (u * u)
+        → r * (u * u) + X' * u + z' * (u * u) ≤ r' * (u * u) + X * u + z * (u * u) + s * (u * u)
     spread r r' X X' z z' h = omega arith
 
     shift : (g g' t t' v v' : ℕ) → (g' * u + (t + v) * u) * u ≤ (g * u + (t' + v') * u + s * u) * u → g' * (u * u) + t * (u * u) + v * (u * u) ≤ g * (u * u) + t' * (u * u) + v' * (u * u) + s * (u * u)
@@ -217,8 +219,12 @@ module _ {f : Format} {j : ℕ} (ample : Ample f j) where
       let U : 0 < u * u = mul-pos (pow-pos (low f)) (pow-pos (low f)) in
       record {
         is = record {
-          le = le-of-mul-le-mul-right (half u s (over f r) (under f r) (over f g) (under f g) (over f t) (under f t) (over f z) (under f z) (over f v) (under f v) (crossOver f x y) (crossUnder f x y) (crossOver f w y) (crossUnder f w y) (m * p) q (R .near .le) (T .near .ge) (G .near .ge) (c .le) (e .is .le)) U;
-          ge = le-of-mul-le-mul-right (half u s (under f r) (over f r) (under f g) (over f g) (under f t) (over f t) (under f z) (over f z) (under f v) (over f v) (crossUnder f x y) (crossOver f x y) (crossUnder f w y) (crossOver f w y) (m * p) q (R .near .ge) (T .near .le) (G .near .le) (c .ge) (e .is .ge)) U;
+          le =
+              le-of-mul-le-mul-right (half u s (over f r) (under f r) (over f g) (under f g) (over f t) (under f t) (over f z) (under f z) (over f v) (under f v) (crossOver f x y)
+              (crossUnder f x y) (crossOver f w y) (crossUnder f w y) (m * p) q (R .near .le) (T .near .ge) (G .near .ge) (c .le) (e .is .le)) U;
+          ge =
+              le-of-mul-le-mul-right (half u s (under f r) (over f r) (under f g) (over f g) (under f t) (over f t) (under f z) (over f z) (under f v) (over f v) (crossUnder f x y)
+              (crossOver f x y) (crossUnder f w y) (crossOver f w y) (m * p) q (R .near .ge) (T .near .le) (G .near .le) (c .ge) (e .is .ge)) U;
         };
       }
     where
@@ -226,7 +232,8 @@ module _ {f : Format} {j : ℕ} (ample : Ample f j) where
       short a l t h = omega arith
 
   -- one factor times each of two that are close
-  pub mul-apart : {x y w : Float} {n m i : ℕ} (p : ℕ) → AtMost f y m → AtMost f x n → AtMost f w i → m * n ≤ 2 ^ j → m * i ≤ 2 ^ j → RoundingsApart f j x w p → RoundingsApart f j (mul f y x) (mul f y w) (m * p + 2)
+  pub mul-apart : {x y w : Float} {n m i : ℕ} (p : ℕ) → AtMost f y m → AtMost f x n → AtMost f w i → m * n ≤ 2 ^ j → m * i ≤ 2 ^ j → RoundingsApart f j x w p
+      → RoundingsApart f j (mul f y x) (mul f y w) (m * p + 2)
   mul-apart {x} {y} {w} {n} {m} {i} p Y X W a b d =
       let u = 2 ^ low f in
       let s = slack f j in
@@ -238,8 +245,12 @@ module _ {f : Format} {j : ℕ} (ample : Ample f j) where
       let U : 0 < u * u = mul-pos (pow-pos (low f)) (pow-pos (low f)) in
       record {
         is = record {
-          le = le-of-mul-le-mul-right (two-products u s (over f r) (under f r) (over f t) (under f t) (crossOver f x y) (crossUnder f x y) (crossOver f w y) (crossUnder f w y) (m * p) (R .near .le) (T .near .ge) (c .le)) U;
-          ge = le-of-mul-le-mul-right (two-products u s (under f r) (over f r) (under f t) (over f t) (crossUnder f x y) (crossOver f x y) (crossUnder f w y) (crossOver f w y) (m * p) (R .near .ge) (T .near .le) (c .ge)) U;
+          le =
+              le-of-mul-le-mul-right (two-products u s (over f r) (under f r) (over f t) (under f t) (crossOver f x y) (crossUnder f x y) (crossOver f w y) (crossUnder f w y) (m * p) (R .near .le)
+              (T .near .ge) (c .le)) U;
+          ge =
+              le-of-mul-le-mul-right (two-products u s (under f r) (over f r) (under f t) (over f t) (crossUnder f x y) (crossOver f x y) (crossUnder f w y) (crossOver f w y) (m * p) (R .near .ge)
+              (T .near .le) (c .ge)) U;
         };
       }
     where

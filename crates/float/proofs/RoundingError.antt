@@ -49,7 +49,8 @@ module _ (f : Format) (j : ℕ) (bound : j < emax f) (s : Bool) (a c : ℕ) (C :
   few-dropped : drop (prec f) (a * 2 ^ low f) c ≤ low f + suc j - prec f
   few-dropped =
       let w = a * 2 ^ low f / c in
-      let p : 2 ^ (low f + suc j) ≡ 2 * 2 ^ j * 2 ^ low f = ap (λ (z : ℕ). 2 ^ z) (swap (low f) j) ∙ pow-succ' 2 (j + low f) ∙ ap (λ (z : ℕ). 2 * z) (pow-add 2 j (low f)) ∙ sym (mul-assoc 2 (2 ^ j) (2 ^ low f)) in
+      let p : 2 ^ (low f + suc j) ≡ 2 * 2 ^ j * 2 ^ low f =
+      ap (λ (z : ℕ). 2 ^ z) (swap (low f) j) ∙ pow-succ' 2 (j + low f) ∙ ap (λ (z : ℕ). 2 * z) (pow-add 2 j (low f)) ∙ sym (mul-assoc 2 (2 ^ j) (2 ^ low f)) in
       let n : a * 2 ^ low f ≤ 2 ^ j * c * 2 ^ low f = mul-le-mul-right (2 ^ low f) h in
       let q : 0 < 2 ^ j * c * 2 ^ low f = mul-pos (mul-pos (pow-pos j) C) (pow-pos (low f)) in
       let r : a * 2 ^ low f < 2 ^ (low f + suc j) * c = rw p (twice (2 ^ j) c (2 ^ low f) (a * 2 ^ low f) n q) in
@@ -143,7 +144,8 @@ module _ (f : Format) (j : ℕ) (bound : j < emax f) where
           last true k = at true (a - b) (0 + b) (a + 0) (omega arith) (omega arith)
           last false k = let g = k tt in at false (a - b) (0 + b) (a + 0) (omega arith) (omega arith)
 
-      go : (s t w : Bool) → (T w → a < b) → (T (not w) → b ≤ a) → Rounded f j (cond (Bool·beq s t) (round f s (a + b) c) (cond w (round f t (b - a) c) (round f (s && ltb b a) (a - b) c))) (plus s a + plus t b) (minus s a + minus t b) c
+      go : (s t w : Bool) → (T w → a < b) → (T (not w) → b ≤ a)
+          → Rounded f j (cond (Bool·beq s t) (round f s (a + b) c) (cond w (round f t (b - a) c) (round f (s && ltb b a) (a - b) c))) (plus s a + plus t b) (minus s a + minus t b) c
       go false false w k l = at false (a + b) (a + b) (0 + 0) (omega arith) (omega arith)
       go true true w k l = at true (a + b) (0 + 0) (a + b) (omega arith) (omega arith)
       go false true true k l = let g = k tt in at true (b - a) (a + 0) (0 + b) (omega arith) (omega arith)

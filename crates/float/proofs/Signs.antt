@@ -1,4 +1,4 @@
--- Values with no minus sign: the tests on them, and the larger and the smaller of two.
+-- Exported for bounds of the coefficients. Values with no minus sign: the tests on them, and the larger and the smaller of two.
 use mathlib.Core.Path.{_≡_, refl, sym, ap, _∙_, subst}
 use mathlib.Core.Logic.{inl, inr}
 use Prim.Native.Nat.{ℕ, zero, suc, _*_, _/_, _^_, _≤_, _<_, zero-le}
@@ -13,7 +13,7 @@ use lib.Ieee.Fits.{up-pos, down-pos}
 use lib.Ieee.Compare.{differs-from-itself}
 use lib.Ieee.Positive.{through}
 use Rattle.float.specs.Operations.{abs, negative, isLess, maximumNumber, minimumNumber}
-use Rattle.float.proofs.Sizes.{Size, Reach, Plus, Number, nought, holds-zero, size-round, round-plus, some-digit}
+use Rattle.float.proofs.Sizes.{Size, Reach, Plus, Number, nought, holds-zero, size-round, round-plus, plus-number, some-digit}
 
 pub plus-abs : (x : Float) → Number x → Plus (abs x)
 unfolding abs
@@ -42,7 +42,8 @@ plus-div f (fin false m e) (inf false) n d b g B h k p q = refl
 plus-div f (fin true m e) (fin t m' e') n d b g B h k p q = absurd (true≢false p)
 plus-div f (fin false m e) (fin true m' e') n d b g B h k p q = absurd (true≢false q)
 plus-div f (fin false m e) (fin false m' e') n d b g B h k p q =
-    subst (λ (w : Bool). Plus (cond w (cond (eqb m 0) nan (inf false)) (round f false (m * up e * down e') (m' * up e' * down e)))) (sym (some-digit m' (up e') g (b * down e') (mul-pos B (down-pos e')) k))
+    subst (λ (w : Bool). Plus (cond w (cond (eqb m 0) nan (inf false)) (round f false (m * up e * down e') (m' * up e' * down e))))
+    (sym (some-digit m' (up e') g (b * down e') (mul-pos B (down-pos e')) k))
     (round-plus f (m * up e * down e') (m' * up e' * down e))
 
 pub plus-pick : (b : Bool) (x y : Float) → Plus x → Plus y → Plus (cond b x y)
@@ -85,7 +86,8 @@ zero-first (fin false m e) nan h p q = absurd q
 zero-first (fin false m e) (inf true) h p q = absurd (true≢false q)
 zero-first (fin false m e) (inf false) h p q = refl
 zero-first (fin false m e) (fin true n d) h p q = absurd (true≢false q)
-zero-first (fin false m e) (fin false n d) h p q = yes-le (m * up e * down d) (n * up d * down e) (le-trans (le-of-eq (ap (λ (z : ℕ). z * down d) (none (m * up e) (down e) h) ∙ zero-mul (down d))) zero-le)
+zero-first (fin false m e) (fin false n d) h p q =
+    yes-le (m * up e * down d) (n * up d * down e) (le-trans (le-of-eq (ap (λ (z : ℕ). z * down d) (none (m * up e) (down e) h) ∙ zero-mul (down d))) zero-le)
   where
     none : (a b : ℕ) → a * 1 ≤ 0 * b → a ≡ 0
     none a b h = omega arith
@@ -102,7 +104,9 @@ above-zero (fin true m e) y g h p k = absurd (true≢false p)
 above-zero (fin false m e) nan g h p k = refl
 above-zero (fin false m e) (inf t) g h p k = absurd k
 above-zero (fin false zero e) (fin t n d) g h p k = absurd (true≢false (some-digit 0 (up e) g (1 * down e) (mul-pos (lit< tt) (down-pos e)) h))
-above-zero (fin false (suc m) e) (fin true n d) g h p k = ap (λ (z : Bool). z && (false || eqb (suc m * up e * down d) 0)) (other (suc m * up e * down d) (mul-pos (mul-pos (zero-lt-suc m) (up-pos e)) (down-pos d)) (n * up d * down e) (none (n * up d) (down d) (down e) k))
+above-zero (fin false (suc m) e) (fin true n d) g h p k =
+    ap (λ (z : Bool). z && (false || eqb (suc m * up e * down d) 0))
+    (other (suc m * up e * down d) (mul-pos (mul-pos (zero-lt-suc m) (up-pos e)) (down-pos d)) (n * up d * down e) (none (n * up d) (down d) (down e) k))
   where
     none : (a b c : ℕ) → a * 1 ≤ 0 * b → a * c ≡ 0
     none a b c h = ap (λ (z : ℕ). z * c) (nil a b h) ∙ zero-mul c
@@ -138,11 +142,11 @@ small-first (fin false m e) (inf false) h p k q = refl
 small-first (fin false m e) (fin true n d) h p k q = absurd (true≢false q)
 small-first (fin false m e) (fin false n d) h p k q =
     lt-ltb (m * up e * down d) (n * up d * down e)
-    (lt-of-lt-of-le (mul-lt-mul-of-pos-right (isLess (m * up e) (down e) (down-pos e) h) (down-pos d))
+    (lt-of-lt-of-le (mul-lt-mul-of-pos-right (under-one (m * up e) (down e) (down-pos e) h) (down-pos d))
     (le-trans (le-of-eq (mul-comm (down e) (down d))) (mul-le-mul-right (down e) (at (n * up d) (down d) k))))
   where
-    isLess : (a b : ℕ) → 0 < b → a * 17179869184 ≤ 1 * b → a < b
-    isLess a b B h = omega arith
+    under-one : (a b : ℕ) → 0 < b → a * 17179869184 ≤ 1 * b → a < b
+    under-one a b B h = omega arith
 
     at : (a b : ℕ) → 1 * b ≤ a * 1 → b ≤ a
     at a b h = omega arith
@@ -168,11 +172,6 @@ is-number x h = go (ne x x) refl
     go : (b : Bool) → ne x x ≡ b → ne x x ≡ false
     go true e = absurd (subst Number (differs-from-itself x (subst T (sym e) tt)) h)
     go false e = e
-
-plus-number : (x : Float) → Plus x → Number x
-plus-number nan h = h
-plus-number (inf s) h = tt
-plus-number (fin s m e) h = tt
 
 plain : (a b : Bool) → (a || (b && false)) ≡ a
 plain true b = refl

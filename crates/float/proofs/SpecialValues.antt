@@ -3,7 +3,8 @@ use mathlib.Core.Path.{_≡_, refl, sym, ap, ap₂, _∙_, subst}
 use mathlib.Core.Logic.{_⊎_, inl, inr}
 use mathlib.Core.Bool.{Bool, true, false, not, _&&_, _||_, Bool·beq, cond, true≢false}
 use Prim.Native.Nat.{ℕ, zero, suc, _+_, _-_, _*_, _/_, _%_, _^_, _≤_, _<_, zero-le}
-use native.Mathlib.Nat.{le-of-eq, le-of-lt, le-trans, le-antisymm, lt-of-lt-of-le, lt-of-not-le, lt-irrefl, zero-lt-suc, eq-zero-or-pos, le-of-suc-le-suc, add-zero, sub-zero, mul-one, one-mul, zero-mul, mul-zero, mul-comm, mul-assoc, mul-right-comm, mul-pos, mod-lt, div-lt-iff-lt-mul, le-div-iff-mul-le, div-add-mod'}
+use native.Mathlib.Nat.{le-of-eq, le-of-lt, le-trans, le-antisymm, lt-of-lt-of-le, lt-of-not-le, lt-irrefl, zero-lt-suc, eq-zero-or-pos, le-of-suc-le-suc, add-zero, sub-zero, mul-one, one-mul}
+use native.Mathlib.Nat.{zero-mul, mul-zero, mul-comm, mul-assoc, mul-right-comm, mul-pos, mod-lt, div-lt-iff-lt-mul, le-div-iff-mul-le, div-add-mod'}
 use native.Mathlib.Omega.{arith}
 use lib.IntN.{ℤ, pos, _+ℤ_}
 use lib.Dec.{T, leb, ltb, eqb, eqb→eq, not-T}
@@ -17,12 +18,10 @@ use lib.Ieee.Nearest.{closest}
 use Rattle.float.specs.FusedMultiplyAdd.{times, fusedMultiplyAdd}
 use Rattle.float.specs.inner.Operands.{isPlain, Normal, Plain}
 use Rattle.float.proofs.Value.{value-scale, value-is, times-value, add-value, fma-value, sum-is}
-use Rattle.float.proofs.Decomposition.{normal-decomposed}
+use Rattle.float.proofs.Flags.{never}
+use Rattle.float.proofs.Decomposition.{ofBits-is, normal-decomposed}
 
-never : false ≡ true → ⊥
-never e = true≢false (sym e)
-
--- ---- `plain`
+-- ---- `is_plain`
 pub top-is : ofBits binary64 0x7ff0_0000_0000_0000 ≡ inf false
 unfolding ofBits
 top-is = refl
@@ -49,7 +48,9 @@ eq-zero s zero e =
     ap₂ (λ (x y : ℕ). eqb x y && (Bool·beq s false || eqb x 0)) (mul-one (0 * up e) ∙ zero-mul (up e)) (zero-mul (down e))
     ∙ or-true (Bool·beq s false)
 eq-zero s (suc m) e =
-    ap (λ (b : Bool). b && (Bool·beq s false || eqb (suc m * up e * 1) 0)) (ap (λ (y : ℕ). eqb (suc m * up e * 1) y) (zero-mul (down e)) ∙ ne-eqb (suc m * up e * 1) 0 (λ z. lt-irrefl 0 (lt-of-lt-of-le (mul-pos (mul-pos (zero-lt-suc m) (up-pos e)) (zero-lt-suc 0)) (le-of-eq z))))
+    ap (λ (b : Bool). b && (Bool·beq s false || eqb (suc m * up e * 1) 0))
+    (ap (λ (y : ℕ). eqb (suc m * up e * 1) y) (zero-mul (down e)) ∙ ne-eqb (suc m * up e * 1) 0
+    (λ z. lt-irrefl 0 (lt-of-lt-of-le (mul-pos (mul-pos (zero-lt-suc m) (up-pos e)) (zero-lt-suc 0)) (le-of-eq z))))
     ∙ sym (ap not (lt-ltb 0 (suc m) (zero-lt-suc m)))
 
 not-not : (b : Bool) → not (not b) ≡ b
@@ -85,9 +86,10 @@ add-cong f (fin u m e) (inf v) z s a c C h k = absurd k
 add-cong f (fin u m e) (fin v n d) nan s a c C h k = refl
 add-cong f (fin u m e) (fin v n d) (inf t) s a c C h k = refl
 add-cong f (fin u m e) (fin v n d) (fin t o g) s a c C h k =
-    let read-back : HasValue (fin t o g) t (o * up g * c) (c * down g) = value-is (fin t o g) t (o * up g * c) (o * up g * c) (down g * c) (c * down g) refl (mul-comm (down g) c) (value-scale (fin t o g) t (o * up g) (down g) c (refl, refl)) in
-    add-value f (fin u m e) (fin t o g) s t (a * down g) (o * up g * c) (c * down g) (mul-pos C (down-pos g)) (value-scale (fin u m e) s a c (down g) h) read-back
-    ∙ sym (add-value f (fin v n d) (fin t o g) s t (a * down g) (o * up g * c) (c * down g) (mul-pos C (down-pos g)) (value-scale (fin v n d) s a c (down g) k) read-back)
+    let third : HasValue (fin t o g) t (o * up g * c) (c * down g) =
+    value-is (fin t o g) t (o * up g * c) (o * up g * c) (down g * c) (c * down g) refl (mul-comm (down g) c) (value-scale (fin t o g) t (o * up g) (down g) c (refl, refl)) in
+    add-value f (fin u m e) (fin t o g) s t (a * down g) (o * up g * c) (c * down g) (mul-pos C (down-pos g)) (value-scale (fin u m e) s a c (down g) h) third
+    ∙ sym (add-value f (fin v n d) (fin t o g) s t (a * down g) (o * up g * c) (c * down g) (mul-pos C (down-pos g)) (value-scale (fin v n d) s a c (down g) k) third)
 
 zero-product : (f : Format) (s t : Bool) (m n : ℕ) (e d : ℤ) (z : Float) → m * n ≡ 0 → add f (mul f (fin s m e) (fin t n d)) z ≡ add f (times (fin s m e) (fin t n d)) z
 unfolding mul times
@@ -95,10 +97,12 @@ zero-product f s t m n e d z h =
     let den = down e * down d in
     let D : 0 < den = mul-pos (down-pos e) (down-pos d) in
     let num0 : m * up e * (n * up d) ≡ 0 = sort m (up e) n (up d) ∙ ap (λ (x : ℕ). x * (up e * up d)) h ∙ zero-mul (up e * up d) in
-    let mv : HasValue (round f (unlike s t) 0 den) (unlike s t) 0 den = round-exact f (unlike s t) 0 den 0 0 D (pow-pos (prec f)) (pow-pos (low f + suc (emax f))) (zero-mul (2 ^ low f) ∙ sym (zero-mul den)) in
+    let mv : HasValue (round f (unlike s t) 0 den) (unlike s t) 0 den =
+    round-exact f (unlike s t) 0 den 0 0 D (pow-pos (prec f)) (pow-pos (low f + suc (emax f))) (zero-mul (2 ^ low f) ∙ sym (zero-mul den)) in
     add-cong f (round f (unlike s t) (m * up e * (n * up d)) den) (times (fin s m e) (fin t n d)) z (unlike s t) 0 den D
     (subst (λ (x : ℕ). HasValue (round f (unlike s t) x den) (unlike s t) 0 den) (sym num0) mv)
-    (value-is (times (fin s m e) (fin t n d)) (unlike s t) (m * up e * (n * up d)) 0 den den num0 refl (times-value (fin s m e) (fin t n d) s t (m * up e) (n * up d) (down e) (down d) (refl, refl) (refl, refl)))
+    (value-is (times (fin s m e) (fin t n d)) (unlike s t) (m * up e * (n * up d)) 0 den den num0 refl
+    (times-value (fin s m e) (fin t n d) s t (m * up e) (n * up d) (down e) (down d) (refl, refl) (refl, refl)))
   where
     sort : (m a n b : ℕ) → m * a * (n * b) ≡ m * n * (a * b)
     sort m a n b = simp (mul-assoc, mul-comm, native-left)
@@ -182,10 +186,6 @@ plain-no-nan nan h = absurd (never h)
 plain-no-nan (inf s) h = absurd (never h)
 plain-no-nan (fin s m e) h = tt
 
-ofBits-is : (b : ℕ) → ofBits binary64 b ≡ ofFields binary64 (leb (2 ^ 63) b) (b % 2 ^ 63 / 2 ^ 52) (b % 2 ^ 52)
-unfolding ofBits
-ofBits-is b = refl
-
 fields-zero : (s : Bool) (x t : ℕ) → x ≡ 0 → t ≡ 0 → isPlain (ofFields binary64 s x t) ≡ false
 unfolding ofFields odd
 fields-zero s x t e h = ap₂ (λ (y z : ℕ). isPlain (ofFields binary64 s y z)) e h
@@ -201,7 +201,8 @@ fields-top s x t e = ap (λ (y : ℕ). isPlain (ofFields binary64 s y t)) e ∙ 
 plain-at : (b : ℕ) → isPlain (ofBits binary64 b) ≡ true → Plain b
 plain-at b h = record {
   some = elim (eq-zero-or-pos (b % 2 ^ 63)) [
-    | inl z ↦ absurd (never (sym (ap isPlain (ofBits-is b) ∙ fields-zero (leb (2 ^ 63) b) (b % 2 ^ 63 / 2 ^ 52) (b % 2 ^ 52) (ap (λ (y : ℕ). y / 2 ^ 52) z) (sym (mod-mod-pow b 11 52) ∙ ap (λ (y : ℕ). y % 2 ^ 52) z)) ∙ h))
+    | inl z ↦ absurd (never (sym (ap isPlain (ofBits-is b) ∙ fields-zero (leb (2 ^ 63) b) (b % 2 ^ 63 / 2 ^ 52) (b % 2 ^ 52) (ap (λ (y : ℕ). y / 2 ^ 52) z)
+        (sym (mod-mod-pow b 11 52) ∙ ap (λ (y : ℕ). y % 2 ^ 52) z)) ∙ h))
     | inr p ↦ p
   ];
   finite = lt-of-not-le (λ (g : 2047 * 2 ^ 52 ≤ b % 2 ^ 63).
@@ -237,7 +238,9 @@ value-finite (fin t m e) s a c h = tt
 pub normal-finite : (x : Float) → T (fits binary64 x) → Normal (toBits binary64 x) → Finite x
 normal-finite x f N =
     let b = toBits binary64 x in
-    subst Finite (ofBits-toBits binary64 x f) (value-finite (ofBits binary64 b) (leb (2 ^ 63) b) ((2 ^ 52 + b % 2 ^ 52) * 2 ^ (b % 2 ^ 63 / 2 ^ 52 + 51)) (2 ^ 1126) (normal-decomposed b (2 ^ 52 + b % 2 ^ 52) (b % 2 ^ 63 / 2 ^ 52) N refl refl .value))
+    subst Finite (ofBits-toBits binary64 x f)
+    (value-finite (ofBits binary64 b) (leb (2 ^ 63) b) ((2 ^ 52 + b % 2 ^ 52) * 2 ^ (b % 2 ^ 63 / 2 ^ 52 + 51)) (2 ^ 1126)
+    (normal-decomposed b (2 ^ 52 + b % 2 ^ 52) (b % 2 ^ 63 / 2 ^ 52) N refl refl .value))
 
 -- ---- the result is no NaN, and its pattern is read back as it
 odd-no-nan : (d : ℕ) (s : Bool) (q k l : ℕ) → isNan (odd d s q k l) ≡ false
@@ -288,7 +291,8 @@ fma-bits x y z b p q r e = subst (λ (v : Bool). T (not v)) (sym (nanBits-is bin
 
 -- a number is read back from its own pattern
 pub read-back : (x y z : Float) → T (fits binary64 x) → T (fits binary64 y) → T (fits binary64 z)
-    → toBits binary64 (fusedMultiplyAdd binary64 (ofBits binary64 (toBits binary64 x)) (ofBits binary64 (toBits binary64 y)) (ofBits binary64 (toBits binary64 z))) ≡ toBits binary64 (fusedMultiplyAdd binary64 x y z)
+    → toBits binary64 (fusedMultiplyAdd binary64 (ofBits binary64 (toBits binary64 x)) (ofBits binary64 (toBits binary64 y)) (ofBits binary64 (toBits binary64 z))) ≡ toBits binary64
+    (fusedMultiplyAdd binary64 x y z)
 read-back x y z f g h =
     ap (λ (v : Float). toBits binary64 (fusedMultiplyAdd binary64 v (ofBits binary64 (toBits binary64 y)) (ofBits binary64 (toBits binary64 z)))) (ofBits-toBits binary64 x f)
     ∙ ap (λ (v : Float). toBits binary64 (fusedMultiplyAdd binary64 x v (ofBits binary64 (toBits binary64 z)))) (ofBits-toBits binary64 y g)

@@ -3,7 +3,8 @@ use mathlib.Core.Path.{_≡_, refl, sym, ap, _∙_, subst}
 use mathlib.Core.Logic.{_⊎_, inl, inr}
 use mathlib.Core.Bool.{Bool, true, false, not}
 use Prim.Native.Nat.{ℕ, zero, suc, _+_, _-_, _*_, _/_, _%_, _≤_, _<_}
-use native.Mathlib.Nat.{le-trans, le-of-eq, lt-of-lt-of-le, lt-of-le-of-lt, mul-assoc, mul-comm, mul-right-comm, add-mul, mul-add, mul-le-mul-right, mul-lt-mul-of-pos-right, div-add-mod', mod-lt, suc-mul}
+use native.Mathlib.Nat.{le-trans, le-of-eq, lt-of-lt-of-le, lt-of-le-of-lt, mul-assoc, mul-comm, mul-right-comm, add-mul, mul-add, mul-le-mul-right, mul-lt-mul-of-pos-right, div-add-mod', mod-lt}
+use native.Mathlib.Nat.{suc-mul}
 use native.Mathlib.Omega.{arith}
 use lib.Dec.{T, leb, leb→le, nleb→lt}
 use Rattle.float.specs.inner.Sticky.{Sticky, sticky}
@@ -69,8 +70,8 @@ module _ (m t : ℕ) (T₀ : 0 < t) where
   sticky-cut = cut-is (m % t) refl
 
 -- ---- with an even number beside it
-split : (a b : ℕ) → (a ≤ b) ⊎ (b < a)
-split a b = go (leb a b) (leb→le a b) (nleb→lt a b)
+pub le-or-lt : (a b : ℕ) → (a ≤ b) ⊎ (b < a)
+le-or-lt a b = go (leb a b) (leb→le a b) (nleb→lt a b)
   where
     go : (x : Bool) → (T x → a ≤ b) → (T (not x) → b < a) → (a ≤ b) ⊎ (b < a)
     go true p q = inl (p tt)
@@ -94,7 +95,7 @@ module _ (m w t b : ℕ) (T₀ : 0 < t) (j : Sticky m w t) where
   sticky-add = record {
     under = λ v l. u-go v (2 * b * t) (2 * (v - b) * t) (2 * v * t) (parts b v t (u-le v l)) (j .under (v - b) (u-lt v l));
     at = λ v e. a-go (2 * b * t) (2 * (v - b) * t) (2 * v * t) (parts b v t (a-le v e)) (j .at (v - b) (a-eq v e));
-    over = λ v l. o-go v l (split b v);
+    over = λ v l. o-go v l (le-or-lt b v);
   }
     where
       u-le : (v : ℕ) → 2 * b + w < 2 * v → b ≤ v
@@ -130,7 +131,7 @@ module _ (m w t b : ℕ) (T₀ : 0 < t) (j : Sticky m w t) where
 
   pub sticky-sub : m ≤ 2 * b * t → w ≤ 2 * b → Sticky (2 * b * t - m) (2 * b - w) t
   sticky-sub M W = record {
-    under = λ v l. u-go v l (split v b);
+    under = λ v l. u-go v l (le-or-lt v b);
     at = λ v e. a-go (2 * v * t) (2 * (b - v) * t) (2 * b * t) (parts v b t (a-le v e)) (j .at (b - v) (a-eq v e));
     over = λ v l. o-sum (2 * v * t) (2 * (b - v) * t) (2 * b * t) (parts v b t (o-le v l)) (j .under (b - v) (o-lt v l));
   }

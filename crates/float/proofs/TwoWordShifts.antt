@@ -2,7 +2,9 @@
 use mathlib.Core.Path.{_≡_, refl, sym, ap, ap₂, _∙_, subst}
 use mathlib.Core.Logic.{_⊎_, inl, inr}
 use Prim.Native.Nat.{ℕ, zero, suc, _+_, _-_, _*_, _/_, _%_, _^_, _≤_, _<_}
-use native.Mathlib.Nat.{le-refl, le-trans, le-of-eq, le-of-lt, lt-of-lt-of-le, lt-of-le-of-lt, lt-irrefl, le-add-right, add-zero, zero-mul, mul-one, one-mul, mul-assoc, mul-comm, mul-right-comm, mul-left-comm, add-mul, mul-pos, mul-le-mul-right, mul-lt-mul-of-pos-right, lt-of-mul-lt-mul-right, mul-add-div-right, mul-add-mod-self-right, mul-div-cancel, mul-mod-left, mod-lt, mod-eq-of-lt, div-lt-iff-lt-mul, div-add-mod', div-div-eq-div-mul, pow-succ', add-assoc}
+use native.Mathlib.Nat.{le-refl, le-trans, le-of-eq, le-of-lt, lt-of-lt-of-le, lt-of-le-of-lt, lt-irrefl, le-add-right, add-zero, zero-mul, mul-one, one-mul, mul-assoc, mul-comm, mul-right-comm}
+use native.Mathlib.Nat.{mul-left-comm, add-mul, mul-pos, mul-le-mul-right, mul-lt-mul-of-pos-right, lt-of-mul-lt-mul-right, mul-add-div-right, mul-add-mod-self-right, mul-div-cancel, mul-mod-left}
+use native.Mathlib.Nat.{mod-lt, mod-eq-of-lt, div-lt-iff-lt-mul, div-add-mod', div-div-eq-div-mul, pow-succ', add-assoc}
 use native.Mathlib.Omega.{arith}
 use mathlib.Core.Bool.{Bool}
 use lib.Arith.{mod-mul, digits-lt}
@@ -15,7 +17,7 @@ use Rattle.float.specs.inner.Sticky.{Sticky, sticky, ExactOrSticky}
 use Rattle.float.specs.inner.Rounded.{rounded}
 use Rattle.float.proofs.Sticky.{sticky-is, sticky-cut, sticky-trans, sticky-scale}
 
--- ---- `jammed` turns only on whether its second number is 0
+-- ---- `sticky` turns only on whether its second number is 0
 sticky-pos : (q z : ℕ) → 0 < z → sticky q z ≡ q + 1 - q % 2
 sticky-pos q zero h = absurd (lt-irrefl 0 h)
 sticky-pos q (suc z) h = refl
@@ -73,7 +75,9 @@ module _ (hi lo a b : ℕ) (A : 0 < a) (B : 0 < b) where
       ∙ add-assoc (hi / a * (a * b)) ((hi * b) % (a * b)) (lo / a)
 
   pub lower-fits : lo < a * b → (hi * b) % (a * b) + lo / a < a * b
-  lower-fits L = lt-of-le-of-lt (le-of-eq (ap (λ (z : ℕ). z + lo / a) (moved hi))) (lt-of-lt-of-le (digits-lt (mod-lt hi A) (div-lt-iff-lt-mul A .1 (lt-of-lt-of-le L (le-of-eq (mul-comm a b))))) (le-refl (a * b)))
+  lower-fits L =
+      lt-of-le-of-lt (le-of-eq (ap (λ (z : ℕ). z + lo / a) (moved hi)))
+      (lt-of-lt-of-le (digits-lt (mod-lt hi A) (div-lt-iff-lt-mul A .1 (lt-of-lt-of-le L (le-of-eq (mul-comm a b))))) (le-refl (a * b)))
 
 -- ---- a word in two parts
 pub word : (l : ℕ) → l ≤ 64 → 2 ^ (64 - l) * 2 ^ l ≡ 2 ^ 64
@@ -137,7 +141,8 @@ pub rounded-up : (g : ℕ) (s : Bool) (m : ℕ) → rounded (g + 64) s (m * 2 ^ 
 unfolding rounded
 rounded-up g s m =
     round-same binary64 s (m * 2 ^ 64) (2 ^ (low binary64 + (g + 64))) m (2 ^ (low binary64 + g)) (pow-pos (low binary64 + (g + 64))) (pow-pos (low binary64 + g))
-    (mul-assoc m (2 ^ 64) (2 ^ (low binary64 + g)) ∙ ap (λ (z : ℕ). m * z) (mul-comm (2 ^ 64) (2 ^ (low binary64 + g)) ∙ sym (pow-add 2 (low binary64 + g) 64) ∙ ap (λ (z : ℕ). 2 ^ z) (add-assoc (low binary64) g 64)))
+    (mul-assoc m (2 ^ 64) (2 ^ (low binary64 + g)) ∙ ap (λ (z : ℕ). m * z)
+    (mul-comm (2 ^ 64) (2 ^ (low binary64 + g)) ∙ sym (pow-add 2 (low binary64 + g) 64) ∙ ap (λ (z : ℕ). 2 ^ z) (add-assoc (low binary64) g 64)))
 
 pub to-sticky : (m w e : ℕ) → ExactOrSticky m w (2 ^ e) → Sticky m w (2 ^ e)
 to-sticky m w e (inl x) = sticky-is m w (2 ^ e) (pow-pos e) x
@@ -175,7 +180,7 @@ finish-low m hi lo e l z W L s =
     exact (inl x) = x ∙ ap (λ (y : ℕ). y * 2 ^ e) (only hi lo z)
     exact (inr x) = absurd (no hi lo z W (x .0))
 
--- ---- `shift_less` and `shift`
+-- ---- `shift_right_sticky_less` and `shift_right_sticky`
 word' : (d : ℕ) → d ≤ 64 → 2 ^ d * 2 ^ (64 - d) ≡ 2 ^ 64
 word' d h = sym (pow-add 2 d (64 - d)) ∙ ap (λ (z : ℕ). 2 ^ z) (go d h)
   where
@@ -192,7 +197,8 @@ module _ (hi lo d : ℕ) (D : d ≤ 64) (L : lo < 2 ^ 64) where
   shift-words =
       let r = (lo * 2 ^ (64 - d)) % 2 ^ 64 in
       subst (λ (z : ℕ). Sticky (hi * 2 ^ 64 + lo) z (2 ^ d))
-      (ap (λ (z : ℕ). sticky z r) (subst (λ (z : ℕ). hi * 2 ^ (64 - d) + lo / 2 ^ d ≡ hi / 2 ^ d * z + ((hi * 2 ^ (64 - d)) % z + lo / 2 ^ d)) (word' d D) (quot-words hi lo (2 ^ d) (2 ^ (64 - d)) (pow-pos d) (pow-pos (64 - d))))
+      (ap (λ (z : ℕ). sticky z r) (subst (λ (z : ℕ). hi * 2 ^ (64 - d) + lo / 2 ^ d ≡ hi / 2 ^ d * z + ((hi * 2 ^ (64 - d)) % z + lo / 2 ^ d)) (word' d D)
+      (quot-words hi lo (2 ^ d) (2 ^ (64 - d)) (pow-pos d) (pow-pos (64 - d))))
       ∙ sym (sticky-beside (hi / 2 ^ d) ((hi * 2 ^ (64 - d)) % 2 ^ 64 + lo / 2 ^ d) r))
       (subst (λ (z : ℕ). Sticky (hi * z + lo) (sticky (hi * 2 ^ (64 - d) + lo / 2 ^ d) ((lo * 2 ^ (64 - d)) % z)) (2 ^ d)) (word' d D)
       (cut-words hi lo (2 ^ d) (2 ^ (64 - d)) (pow-pos d) (pow-pos (64 - d))))

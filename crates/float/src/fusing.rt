@@ -132,18 +132,18 @@ pub(crate) fn are_near(a: u64, b: u64, c: u64) -> bool
 }
 
 // The same for three numbers that are near: no digit is cut off before the sum is rounded.
-pub(crate) fn fused_near(a: u64, b: u64, c: u64) -> u64
-    requires { ⌜ Near a b c ⌝ }
-    ensures { λ r. ⌜ r ≡ toBits binary64 (fusedMultiplyAdd binary64 (ofBits binary64 a) (ofBits binary64 b) (ofBits binary64 c)) ⌝ }
+pub(crate) fn fused_near(x: u64, y: u64, z: u64) -> u64
+    requires { ⌜ Near x y z ⌝ }
+    ensures { λ r. ⌜ r ≡ toBits binary64 (fusedMultiplyAdd binary64 (ofBits binary64 x) (ofBits binary64 y) (ofBits binary64 z)) ⌝ }
 {
-    let e = field(a) + field(b);
-    let d = e - (field(c) + 1002);
-    let p = wide_mul(significand(a), significand(b));
-    let w = shifted_right(significand(c) * 512, d);
-    let sa = a >= 0x8000_0000_0000_0000;
-    let sb = b >= 0x8000_0000_0000_0000;
-    let sc = c >= 0x8000_0000_0000_0000;
-    signed_sum(sa != sb, p.hi, p.lo, sc, w.hi, w.lo, e + 122)
+    let e = field(x) + field(y);
+    let d = e - (field(z) + 1002);
+    let p = wide_mul(significand(x), significand(y));
+    let w = shifted_right(significand(z) * 512, d);
+    let sx = x >= 0x8000_0000_0000_0000;
+    let sy = y >= 0x8000_0000_0000_0000;
+    let sz = z >= 0x8000_0000_0000_0000;
+    signed_sum(sx != sy, p.hi, p.lo, sz, w.hi, w.lo, e + 122)
 }
 
 // Whether x is finite and not a zero.

@@ -16,7 +16,8 @@ is-less-requires c κs = search needs
 test : (c : tie.Joined1) → let a = c .before .args in ne (a .a) (a .a) || isLess (a .b) (a .a) ≡ c .if1 .if2
 test c =
     let a = c .before .args in
-    ⊎-elim (λ w. flag-yes (ne (a .a) (a .a)) (isLess (a .b) (a .a)) _ (w .0 .taken) (w .1)) (λ w. flag-no (ne (a .a) (a .a)) (isLess (a .b) (a .a)) _ _ (w .0 .left) (w .1 .ensures) (w .2)) (c .if1 .came)
+    ⊎-elim (λ w. flag-yes (ne (a .a) (a .a)) (isLess (a .b) (a .a)) _ (w .0 .taken) (w .1)) (λ w. flag-no (ne (a .a) (a .a)) (isLess (a .b) (a .a)) _ _ (w .0 .left) (w .1 .ensures) (w .2))
+    (c .if1 .came)
 
 returns : tie.Need-returns
 unfolding minimumNumber

@@ -19,13 +19,17 @@ fits-b c = subst T (sym (c .good .1 .0 .1)) tt
 fits-c : (c : tie.Start) → T (fits binary64 (c .args .c))
 fits-c c = subst T (sym (c .good .1 .1 .0 .1)) tt
 
+-- where the call began
+abbrev start : tie.Then4 → tie.Start
+start c = c .before .before .before .before .before
+
 -- what the test says
-near : (c : tie.Then4) → Near (toBits binary64 (c .before .before .before .before .before .args .a)) (toBits binary64 (c .before .before .before .before .before .args .b)) (toBits binary64 (c .before .before .before .before .before .args .c))
+near : (c : tie.Then4) → let a = start c .args in Near (toBits binary64 (a .a)) (toBits binary64 (a .b)) (toBits binary64 (a .c))
 near c = c .before .are-near .ensures (c .if4 .taken)
 
 -- what `fused_near` gives
-bits : (c : tie.After-fused-near) → c .fused-near .result ≡ toBits binary64 (fusedMultiplyAdd binary64 (c .before .before .before .before .before .before .args .a) (c .before .before .before .before .before .before .args .b) (c .before .before .before .before .before .before .args .c))
-bits c = let s = c .before .before .before .before .before .before in c .fused-near .ensures ∙ read-back (s .args .a) (s .args .b) (s .args .c) (fits-a s) (fits-b s) (fits-c s)
+bits : (c : tie.After-fused-near) → let a = start (c .before) .args in c .fused-near .result ≡ toBits binary64 (fusedMultiplyAdd binary64 (a .a) (a .b) (a .c))
+bits c = let s = start (c .before) in c .fused-near .ensures ∙ read-back (s .args .a) (s .args .b) (s .args .c) (fits-a s) (fits-b s) (fits-c s)
 
 mul-add-any-requires : tie.Need-mul-add-any-requires
 mul-add-any-requires c κs = search needs
@@ -50,12 +54,14 @@ fused-near-requires c κs = near c
 
 float-from-bits-result : tie.Need-float-from-bits-result
 float-from-bits-result c =
-    let s = c .before .before .before .before .before .before in
+    let s = start (c .before) in
+    let a = s .args in
     let n = near (c .before) in
-    fma-bits (s .args .a) (s .args .b) (s .args .c) (c .fused-near .result) (normal-finite (s .args .a) (fits-a s) (n .first)) (normal-finite (s .args .b) (fits-b s) (n .second)) (normal-finite (s .args .c) (fits-c s) (n .third)) (bits c)
+    fma-bits (a .a) (a .b) (a .c) (c .fused-near .result)
+    (normal-finite (a .a) (fits-a s) (n .first)) (normal-finite (a .b) (fits-b s) (n .second)) (normal-finite (a .c) (fits-c s) (n .third)) (bits c)
 
 returns-2 : tie.Need-returns-2
-returns-2 c = let a = c .before .before .before .before .before .before .args in fma-read (a .a) (a .b) (a .c) (c .fused-near .result) (bits c)
+returns-2 c = let a = start (c .before) .args in fma-read (a .a) (a .b) (a .c) (c .fused-near .result) (bits c)
 
 mul-add-any-requires-2 : tie.Need-mul-add-any-requires-2
 mul-add-any-requires-2 c κs = search needs

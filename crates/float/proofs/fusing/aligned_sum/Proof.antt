@@ -18,7 +18,7 @@ P a = a .args .ph * 2 ^ 64 + a .args .pl
 abbrev C : tie.Start → ℕ
 C a = a .args .ch * 2 ^ 64
 
--- a number that is ready is above 0
+-- a number that is left-justified is above 0
 justified-pos : (n : ℕ) → LeftJustified n → 0 < n
 justified-pos n r = lt-of-lt-of-le (pow-pos 124) (r .least)
 
@@ -31,7 +31,7 @@ c-most a = word-most (a .args .ch) 0 (subst (λ (z : ℕ). z < 2 ^ 126) (sym (ad
 p-most : (a : tie.Start) → a .args .ph < 2 ^ 62
 p-most a = word-most (a .args .ph) (a .args .pl) (a .pre .0 .most)
 
--- what `shift` gives of c
+-- what `shift_right_sticky` gives of c
 c-sticky : (c : tie.After-shift-right-sticky) → Sticky (C (c .before .before)) (wide (c .shift-right-sticky .result)) (2 ^ (c .before .before .args .ep - c .before .before .args .ec))
 c-sticky c = let a = c .before .before in subst (λ (z : ℕ). Sticky z (wide (c .shift-right-sticky .result)) (2 ^ (a .args .ep - a .args .ec))) (add-zero (C a)) (c .shift-right-sticky .ensures)
 

@@ -50,13 +50,16 @@ returns-5 c e =
     let y = c .before .before .field2 in
     let z = c .before .field3 in
     let k = bounds (x .result) (y .result) (z .result) (x .ensures) (y .ensures) (z .ensures) (c .if4 .left) (ltb-true (x .result + y .result - (z .result + 1002)) 64 e) in
-    let n1 = c .before .before .before .before .before .before .before .before .before .is-normal in
-    let n2 = c .before .before .before .before .before .before .before .is-normal2 in
-    let n3 = c .before .before .before .before .before .is-normal3 in
+    let k3 = c .before .before .before .before in
+    let k2 = k3 .before .before in
+    let k1 = k2 .before .before in
+    let n1 = k1 .before .is-normal in
+    let n2 = k2 .before .is-normal2 in
+    let n3 = k3 .before .is-normal3 in
     record {
-      first = n1 .ensures (not-false (n1 .result) (c .before .before .before .before .before .before .before .before .if1 .left));
-      second = n2 .ensures (not-false (n2 .result) (c .before .before .before .before .before .before .if2 .left));
-      third = n3 .ensures (not-false (n3 .result) (c .before .before .before .before .if3 .left));
+      first = n1 .ensures (not-false (n1 .result) (k1 .if1 .left));
+      second = n2 .ensures (not-false (n2 .result) (k2 .if2 .left));
+      third = n3 .ensures (not-false (n3 .result) (k3 .if3 .left));
       least = k .0;
       most = k .1;
     }

@@ -21,7 +21,10 @@ add-sticky : tie.Need-add-sticky
 add-sticky c =
     let a = c .args in
     let l = a .l in
-    record { fits = subst (λ (z : ℕ). (a .hi * 2 ^ l) % 2 ^ 64 + z < 2 ^ 64) (sym (below-top (a .lo) l (c .pre .0))) (leading-fits (a .hi) (a .lo) l (le-of-lt (c .pre .0)) (c .fits .lo .fits) (c .pre .1)) }
+    record {
+      fits = subst (λ (z : ℕ). (a .hi * 2 ^ l) % 2 ^ 64 + z < 2 ^ 64) (sym (below-top (a .lo) l (c .pre .0)))
+          (leading-fits (a .hi) (a .lo) l (le-of-lt (c .pre .0)) (c .fits .lo .fits) (c .pre .1));
+    }
 
 shl-sticky-2 : tie.Need-shl-sticky-2
 shl-sticky-2 c = search needs

@@ -26,7 +26,8 @@ returns-2 c =
     let hi = a .args .hi in
     let lo = a .args .lo in
     let r = wide (c .shift-right-sticky-less2 .result) in
-    shift-far hi lo (a .args .d) r (a .fits .lo .fits) (c .before .before .before .if1 .left) (subst (λ (x : ℕ). Sticky (0 * 2 ^ 64 + x) r (2 ^ (a .args .d - 64))) (c .before .sticky .ensures) (c .shift-right-sticky-less2 .ensures))
+    shift-far hi lo (a .args .d) r (a .fits .lo .fits) (c .before .before .before .if1 .left)
+    (subst (λ (x : ℕ). Sticky (0 * 2 ^ 64 + x) r (2 ^ (a .args .d - 64))) (c .before .sticky .ensures) (c .shift-right-sticky-less2 .ensures))
 
 returns-3 : tie.Need-returns-3
 returns-3 c =
