@@ -1,20 +1,22 @@
 -- A pattern taken apart, and the fused multiply-add of three of them. Assumes nothing.
 use mathlib.Core.Path.{_≡_, refl, sym, ap, ap₂, _∙_, subst}
 use mathlib.Core.Logic.{_⊎_, inl, inr}
-use mathlib.Core.Bool.{Bool, true, false, not, cond}
+use mathlib.Core.Bool.{Bool, true, false, not, _&&_, cond}
 use Prim.Native.Nat.{ℕ, zero, suc, _+_, _-_, _*_, _/_, _%_, _^_, _≤_, _<_, zero-le}
 use native.Mathlib.Nat.{le-of-eq, le-of-lt, le-trans, lt-of-lt-of-le, lt-of-le-of-lt, lt-of-not-le, not-le-of-lt, lt-irrefl, zero-lt-suc, le-add-right, add-comm, mul-one, mul-comm, mul-assoc}
 use native.Mathlib.Nat.{mul-left-comm, mul-right-comm, mul-le-mul, mul-le-mul-left, mul-le-mul-right, mul-lt-mul-of-pos-right, lt-of-mul-lt-mul-right, le-of-mul-le-mul-right, mod-lt, mod-eq-of-lt}
 use native.Mathlib.Nat.{mul-mod-left, div-lt-iff-lt-mul, div-add-mod'}
 use native.Mathlib.Omega.{arith}
-use lib.Dec.{T, leb, eqb, eqb→eq, not-T, lit<, lit≤}
+use lib.Dec.{T, leb, ltb, eqb, eqb→eq, not-T, lit<, lit≤}
+use borrow.Author.Tests.{ltb-true, ltb-false, not-true}
 use lib.Pow.{pow-add, pow-pos, pow-mono, mod-mod-pow}
 use lib.Count.{leadingZeros, leading-top, leading-le}
 use lib.Ieee.{Float, nan, inf, fin, binary64, low, unlike, odd, ofFields, ofBits, toBits, sum}
 use lib.Ieee.Bits.{cond-no}
 use lib.Ieee.Exact.{HasValue, odd-sign}
 use Rattle.float.specs.FusedMultiplyAdd.{times, fusedMultiplyAdd}
-use Rattle.float.specs.inner.Operands.{Normal, Plain, Decomposed}
+use Rattle.float.specs.inner.Operands.{isNormal, areNear, Plain, Decomposed}
+use Rattle.float.proofs.Flags.{and-left, and-right}
 use Rattle.float.specs.inner.Sticky.{Aligned}
 use Rattle.float.specs.inner.TwoWords.{LeftJustified}
 use Rattle.float.specs.inner.Rounded.{signedSum}
@@ -204,6 +206,43 @@ fused-law x y z s t r m e n d o k X Y Z =
     (third-value z r o k Z))
 
 -- ---- `fused_near`
+
+-- what `isNormal` says of the exponent's field
+abbrev pub Normal : ℕ → Type 0
+Normal n = (1 ≤ n % 2 ^ 63 / 2 ^ 52) × (n % 2 ^ 63 / 2 ^ 52 < 2047)
+
+-- what `areNear` says of the exponents' fields
+pub record Near (x y z : ℕ) : Type 0 where
+  pub first : Normal x
+  pub second : Normal y
+  pub third : Normal z
+  pub least : z % 2 ^ 63 / 2 ^ 52 + 1002 ≤ x % 2 ^ 63 / 2 ^ 52 + y % 2 ^ 63 / 2 ^ 52
+  pub most : x % 2 ^ 63 / 2 ^ 52 + y % 2 ^ 63 / 2 ^ 52 < z % 2 ^ 63 / 2 ^ 52 + 1066
+
+normal-is : (n : ℕ) → isNormal n ≡ true → Normal n
+unfolding isNormal
+normal-is n e = let f = n % 2 ^ 63 / 2 ^ 52 in (ltb-true 0 f (and-left (ltb 0 f) (ltb f 2047) e), ltb-true f 2047 (and-right (ltb 0 f) (ltb f 2047) e))
+
+pub near-is : (x y z : ℕ) → areNear x y z ≡ true → Near x y z
+unfolding areNear
+near-is x y z e =
+    let p = x % 2 ^ 63 / 2 ^ 52 + y % 2 ^ 63 / 2 ^ 52 in
+    let q = z % 2 ^ 63 / 2 ^ 52 + 1002 in
+    let d = and-right (isNormal x) (isNormal y && (isNormal z && (not (ltb p q) && ltb (p - q) 64))) e in
+    let c = and-right (isNormal y) (isNormal z && (not (ltb p q) && ltb (p - q) 64)) d in
+    let b = and-right (isNormal z) (not (ltb p q) && ltb (p - q) 64) c in
+    let l = ltb-false p q (not-true (ltb p q) (and-left (not (ltb p q)) (ltb (p - q) 64) b)) in
+    record {
+      first = normal-is x (and-left (isNormal x) (isNormal y && (isNormal z && (not (ltb p q) && ltb (p - q) 64))) e);
+      second = normal-is y (and-left (isNormal y) (isNormal z && (not (ltb p q) && ltb (p - q) 64)) d);
+      third = normal-is z (and-left (isNormal z) (not (ltb p q) && ltb (p - q) 64) c);
+      least = l;
+      most = within p (z % 2 ^ 63 / 2 ^ 52) l (ltb-true (p - q) 64 (and-right (not (ltb p q)) (ltb (p - q) 64) b));
+    }
+  where
+    within : (p f : ℕ) → f + 1002 ≤ p → p - (f + 1002) < 64 → p < f + 1066
+    within p f h k = omega arith
+
 pub normal-decomposed : (b m x : ℕ) → Normal b → m ≡ 2 ^ 52 + b % 2 ^ 52 → x ≡ b % 2 ^ 63 / 2 ^ 52 → Decomposed (ofBits binary64 b) (leb (2 ^ 63) b) m (x + 51)
 normal-decomposed b m x N p q =
     subst (λ (z : ℕ). Decomposed (ofBits binary64 b) (leb (2 ^ 63) b) z (x + 51)) (sym p)

@@ -10,15 +10,7 @@ use lib.IntN.{ℤ, pos}
 use lib.Ieee.{Float, nan, inf, fin, binary64, up, down, below, level, lt, eq, div}
 use lib.Ieee.Fits.{down-pos, up-pos}
 use Rattle.float.specs.Operations.{negative, isLess}
-use Rattle.float.proofs.Flags.{never, never′}
-
-and-left : (a b : Bool) → a && b ≡ true → a ≡ true
-and-left true b e = refl
-and-left false b e = never e
-
-and-right : (a b : Bool) → a && b ≡ true → b ≡ true
-and-right true b e = e
-and-right false b e = never e
+use Rattle.float.proofs.Flags.{never, never′, and-left, and-right}
 
 or-no : (b : Bool) → b ≡ b || false
 or-no true = refl

@@ -16,10 +16,10 @@ use lib.Ieee.Bits.{is-true, is-false, ofBits-toBits, nanBits-is}
 use lib.Ieee.Exact.{HasValue, round-exact}
 use lib.Ieee.Nearest.{closest}
 use Rattle.float.specs.FusedMultiplyAdd.{times, fusedMultiplyAdd}
-use Rattle.float.specs.inner.Operands.{isPlain, Normal, Plain}
+use Rattle.float.specs.inner.Operands.{isPlain, Plain}
 use Rattle.float.proofs.Value.{value-scale, value-is, times-value, add-value, fma-value, sum-is}
 use Rattle.float.proofs.Flags.{never}
-use Rattle.float.proofs.Decomposition.{ofBits-is, normal-decomposed}
+use Rattle.float.proofs.Decomposition.{Normal, ofBits-is, normal-decomposed}
 
 -- ---- `is_plain`
 pub top-is : ofBits binary64 0x7ff0_0000_0000_0000 ≡ inf false

@@ -1,11 +1,11 @@
 // The exact product and sum of three numbers, by their patterns.
 ghost use mathlib.Core.Path.{_≡_};
+ghost use mathlib.Core.Bool.{true};
 ghost use Prim.Native.Nat.{ℕ, _+_, _*_, _/_, _%_, _^_, _<_};
 ghost use lib.Dec.{leb};
 ghost use lib.Ieee.{binary64, toBits, ofBits};
 ghost use Rattle.float.specs.FusedMultiplyAdd.{fusedMultiplyAdd};
-ghost use Rattle.float.specs.inner.Operands.{isPlain, Normal, Near, Plain, Decomposed};
-ghost use mathlib.Core.Bool.{true};
+ghost use Rattle.float.specs.inner.Operands.{isPlain, isNormal, areNear, Plain, Decomposed};
 ghost use Rattle.float.specs.inner.Sticky.{Aligned};
 ghost use Rattle.float.specs.inner.Rounded.{signedSum};
 ghost use Rattle.float.specs.inner.TwoWords.{LeftJustified};
@@ -16,7 +16,7 @@ use crate::two_words::shifted_right;
 use crate::two_words::wide_is_zero;
 use crate::two_words::wide_mul;
 
-// The pattern of ±a / 2^2272 + ±b / 2^2272, rounded once, where the two numbers stand for a / 2^e and b / 2^e.
+// The pattern of ±a / 2^2272 + ±b / 2^2272, rounded once, of the two numbers a / 2^e and b / 2^e.
 fn signed_sum(np: bool, ph: u64, pl: u64, nc: bool, ch: u64, cl: u64, e: u64) -> u64
     requires { ⌜ (ph < 2 ^ 62) × (ch < 2 ^ 62) × (0 < ph * 2 ^ 64 + pl) × (e < 8000) ⌝ }
     ensures { λ r. ⌜ ((a b : ℕ) → Aligned a (ph * 2 ^ 64 + pl) b (ch * 2 ^ 64 + cl) (2 ^ e)
@@ -51,8 +51,7 @@ struct Digits {
     pub e: u64,
 }
 
-// The pattern of a number that is neither a zero nor an infinity is taken apart, its digits shifted up to the 53rd place: it is
-// m * 2^e / 2^1126.
+// The 53 digits m and the exponent e of a finite number that is not a zero, by its pattern: it is m * 2^e / 2^1126.
 fn decomposed(bits: u64) -> Digits
     requires { ⌜ Plain bits ⌝ }
     ensures { λ r. ⌜ Decomposed (ofBits binary64 bits) (leb (2 ^ 63) bits) (r .m) (r .e) ⌝ }
@@ -104,36 +103,36 @@ fn significand(n: u64) -> u64
 
 // Whether a pattern is a normal number's.
 fn is_normal(n: u64) -> bool
-    ensures { λ r. ⌜ (r ≡ true → Normal n) ⌝ }
+    ensures { λ r. ⌜ r ≡ isNormal n ⌝ }
 {
     let x = field(n);
     if x == 0 { false } else { x < 2047 }
 }
 
-// Whether three normal numbers have all the digits of a * b and c within two words.
-pub(crate) fn are_near(a: u64, b: u64, c: u64) -> bool
-    ensures { λ r. ⌜ (r ≡ true → Near a b c) ⌝ }
+// Whether three numbers are normal and have all the digits of x * y and z within two words, by their patterns.
+pub(crate) fn are_near(x: u64, y: u64, z: u64) -> bool
+    ensures { λ r. ⌜ r ≡ areNear x y z ⌝ }
 {
-    if !is_normal(a) {
+    if !is_normal(x) {
         return false;
     }
-    if !is_normal(b) {
+    if !is_normal(y) {
         return false;
     }
-    if !is_normal(c) {
+    if !is_normal(z) {
         return false;
     }
-    let p = field(a) + field(b);
-    let q = field(c) + 1002;
+    let p = field(x) + field(y);
+    let q = field(z) + 1002;
     if p < q {
         return false;
     }
     p - q < 64
 }
 
-// The same for three numbers that are near: no digit is cut off before the sum is rounded.
+// The same as `fused` for three numbers that are near: no digit is cut off before the sum is rounded.
 pub(crate) fn fused_near(x: u64, y: u64, z: u64) -> u64
-    requires { ⌜ Near x y z ⌝ }
+    requires { ⌜ areNear x y z ≡ true ⌝ }
     ensures { λ r. ⌜ r ≡ toBits binary64 (fusedMultiplyAdd binary64 (ofBits binary64 x) (ofBits binary64 y) (ofBits binary64 z)) ⌝ }
 {
     let e = field(x) + field(y);

@@ -1,10 +1,12 @@
 -- `mul_add` meets its contract. Assumes nothing.
 use mathlib.Core.Path.{_≡_, sym, _∙_, subst}
+use mathlib.Core.Bool.{true}
 use borrow.Author.Needs.{needs}
 use lib.Dec.{T}
 use lib.Ieee.{binary64, fits, toBits}
 use Rattle.float.specs.FusedMultiplyAdd.{fusedMultiplyAdd}
-use Rattle.float.specs.inner.Operands.{Near}
+use Rattle.float.specs.inner.Operands.{areNear}
+use Rattle.float.proofs.Decomposition.{near-is}
 use Rattle.float.proofs.SpecialValues.{not-nan, normal-finite, fma-read, fma-bits, read-back}
 use Rattle.float.proofs.mul_add.Statement.{statement}
 use Rattle.float.proofs.mul_add.Tie as tie
@@ -24,8 +26,8 @@ abbrev start : tie.Then4 → tie.Start
 start c = c .before .before .before .before .before
 
 -- what the test says
-near : (c : tie.Then4) → let a = start c .args in Near (toBits binary64 (a .a)) (toBits binary64 (a .b)) (toBits binary64 (a .c))
-near c = c .before .are-near .ensures (c .if4 .taken)
+near : (c : tie.Then4) → let a = start c .args in areNear (toBits binary64 (a .a)) (toBits binary64 (a .b)) (toBits binary64 (a .c)) ≡ true
+near c = sym (c .before .are-near .ensures) ∙ c .if4 .taken
 
 -- what `fused_near` gives
 bits : (c : tie.After-fused-near) → let a = start (c .before) .args in c .fused-near .result ≡ toBits binary64 (fusedMultiplyAdd binary64 (a .a) (a .b) (a .c))
@@ -56,7 +58,7 @@ float-from-bits-result : tie.Need-float-from-bits-result
 float-from-bits-result c =
     let s = start (c .before) in
     let a = s .args in
-    let n = near (c .before) in
+    let n = near-is (toBits binary64 (a .a)) (toBits binary64 (a .b)) (toBits binary64 (a .c)) (near (c .before)) in
     fma-bits (a .a) (a .b) (a .c) (c .fused-near .result)
     (normal-finite (a .a) (fits-a s) (n .first)) (normal-finite (a .b) (fits-b s) (n .second)) (normal-finite (a .c) (fits-c s) (n .third)) (bits c)
 

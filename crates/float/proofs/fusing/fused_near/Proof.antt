@@ -11,7 +11,7 @@ use Rattle.float.specs.inner.Rounded.{signedSum}
 use Rattle.float.specs.inner.Sticky.{Aligned}
 use Rattle.float.specs.inner.TwoWords.{wide}
 use Rattle.float.proofs.Alignment.{word-most}
-use Rattle.float.proofs.Decomposition.{normal-decomposed, near-facts}
+use Rattle.float.proofs.Decomposition.{Near, near-is, normal-decomposed, near-facts}
 use Rattle.float.proofs.fusing.fused_near.Statement.{statement}
 use Rattle.float.proofs.fusing.fused_near.Tie as tie
 
@@ -21,6 +21,10 @@ fields d = d .before .before .before .before .before
 
 abbrev start : tie.After-field3 → tie.Start
 start f = f .before .before .before
+
+-- what is required of the operands
+near : (f : tie.After-field3) → let a = start f .args in Near (a .x) (a .y) (a .z)
+near f = let a = start f .args in near-is (a .x) (a .y) (a .z) (start f .pre)
 
 -- the exponents' fields
 abbrev X : tie.After-field3 → ℕ
@@ -34,7 +38,7 @@ Z f = f .field3 .result
 
 within : (f : tie.After-field3) → (Z f + 1002 ≤ X f + Y f) × (X f + Y f < Z f + 1066) × (X f + Y f < 4096) × (Z f < 2048)
 within f =
-    let p = start f .pre in
+    let p = near f in
     go (f .before .before .field .ensures) (f .before .field2 .ensures) (f .field3 .ensures) (p .least) (p .most) (p .first .1) (p .second .1) (p .third .1)
   where
     go : {x y z u v w : ℕ} → x ≡ u → y ≡ v → z ≡ w → w + 1002 ≤ u + v → u + v < w + 1066 → u < 2047 → v < 2047 → w < 2047
@@ -43,19 +47,19 @@ within f =
 
 -- the three numbers
 first : (c : tie.After-significand) → let x = start (c .before) .args .x in Decomposed (ofBits binary64 x) (leb (2 ^ 63) x) (c .significand .result) (X (c .before) + 51)
-first c = let f = c .before in normal-decomposed (start f .args .x) (c .significand .result) (X f) (start f .pre .first) (c .significand .ensures) (f .before .before .field .ensures)
+first c = let f = c .before in normal-decomposed (start f .args .x) (c .significand .result) (X f) (near f .first) (c .significand .ensures) (f .before .before .field .ensures)
 
 second : (c : tie.After-significand2)
     → let f = c .before .before in let y = start f .args .y in Decomposed (ofBits binary64 y) (leb (2 ^ 63) y) (c .significand2 .result) (Y f + 51)
 second c =
     let f = c .before .before in
-    normal-decomposed (start f .args .y) (c .significand2 .result) (Y f) (start f .pre .second) (c .significand2 .ensures) (f .before .field2 .ensures)
+    normal-decomposed (start f .args .y) (c .significand2 .result) (Y f) (near f .second) (c .significand2 .ensures) (f .before .field2 .ensures)
 
 third : (c : tie.After-significand3)
     → let f = c .before .before .before .before in let z = start f .args .z in Decomposed (ofBits binary64 z) (leb (2 ^ 63) z) (c .significand3 .result) (Z f + 51)
 third c =
     let f = c .before .before .before .before in
-    normal-decomposed (start f .args .z) (c .significand3 .result) (Z f) (start f .pre .third) (c .significand3 .ensures) (f .field3 .ensures)
+    normal-decomposed (start f .args .z) (c .significand3 .result) (Z f) (near f .third) (c .significand3 .ensures) (f .field3 .ensures)
 
 field-requires : tie.Need-field-requires
 field-requires c κs = search needs
@@ -64,7 +68,10 @@ field-requires-2 : tie.Need-field-requires-2
 field-requires-2 c κs = search needs
 
 add-e : tie.Need-add-e
-add-e c = let a = c .before .before in record { fits = bound (c .before .field .ensures) (c .field2 .ensures) (a .pre .first .1) (a .pre .second .1) }
+add-e c =
+    let a = c .before .before in
+    let n = near-is (a .args .x) (a .args .y) (a .args .z) (a .pre) in
+    record { fits = bound (c .before .field .ensures) (c .field2 .ensures) (n .first .1) (n .second .1) }
   where
     bound : {x y u v : ℕ} → x ≡ u → y ≡ v → u < 2047 → v < 2047 → x + y < 2 ^ 64
     bound e f h k = omega arith
@@ -103,13 +110,13 @@ shifted-right-requires : tie.Need-shifted-right-requires
 shifted-right-requires c κs =
     let f = c .before .before .before .before in
     let k = within f in
-    (bound (c .significand3 .result) (third c .most), near (X f + Y f) (Z f) (k .0) (k .1))
+    (bound (c .significand3 .result) (third c .most), apart (X f + Y f) (Z f) (k .0) (k .1))
   where
     bound : (m : ℕ) → m < 2 ^ 53 → m * 512 < 2 ^ 62
     bound m h = omega arith
 
-    near : (e z : ℕ) → z + 1002 ≤ e → e < z + 1066 → e - (z + 1002) < 64
-    near e z h k = omega arith
+    apart : (e z : ℕ) → z + 1002 ≤ e → e < z + 1066 → e - (z + 1002) < 64
+    apart e z h k = omega arith
 
 -- the words of the product and of the third number, and what the rounded sum of both is
 facts : (d : tie.After-shifted-right)
