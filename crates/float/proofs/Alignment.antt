@@ -10,12 +10,12 @@ use lib.Dec.{T, leb, leb→le, nleb→lt, lit<, lit≤}
 use lib.Pow.{pow-add, pow-pos, pow-mono}
 use Rattle.float.specs.inner.Sticky.{Sticky, FarAbove, Aligned}
 use Rattle.float.specs.inner.TwoWords.{LeftJustified}
-use Rattle.float.proofs.Sticky.{sticky-scale, le-or-lt}
+use Rattle.float.proofs.Sticky.{sticky-least, sticky-scale, le-or-lt}
 
 -- ---- what stands for a whole number is that number
 module _ (k r t : ℕ) (T₀ : 0 < t) (j : Sticky (k * t) r t) where
   low : (v : ℕ) → 2 * v ≤ k → 2 * v ≤ r
-  low v h = le-of-suc-le-suc (lt-of-not-le (λ (g : suc r ≤ 2 * v). lt-irrefl (2 * v * t) (lt-of-le-of-lt (mul-le-mul-right t h) (j .under v g))))
+  low v h = sticky-least (k * t) r t v j (mul-le-mul-right t h)
 
   high : (v : ℕ) → k ≤ 2 * v → r ≤ 2 * v
   high v h = le-of-suc-le-suc (lt-of-not-le (λ (g : suc (2 * v) ≤ r). lt-irrefl (2 * v * t) (lt-of-lt-of-le (j .over v g) (mul-le-mul-right t h))))

@@ -3,7 +3,8 @@ use mathlib.Core.Path.{_≡_, refl, sym, ap, _∙_, subst}
 use mathlib.Core.Logic.{_⊎_, inl, inr}
 use mathlib.Core.Bool.{Bool, true, false, not}
 use Prim.Native.Nat.{ℕ, zero, suc, _+_, _-_, _*_, _/_, _%_, _≤_, _<_}
-use native.Mathlib.Nat.{le-trans, le-of-eq, lt-of-lt-of-le, lt-of-le-of-lt, mul-assoc, mul-comm, mul-right-comm, add-mul, mul-add, mul-le-mul-right, mul-lt-mul-of-pos-right, div-add-mod', mod-lt}
+use native.Mathlib.Nat.{le-of-suc-le-suc, lt-of-not-le, not-le-of-lt, le-trans, le-of-eq, lt-of-lt-of-le, lt-of-le-of-lt, mul-assoc, mul-comm, mul-right-comm, add-mul, mul-add, mul-le-mul-right}
+use native.Mathlib.Nat.{mul-lt-mul-of-pos-right, div-add-mod', mod-lt}
 use native.Mathlib.Nat.{suc-mul}
 use native.Mathlib.Omega.{arith}
 use lib.Dec.{T, leb, leb→le, nleb→lt}
@@ -18,6 +19,10 @@ sticky-exact w t h = record {
 
 pub sticky-is : (m w t : ℕ) → 0 < t → m ≡ w * t → Sticky m w t
 sticky-is m w t h e = subst (λ (z : ℕ). Sticky z w t) (sym e) (sticky-exact w t h)
+
+-- what is at least an even number stays so
+pub sticky-least : (m w t v : ℕ) → Sticky m w t → 2 * v * t ≤ m → 2 * v ≤ w
+sticky-least m w t v j h = le-of-suc-le-suc (lt-of-not-le (λ (g : suc w ≤ 2 * v). not-le-of-lt (j .under v g) h))
 
 -- ---- in two steps
 pub sticky-trans : (m w v t s : ℕ) → Sticky m w t → Sticky w v s → Sticky m v (s * t)

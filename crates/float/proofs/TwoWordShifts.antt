@@ -29,13 +29,6 @@ sticky-times q (suc r) b B = sticky-pos q (suc r * b) (mul-pos (pos r) B)
     pos : (r : ℕ) → 0 < suc r
     pos r = omega arith
 
-pub sticky-ge : (q r : ℕ) → q ≤ sticky q r
-sticky-ge q zero = le-refl q
-sticky-ge q (suc r) = go q
-  where
-    go : (q : ℕ) → q ≤ q + 1 - q % 2
-    go q = omega arith
-
 -- an even number above it stays apart
 pub sticky-beside : (h x r : ℕ) → h * 2 ^ 64 + sticky x r ≡ sticky (h * 2 ^ 64 + x) r
 sticky-beside h x zero = refl
@@ -111,8 +104,12 @@ module _ (hi lo l : ℕ) (L : l ≤ 64) (W : lo < 2 ^ 64) (h : hi * 2 ^ l < 2 ^ 
       (subst (λ (z : ℕ). hi * 2 ^ l + lo / 2 ^ (64 - l) < z) (word l L)
       (upper-fits hi lo (2 ^ (64 - l)) (2 ^ l) (pow-pos (64 - l)) (pow-pos l) (lt-of-lt-of-le W (le-of-eq (sym (word l L)))) (lt-of-lt-of-le h (le-of-eq (sym (word l L))))))
 
-  pub leading-ge : (r : ℕ) → hi * 2 ^ l ≤ sticky ((hi * 2 ^ l) % 2 ^ 64 + lo / 2 ^ (64 - l)) r
-  leading-ge r = le-trans (le-trans (le-of-eq (sym (mod-eq-of-lt h))) (le-add-right ((hi * 2 ^ l) % 2 ^ 64) (lo / 2 ^ (64 - l)))) (sticky-ge ((hi * 2 ^ l) % 2 ^ 64 + lo / 2 ^ (64 - l)) r)
+-- a number whose upper word was shifted up to the top
+pub leading-least : (hi lo l : ℕ) → l ≤ 64 → 2 ^ 63 ≤ hi * 2 ^ l → 2 ^ 63 * 2 ^ (64 - l) ≤ hi * 2 ^ 64 + lo
+leading-least hi lo l L h =
+    le-trans (mul-le-mul-right (2 ^ (64 - l)) h)
+    (le-trans (le-of-eq (mul-assoc hi (2 ^ l) (2 ^ (64 - l)) ∙ ap (λ (z : ℕ). hi * z) (mul-comm (2 ^ l) (2 ^ (64 - l)) ∙ word l L)))
+    (le-add-right (hi * 2 ^ 64) lo))
 
 -- ---- a word shifted by its leading zeros
 pub zeros-lt : (n : ℕ) → 0 < n → n < 2 ^ 64 → leadingZeros 64 n < 64

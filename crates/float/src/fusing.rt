@@ -16,7 +16,7 @@ use crate::two_words::shifted_right;
 use crate::two_words::wide_is_zero;
 use crate::two_words::wide_mul;
 
-// The pattern of ±a / 2^2272 + ±b / 2^2272, rounded once, of the two numbers a / 2^e and b / 2^e.
+// The pattern of ±a / 2^2272 + ±b / 2^2272, rounded once, where the two numbers are a / 2^e and b / 2^e, perhaps one with a sticky bit.
 fn signed_sum(np: bool, ph: u64, pl: u64, nc: bool, ch: u64, cl: u64, e: u64) -> u64
     requires { ⌜ (ph < 2 ^ 62) × (ch < 2 ^ 62) × (0 < ph * 2 ^ 64 + pl) × (e < 8000) ⌝ }
     ensures { λ r. ⌜ ((a b : ℕ) → Aligned a (ph * 2 ^ 64 + pl) b (ch * 2 ^ 64 + cl) (2 ^ e)

@@ -22,7 +22,7 @@ pub(crate) fn sticky(v: u64, rest: u64) -> u64
 // The upper word of (hi * 2^64 + lo) * 2^l, with what is below it marked in the lowest bit.
 pub(crate) fn leading(hi: u64, lo: u64, l: u64) -> u64
     requires { ⌜ (l < 64) × (hi * 2 ^ l < 2 ^ 64) ⌝ }
-    ensures { λ r. ⌜ Sticky (hi * 2 ^ 64 + lo) r (2 ^ (64 - l)) × (hi * 2 ^ l ≤ r) ⌝ }
+    ensures { λ r. ⌜ Sticky (hi * 2 ^ 64 + lo) r (2 ^ (64 - l)) ⌝ }
 {
     sticky((hi << l) + (lo / 2 >> (63 - l)), lo << l)
 }
@@ -43,7 +43,7 @@ fn shift_right_sticky_less(hi: u64, lo: u64, d: u64) -> Wide
     }
 }
 
-// The same for any d.
+// (hi * 2^64 + lo) / 2^d for any d, with what is cut off marked in the lowest bit.
 pub(crate) fn shift_right_sticky(hi: u64, lo: u64, d: u64) -> Wide
     requires { ⌜ 0 < hi * 2 ^ 64 + lo ⌝ }
     ensures { λ r. ⌜ Sticky (hi * 2 ^ 64 + lo) (wide r) (2 ^ d) ⌝ }
@@ -79,7 +79,7 @@ fn carried(a: u64, b: u64) -> Wide
     }
 }
 
-// Every bit of x turned round, where n.
+// x, with every bit turned round where n.
 fn flipped(n: bool, x: u64) -> u64
     ensures { λ r. ⌜ r ≡ cond n (0xffff_ffff_ffff_ffff - x) x ⌝ }
 {

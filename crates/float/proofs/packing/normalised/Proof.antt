@@ -7,7 +7,8 @@ use native.Mathlib.Omega.{arith}
 use lib.Count.{leadingZeros, leading-le}
 use lib.Ieee.{binary64, toBits}
 use Rattle.float.specs.inner.Sticky.{Sticky}
-use Rattle.float.proofs.TwoWordShifts.{zeros-lt, zeros-top, finish-high, finish-low, rounded-up}
+use Rattle.float.proofs.Sticky.{sticky-least}
+use Rattle.float.proofs.TwoWordShifts.{leading-least, zeros-lt, zeros-top, finish-high, finish-low, rounded-up}
 use Rattle.float.proofs.packing.normalised.Statement.{statement}
 use Rattle.float.proofs.packing.normalised.Tie as tie
 
@@ -66,7 +67,11 @@ sub-rounded-2 c = let l = leading-le 64 (c .before .before .args .hi) in omega a
 rounded-requires-2 : tie.Need-rounded-requires-2
 rounded-requires-2 c κs =
     let a = c .before .before in
-    (le-trans (zeros-top (a .args .hi) (hi-pos a (c .before .if1 .left)) (a .fits .hi .fits) .0) (c .leading .ensures .1), omega arith)
+    let hi = a .args .hi in
+    let lo = a .args .lo in
+    let l = leadingZeros 64 hi in
+    let t = zeros-top hi (hi-pos a (c .before .if1 .left)) (a .fits .hi .fits) .0 in
+    (sticky-least (hi * 2 ^ 64 + lo) (c .leading .result) (2 ^ (64 - l)) (2 ^ 62) (c .leading .ensures) (leading-least hi lo l (leading-le 64 hi) t), omega arith)
 
 returns : tie.Need-returns
 returns c m s =
@@ -84,7 +89,7 @@ returns-2 c m s =
     let a = c .before .before .before in
     let hi = a .args .hi in
     let l = leadingZeros 64 hi in
-    c .rounded2 .ensures (m * 2 ^ 64) (finish-high m (hi * 2 ^ 64 + a .args .lo) (c .before .leading .result) (a .args .e) l (leading-le 64 hi) s (c .before .leading .ensures .0))
+    c .rounded2 .ensures (m * 2 ^ 64) (finish-high m (hi * 2 ^ 64 + a .args .lo) (c .before .leading .result) (a .args .e) l (leading-le 64 hi) s (c .before .leading .ensures))
     ∙ ap (toBits binary64) (rounded-up 1198 (a .args .neg) m)
 
 pub normalised-spec : {M : Type 1} → statement M

@@ -4,7 +4,7 @@ use Prim.Native.Nat.{ℕ, _+_, _-_, _*_, _%_, _^_, _≤_, _<_}
 use native.Mathlib.Nat.{le-of-lt}
 use borrow.Author.Needs.{needs}
 use Rattle.float.specs.inner.Sticky.{Sticky, sticky}
-use Rattle.float.proofs.TwoWordShifts.{below-top, leading-some, leading-fits, leading-ge}
+use Rattle.float.proofs.TwoWordShifts.{below-top, leading-some, leading-fits}
 use Rattle.float.proofs.two_words.leading.Statement.{statement}
 use Rattle.float.proofs.two_words.leading.Tie as tie
 
@@ -39,10 +39,8 @@ returns c =
     let lo = a .args .lo in
     let l = a .args .l in
     let rest = (lo * 2 ^ l) % 2 ^ 64 in
-    let e = c .sticky .ensures ∙ ap (λ (z : ℕ). sticky ((hi * 2 ^ l) % 2 ^ 64 + z) rest) (below-top lo l (a .pre .0)) in (
-      subst (λ (r : ℕ). Sticky (hi * 2 ^ 64 + lo) r (2 ^ (64 - l))) (sym e) (leading-some hi lo l (le-of-lt (a .pre .0)) (a .fits .lo .fits) (a .pre .1)),
-      subst (λ (r : ℕ). hi * 2 ^ l ≤ r) (sym e) (leading-ge hi lo l (le-of-lt (a .pre .0)) (a .fits .lo .fits) (a .pre .1) rest),
-    )
+    let e = c .sticky .ensures ∙ ap (λ (z : ℕ). sticky ((hi * 2 ^ l) % 2 ^ 64 + z) rest) (below-top lo l (a .pre .0)) in
+    subst (λ (r : ℕ). Sticky (hi * 2 ^ 64 + lo) r (2 ^ (64 - l))) (sym e) (leading-some hi lo l (le-of-lt (a .pre .0)) (a .fits .lo .fits) (a .pre .1))
 
 pub leading-spec : {M : Type 1} → statement M
 leading-spec = tie.close (tie.spec shl-sticky sub-sticky shr-sticky add-sticky shl-sticky-2 sticky-requires returns)
