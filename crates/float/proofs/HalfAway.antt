@@ -197,19 +197,6 @@ zero-value s e = (refl, simp zero-mul)
 round-zero : (s : Bool) (e : ℤ) → T (fits binary64 (fin s zero e)) → fin s zero e ≡ round binary64 s 0 1
 round-zero s e t = whole-unique binary64 (fin s zero e) (round binary64 s 0 1) s 0 t (round-fits binary64 s 0 1) (zero-value s e) (round-whole binary64 s 0 (le-of-lt (pow-pos 53)))
 
-pub zero-stays : (x : Float) → T (fits binary64 x) → T (eq x (fin false 0 (pos 0))) → x ≡ roundToIntegralTiesToAway x
-unfolding roundToIntegralTiesToAway eq
-zero-stays nan t p = absurd p
-zero-stays (inf s) t p = absurd p
-zero-stays (fin s (suc m) e) t p = absurd (zero-only s m e p)
-zero-stays (fin s zero e) t p =
-    let d = down-pos e in
-    let c : ltb (0 * up e) (4503599627370496 * down e) ≡ true = lt-ltb (0 * up e) (4503599627370496 * down e) (omega arith) in
-    let w : 0 < 2 * down e = omega arith in
-    let b : (2 * (0 * up e) + down e) / (2 * down e) < 1 = div-lt-iff-lt-mul w .1 (omega arith) in
-    let q : (2 * (0 * up e) + down e) / (2 * down e) ≡ 0 = omega arith in
-    rw (c, q) (round-zero s e t)
-
 pub large-stays : (x : Float) → T (not (lt (abs x) (fin false 1 (pos 52)))) → x ≡ roundToIntegralTiesToAway x
 unfolding roundToIntegralTiesToAway abs lt
 large-stays nan p = refl
@@ -271,6 +258,19 @@ unfolding roundToIntegralTiesToAway
 near s m e t h =
     let c : ltb (m * up e) (4503599627370496 * down e) ≡ true = lt-ltb (m * up e) (4503599627370496 * down e) (omega arith) in
     rw (floor m e (fits-plus binary64 s m e t) h, halves (m * up e) (down e) (down-pos e), c)
+
+pub zero-stays : (x : Float) → T (fits binary64 x) → T (eq x (fin false 0 (pos 0))) → x ≡ roundToIntegralTiesToAway x
+unfolding eq
+zero-stays nan t p = absurd p
+zero-stays (inf s) t p = absurd p
+zero-stays (fin s (suc m) e) t p = absurd (zero-only s m e p)
+zero-stays (fin s zero e) t p =
+    let d = down-pos e in
+    let h : 0 * up e * 1 < 4503599627370496 * down e = omega arith in
+    let f = floor 0 e (fits-plus binary64 s 0 e t) h in
+    let b : 2 * (0 * up e) / down e < 1 = div-lt-iff-lt-mul d .1 (omega arith) in
+    let n : 0 ≡ (toUnsigned 64 (add binary64 (fin false 0 e) (fin false 0 e)) + 1) / 2 = omega (arith, f, b) in
+    round-zero s e t ∙ ap (λ (z : ℕ). round binary64 s z 1) n ∙ near s 0 e t h
 
 pub near-plus : (x : Float) → T (fits binary64 x) → Below x → T (not (lt x (fin false 0 (pos 0)))) → T (not (eq x (fin false 0 (pos 0))))
     → ofInt binary64 (pos ((toUnsigned 64 (add binary64 (abs x) (abs x)) + 1) / 2)) ≡ roundToIntegralTiesToAway x

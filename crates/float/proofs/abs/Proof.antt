@@ -1,3 +1,4 @@
+-- `abs` meets its contract. Assumes nothing.
 use lib.Ieee.{ofBits}
 use denote.Floats.{passes}
 use Rattle.float.proofs.HalfAway.{yes-so, no-so, abs-zero, abs-minus, abs-plus}
