@@ -1,14 +1,14 @@
 -- The sum and the difference of two numbers, by numbers that stand for them. Assumes nothing.
 use mathlib.Core.Path.{_≡_, refl, sym, ap, ap₂, _∙_, subst}
-use mathlib.Core.Logic.{_⊎_, inl, inr}
-use mathlib.Core.Bool.{Bool, true, false, not, _&&_, Bool·beq, cond}
-use Prim.Native.Nat.{ℕ, zero, suc, _+_, _-_, _*_, _/_, _%_, _^_, _≤_, _<_, zero-le, compare, Ordering, Ordering·lt}
-use native.Mathlib.Nat.{le-of-eq, le-of-lt, le-trans, lt-irrefl, add-comm, add-mul, mul-comm, mul-sub, mul-lt-mul-of-pos-right, zero-mul, zero-div, pow-suc}
+use mathlib.Core.Logic.{inl, inr}
+use mathlib.Core.Bool.{Bool, true, false, _&&_, Bool·beq, cond}
+use Prim.Native.Nat.{ℕ, suc, _+_, _-_, _*_, _/_, _%_, _^_, _≤_, _<_, zero-le}
+use native.Mathlib.Nat.{le-of-eq, le-of-lt, add-comm, add-mul, mul-comm, mul-sub, mul-lt-mul-of-pos-right, zero-div, pow-suc}
 use native.Mathlib.Omega.{arith}
-use lib.Dec.{T, ltb, lit<, lit≤}
-use lib.Pow.{pow-add, pow-pos}
+use lib.Dec.{T, ltb}
+use lib.Pow.{pow-pos}
 use borrow.Author.Tests.{lt-ltb, le-ltb}
-use lib.Ieee.{binary64, low, size, sum, round, units, unlike, toBits}
+use lib.Ieee.{binary64, size, units, unlike, toBits}
 use lib.Ieee.Nearest.{closest}
 use Rattle.float.specs.inner.Sticky.{Sticky, ExactOrSticky, FarAbove, Aligned}
 use Rattle.float.specs.inner.Rounded.{rounded, signedSum}

@@ -1,14 +1,12 @@
 -- One of two numbers is shifted down to the other's exponent: the two frame the exact numbers. Assumes nothing.
 use mathlib.Core.Path.{_≡_, refl, sym, ap, _∙_, subst}
-use mathlib.Core.Logic.{_⊎_, inl, inr}
-use mathlib.Core.Bool.{Bool, true, false, not}
-use Prim.Native.Nat.{ℕ, zero, suc, _+_, _-_, _*_, _/_, _%_, _^_, _≤_, _<_, zero-le}
-use native.Mathlib.Nat.{le-refl, le-of-eq, le-of-lt, le-trans, lt-of-lt-of-le, lt-of-le-of-lt, lt-of-not-le, not-le-of-lt, lt-irrefl, le-of-suc-le-suc, eq-or-lt-of-le, add-comm, add-zero, mul-comm}
-use native.Mathlib.Nat.{mul-assoc, mul-le-mul-left, mul-le-mul-right, mul-lt-mul-of-pos-right, one-mul, le-add-right, lt-of-mul-lt-mul-right, eq-of-mul-eq-mul-right, div-add-mod'}
+use mathlib.Core.Logic.{inl, inr}
+use Prim.Native.Nat.{ℕ, zero, suc, _+_, _-_, _*_, _/_, _%_, _^_, _≤_, _<_}
+use native.Mathlib.Nat.{le-of-eq, le-of-lt, le-trans, lt-of-lt-of-le, lt-of-le-of-lt, lt-of-not-le, not-le-of-lt, lt-irrefl, le-of-suc-le-suc, eq-or-lt-of-le}
+use native.Mathlib.Nat.{mul-assoc, mul-le-mul-left, mul-le-mul-right, le-add-right, lt-of-mul-lt-mul-right, eq-of-mul-eq-mul-right, div-add-mod'}
 use native.Mathlib.Omega.{arith}
-use lib.Dec.{T, leb, leb→le, nleb→lt, lit<, lit≤}
 use lib.Pow.{pow-add, pow-pos, pow-mono}
-use Rattle.float.specs.inner.Sticky.{Sticky, FarAbove, Aligned}
+use Rattle.float.specs.inner.Sticky.{Sticky, Aligned}
 use Rattle.float.specs.inner.TwoWords.{LeftJustified}
 use Rattle.float.proofs.Sticky.{sticky-least, sticky-scale, le-or-lt}
 

@@ -1,15 +1,15 @@
 -- Exported for bounds of the coefficients. Bounds by powers of two, for binary64. The exponents are numerals, so a law's side conditions are answered by `tt`.
 use mathlib.Core.Path.{_≡_, sym, ap, _∙_, subst}
-use Prim.Native.Nat.{ℕ, zero, suc, _+_, _*_, _/_, _^_, _≤_, _<_, zero-le}
+use Prim.Native.Nat.{ℕ, zero, suc, _+_, _*_, _^_, _≤_, _<_, zero-le}
 use native.Mathlib.Nat.{le-trans, le-of-eq, one-mul, mul-le-mul-right, add-mul, add-le-add, two-pow-succ}
 use native.Mathlib.Omega.{arith}
-use mathlib.Core.Bool.{true, false, not}
+use mathlib.Core.Bool.{true, false}
 use lib.IntN.{ℤ, pos, negsuc, natAbs}
 use lib.Dec.{T, ltb, leb, ltb→lt, leb→le, lit<}
 use lib.Pow.{pow-add, pow-pos, pow-mono}
 use lib.Ieee.{Float, nan, inf, fin, binary64, down, neg, add, mul, div, ofInt}
 use Rattle.float.specs.FusedMultiplyAdd.{times, fusedMultiplyAdd}
-use Rattle.float.specs.Operations.{abs, maximumNumber}
+use Rattle.float.specs.Operations.{abs}
 use Rattle.float.proofs.Sizes.{Size, Reach, Number, size-neg, size-round, reach-round, holds-up, holds-down, holds-many, times-size, add-size, mul-size, mul-reach, div-size, div-reach}
 
 -- |x| ≤ 2 ^ k: so x is finite

@@ -1,17 +1,17 @@
 -- A pattern taken apart, and the fused multiply-add of three of them. Assumes nothing.
-use mathlib.Core.Path.{_≡_, refl, sym, ap, ap₂, _∙_, subst}
-use mathlib.Core.Logic.{_⊎_, inl, inr}
-use mathlib.Core.Bool.{Bool, true, false, not, _&&_, cond}
-use Prim.Native.Nat.{ℕ, zero, suc, _+_, _-_, _*_, _/_, _%_, _^_, _≤_, _<_, zero-le}
-use native.Mathlib.Nat.{le-of-eq, le-of-lt, le-trans, lt-of-lt-of-le, lt-of-le-of-lt, lt-of-not-le, not-le-of-lt, lt-irrefl, zero-lt-suc, le-add-right, add-comm, mul-one, mul-comm, mul-assoc}
-use native.Mathlib.Nat.{mul-left-comm, mul-right-comm, mul-le-mul, mul-le-mul-left, mul-le-mul-right, mul-lt-mul-of-pos-right, lt-of-mul-lt-mul-right, le-of-mul-le-mul-right, mod-lt, mod-eq-of-lt}
+use mathlib.Core.Path.{_≡_, refl, sym, ap, _∙_, subst}
+use mathlib.Core.Logic.{inl}
+use mathlib.Core.Bool.{Bool, true, not, _&&_, cond}
+use Prim.Native.Nat.{ℕ, zero, suc, _+_, _-_, _*_, _/_, _%_, _^_, _≤_, _<_}
+use native.Mathlib.Nat.{le-of-eq, le-of-lt, le-trans, lt-of-lt-of-le, lt-of-le-of-lt, lt-of-not-le, not-le-of-lt, le-add-right, mul-one, mul-comm, mul-assoc}
+use native.Mathlib.Nat.{mul-left-comm, mul-le-mul-left, mul-le-mul-right, mul-lt-mul-of-pos-right, lt-of-mul-lt-mul-right, le-of-mul-le-mul-right, mod-lt, mod-eq-of-lt}
 use native.Mathlib.Nat.{mul-mod-left, div-lt-iff-lt-mul, div-add-mod'}
 use native.Mathlib.Omega.{arith}
-use lib.Dec.{T, leb, ltb, eqb, eqb→eq, not-T, lit<, lit≤}
+use lib.Dec.{T, leb, ltb, eqb, eqb→eq, not-T, lit≤}
 use borrow.Author.Tests.{ltb-true, ltb-false, not-true}
 use lib.Pow.{pow-add, pow-pos, pow-mono, mod-mod-pow}
-use lib.Count.{leadingZeros, leading-top, leading-le}
-use lib.Ieee.{Float, nan, inf, fin, binary64, low, unlike, odd, ofFields, ofBits, toBits, sum}
+use lib.Count.{leadingZeros, leading-top}
+use lib.Ieee.{Float, nan, inf, binary64, low, unlike, odd, ofFields, ofBits, toBits, sum}
 use lib.Ieee.Bits.{cond-no}
 use lib.Ieee.Exact.{HasValue, odd-sign}
 use Rattle.float.specs.FusedMultiplyAdd.{times, fusedMultiplyAdd}

@@ -1,18 +1,18 @@
 -- x + x is exact where x is below 2 ^ 52, and its whole part gives x rounded half away from zero.
 use mathlib.Core.Path.{_≡_, refl, sym, ap, subst, _∙_}
-use mathlib.Core.Bool.{Bool, true, false, not, cond, _&&_}
-use Prim.Native.Nat.{ℕ, zero, suc, _+_, _-_, _*_, _/_, _%_, _^_, _≤_, _<_, min}
-use native.Mathlib.Nat.{min-eq-left, mul-assoc, mul-comm, mul-one, zero-mul, mul-pos, div-lt-iff-lt-mul, div-div-eq-div-mul, add-div-right, lt-of-lt-of-le, lt-of-le-of-lt, le-trans, le-of-lt}
-use native.Mathlib.Nat.{lt-of-not-le, le-suc, zero-lt-suc, mul-le-mul, mul-lt-mul-of-pos-right, not-le-of-lt, pow-succ'}
+use mathlib.Core.Bool.{Bool, true, false, not, _&&_}
+use Prim.Native.Nat.{ℕ, zero, suc, _+_, _-_, _*_, _/_, _%_, _^_, _≤_, _<_}
+use native.Mathlib.Nat.{min-eq-left, mul-assoc, mul-comm, mul-one, zero-mul, mul-pos, div-lt-iff-lt-mul, div-div-eq-div-mul, add-div-right, lt-of-lt-of-le, le-trans, le-of-lt}
+use native.Mathlib.Nat.{lt-of-not-le, le-suc, zero-lt-suc, not-le-of-lt, pow-succ'}
 use native.Mathlib.Omega.{arith}
 use native.Mathlib.Decide.{decLe}
 use lib.Dec.{T, eqb, eqb→eq, lt→ltb, nltb→le, ltb, leb, ltb→lt, leb→le}
 use lib.IntN.{ℤ, pos, negsuc}
 use lib.Pow.{pow-pos, pow-add, pow-mono, pow-lt, shl-lt}
-use lib.Ieee.{Float, nan, inf, fin, Format, binary64, prec, emax, low, up, down, add, sum, round, units, odd, neg, fits, lt, eq, ofInt, toUnsigned}
+use lib.Ieee.{Float, nan, inf, fin, Format, binary64, prec, emax, low, up, down, add, sum, round, neg, fits, lt, eq, ofInt, toUnsigned}
 use Rattle.float.specs.Operations.{abs, roundToIntegralTiesToAway}
 use borrow.Author.Tests.{lt-ltb, le-ltb}
-use lib.Ieee.Fits.{down-pos, up-pos, and-l, and-r, and-i, eq→eqb, round-fits}
+use lib.Ieee.Fits.{down-pos, up-pos, and-l, and-i, eq→eqb, round-fits}
 use lib.Ieee.Back.{round-whole, whole-unique}
 use mir.Facts.{T-not}
 use lib.Ieee.Exact.{HasValue, round-exact}

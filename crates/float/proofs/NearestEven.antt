@@ -1,8 +1,8 @@
 -- What `sticky`, `nearest_even` and `nearest_even_53` compute, on plain numbers. Assumes nothing.
-use mathlib.Core.Path.{_≡_, refl, sym, ap, _∙_, subst}
+use mathlib.Core.Path.{_≡_, refl, sym, ap, _∙_}
 use Prim.Native.Nat.{ℕ, zero, suc, _+_, _-_, _*_, _/_, _%_, _^_, _≤_, _<_, compare, Ordering, Ordering·lt, Ordering·eq, Ordering·gt}
-use native.Mathlib.Nat.{le-trans, le-of-eq, lt-of-le-of-lt, mul-assoc, mul-comm, mul-right-comm, mul-pos, suc-mul, pow-suc, div-add-mod', div-mul-le-self, div-le-self, mod-lt, mod-eq-of-lt}
-use native.Mathlib.Nat.{div-div-eq-div-mul, add-comm}
+use native.Mathlib.Nat.{lt-of-le-of-lt, mul-assoc, mul-right-comm, suc-mul, pow-suc, div-add-mod', div-mul-le-self, div-le-self, mod-lt, mod-eq-of-lt}
+use native.Mathlib.Nat.{div-div-eq-div-mul}
 use native.Mathlib.Omega.{arith}
 use lib.Pow.{pow-pos}
 use lib.Bits.{bitOr, bitAnd, or-add-and, and-mask}

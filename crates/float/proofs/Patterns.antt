@@ -1,20 +1,20 @@
 -- The bit pattern of q * 2 ^ k units, where q is a rounded number: k * 2 ^ (prec - 1) + q, whether or not the result is normal and whether or not rounding carried. Assumes nothing.
 use mathlib.Core.Path.{_≡_, refl, sym, ap, _∙_, subst}
 use mathlib.Core.Logic.{_⊎_, inl, inr}
-use Prim.Native.Nat.{ℕ, zero, suc, _+_, _-_, _*_, _/_, _%_, _^_, _≤_, _<_, zero-le}
-use native.Mathlib.Nat.{le-refl, le-of-eq, le-trans, lt-of-lt-of-le, lt-of-le-of-lt, le-of-lt, eq-or-lt-of-le, mul-assoc, mul-comm, mul-one, mul-pos, mul-div-cancel, mul-le-mul-right, suc-mul}
+use Prim.Native.Nat.{ℕ, suc, _+_, _-_, _*_, _/_, _^_, _≤_, _<_}
+use native.Mathlib.Nat.{le-refl, le-of-eq, le-trans, lt-of-lt-of-le, lt-of-le-of-lt, eq-or-lt-of-le, mul-one, mul-div-cancel, mul-le-mul-right, suc-mul}
 use native.Mathlib.Nat.{add-mul, pow-succ', add-assoc}
 use native.Mathlib.Omega.{arith}
 use mathlib.Core.Bool.{Bool, true, false, not, cond}
 use lib.IntN.{ℤ}
-use lib.Dec.{T, ltb, lt→ltb, ltb→lt, nltb→le, lit<}
+use lib.Dec.{T, ltb, ltb→lt, nltb→le}
 use borrow.Author.Tests.{lt-ltb, le-ltb}
 use lib.Arith.{le→nltb}
 use lib.Pow.{pow-add, pow-pos, pow-mono, pow-lt, shl-lt}
-use lib.Ieee.{Float, nan, inf, fin, Format, binary64, prec, emax, low, up, down, hid, ones, top, size, odd, units, round, toBits, ofBits, isNan}
+use lib.Ieee.{Float, nan, inf, fin, Format, binary64, prec, emax, low, up, down, hid, ones, top, size, odd, units, toBits}
 use lib.Ieee.Digits.{size-le}
-use lib.Ieee.Fits.{two, two-le-pos, down-pos, round-fits}
-use lib.Ieee.Bits.{ofBits-toBits, cond-no}
+use lib.Ieee.Fits.{two, down-pos}
+use lib.Ieee.Bits.{cond-no}
 use lib.Ieee.Exact.{HasValue, units-val}
 use Rattle.float.proofs.RoundingByDigits.{size-exact}
 

@@ -1,14 +1,14 @@
 -- `round` of a fraction whose divisor is a power of two, from the leading digits of its numerator: the core of the fused multiply-add's proof. Assumes nothing.
-use mathlib.Core.Path.{_≡_, refl, sym, ap, _∙_, subst}
+use mathlib.Core.Path.{_≡_, sym, ap, _∙_}
 use mathlib.Core.Logic.{_⊎_, inl, inr}
-use Prim.Native.Nat.{ℕ, zero, suc, _+_, _-_, _*_, _/_, _%_, _^_, _≤_, _<_, zero-le}
-use native.Mathlib.Nat.{le-antisymm, le-of-eq, le-trans, lt-of-lt-of-le, lt-of-le-of-lt, lt-of-not-le, not-le-of-lt, le-of-lt, le-of-suc-le-suc, mul-assoc, mul-comm, mul-right-comm, mul-one}
+use Prim.Native.Nat.{ℕ, suc, _+_, _-_, _*_, _/_, _^_, _≤_, _<_}
+use native.Mathlib.Nat.{le-antisymm, le-of-eq, le-trans, lt-of-lt-of-le, lt-of-not-le, not-le-of-lt, mul-assoc}
 use native.Mathlib.Nat.{mul-pos, pow-succ', le-div-iff-mul-le, div-lt-iff-lt-mul, eq-zero-or-pos}
 use native.Mathlib.Omega.{arith}
 use mathlib.Core.Bool.{Bool}
 use lib.Pow.{pow-add, pow-pos, pow-mono}
-use lib.Ieee.{Float, Format, prec, emax, low, size, units, round}
-use lib.Ieee.Digits.{size-lt, size-le, size-reaches}
+use lib.Ieee.{Format, prec, low, size, units, round}
+use lib.Ieee.Digits.{size-lt, size-le}
 use lib.Ieee.Fits.{round-is}
 use lib.Ieee.Nearest.{closest, closest-same, div-same}
 use Rattle.float.specs.inner.Sticky.{Sticky}

@@ -1,16 +1,16 @@
 -- How far the results of a product, a sum and of both in one are from one another, where their operands are close and not large.
 use mathlib.Core.Path.{_≡_, refl, sym, ap₂, _∙_}
 use mathlib.Core.Bool.{Bool, true, false}
-use Prim.Native.Nat.{ℕ, _+_, _-_, _*_, _^_, _≤_, _<_}
+use Prim.Native.Nat.{ℕ, _+_, _*_, _^_, _≤_, _<_}
 use native.Mathlib.Nat.{le-trans, le-of-eq, add-mul, mul-pos, mul-le-mul, mul-le-mul-right, le-of-mul-le-mul-right}
 use native.Mathlib.Omega.{arith}
 use lib.Dec.{T}
 use lib.Pow.{pow-pos}
-use lib.Ieee.{Float, nan, inf, fin, Format, low, up, down, unlike, size, round, sum, add, mul, le}
-use lib.Ieee.Fits.{two, down-pos}
+use lib.Ieee.{Float, nan, inf, fin, Format, low, up, down, unlike, size, round, add, mul, le}
+use lib.Ieee.Fits.{down-pos}
 use lib.Ieee.Exact.{HasValue}
 use lib.Ieee.Scale.{round-same}
-use Rattle.float.specs.FusedMultiplyAdd.{times, fusedMultiplyAdd}
+use Rattle.float.specs.FusedMultiplyAdd.{fusedMultiplyAdd}
 use Rattle.float.specs.Operations.{negative}
 use Rattle.float.proofs.InUnits.{mag, plus, minus, over, under, AtMost, at-most-sides}
 use Rattle.float.proofs.Value.{value-scale, times-value, add-value, fma-value}

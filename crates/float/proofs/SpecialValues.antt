@@ -1,20 +1,19 @@
 -- Zeros, infinities and NaNs, and the patterns of the other numbers. Assumes nothing.
 use mathlib.Core.Path.{_≡_, refl, sym, ap, ap₂, _∙_, subst}
-use mathlib.Core.Logic.{_⊎_, inl, inr}
+use mathlib.Core.Logic.{inl, inr}
 use mathlib.Core.Bool.{Bool, true, false, not, _&&_, _||_, Bool·beq, cond, true≢false}
 use Prim.Native.Nat.{ℕ, zero, suc, _+_, _-_, _*_, _/_, _%_, _^_, _≤_, _<_, zero-le}
-use native.Mathlib.Nat.{le-of-eq, le-of-lt, le-trans, le-antisymm, lt-of-lt-of-le, lt-of-not-le, lt-irrefl, zero-lt-suc, eq-zero-or-pos, le-of-suc-le-suc, add-zero, sub-zero, mul-one, one-mul}
-use native.Mathlib.Nat.{zero-mul, mul-zero, mul-comm, mul-assoc, mul-right-comm, mul-pos, mod-lt, div-lt-iff-lt-mul, le-div-iff-mul-le, div-add-mod'}
+use native.Mathlib.Nat.{le-of-eq, le-antisymm, lt-of-lt-of-le, lt-of-not-le, lt-irrefl, zero-lt-suc, eq-zero-or-pos, le-of-suc-le-suc, add-zero, mul-one}
+use native.Mathlib.Nat.{zero-mul, mul-zero, mul-comm, mul-assoc, mul-pos, mod-lt, div-lt-iff-lt-mul, le-div-iff-mul-le}
 use native.Mathlib.Omega.{arith}
 use lib.IntN.{ℤ, pos, _+ℤ_}
-use lib.Dec.{T, leb, ltb, eqb, eqb→eq, not-T}
-use lib.Pow.{pow-add, pow-pos, mod-mod-pow}
-use borrow.Author.Tests.{lt-ltb, le-ltb, eq-eqb, ne-eqb, ltb-true, ltb-false}
+use lib.Dec.{T, leb, ltb, eqb}
+use lib.Pow.{pow-pos, mod-mod-pow}
+use borrow.Author.Tests.{lt-ltb, le-ltb, ne-eqb, ltb-true, ltb-false}
 use lib.Ieee.{Float, nan, inf, fin, Format, binary64, prec, emax, low, unlike, up, down, odd, units, round, sum, neg, add, mul, lt, eq, ne, isNan, ofFields, ofBits, nanBits, toBits, fits}
-use lib.Ieee.Fits.{up-pos, down-pos, eq→eqb, round-is, add-fits}
-use lib.Ieee.Bits.{is-true, is-false, ofBits-toBits, nanBits-is}
+use lib.Ieee.Fits.{up-pos, down-pos, round-is, add-fits}
+use lib.Ieee.Bits.{ofBits-toBits, nanBits-is}
 use lib.Ieee.Exact.{HasValue, round-exact}
-use lib.Ieee.Nearest.{closest}
 use Rattle.float.specs.FusedMultiplyAdd.{times, fusedMultiplyAdd}
 use Rattle.float.specs.inner.Operands.{isPlain, Plain}
 use Rattle.float.proofs.Value.{value-scale, value-is, times-value, add-value, fma-value, sum-is}

@@ -1,17 +1,17 @@
 -- Two words, hi * 2 ^ 64 + lo, cut by a part of a word. 2 ^ 64 is a * b. Assumes nothing.
 use mathlib.Core.Path.{_≡_, refl, sym, ap, ap₂, _∙_, subst}
-use mathlib.Core.Logic.{_⊎_, inl, inr}
+use mathlib.Core.Logic.{inl, inr}
 use Prim.Native.Nat.{ℕ, zero, suc, _+_, _-_, _*_, _/_, _%_, _^_, _≤_, _<_}
-use native.Mathlib.Nat.{le-refl, le-trans, le-of-eq, le-of-lt, lt-of-lt-of-le, lt-of-le-of-lt, lt-irrefl, le-add-right, add-zero, zero-mul, mul-one, one-mul, mul-assoc, mul-comm, mul-right-comm}
-use native.Mathlib.Nat.{mul-left-comm, add-mul, mul-pos, mul-le-mul-right, mul-lt-mul-of-pos-right, lt-of-mul-lt-mul-right, mul-add-div-right, mul-add-mod-self-right, mul-div-cancel, mul-mod-left}
+use native.Mathlib.Nat.{le-refl, le-trans, le-of-eq, le-of-lt, lt-of-lt-of-le, lt-of-le-of-lt, lt-irrefl, le-add-right, add-zero, zero-mul, one-mul, mul-assoc, mul-comm}
+use native.Mathlib.Nat.{add-mul, mul-pos, mul-le-mul-right, mul-lt-mul-of-pos-right, lt-of-mul-lt-mul-right, mul-add-div-right, mul-add-mod-self-right, mul-div-cancel, mul-mod-left}
 use native.Mathlib.Nat.{mod-lt, mod-eq-of-lt, div-lt-iff-lt-mul, div-add-mod', div-div-eq-div-mul, pow-succ', add-assoc}
 use native.Mathlib.Omega.{arith}
 use mathlib.Core.Bool.{Bool}
 use lib.Arith.{mod-mul, digits-lt}
 use lib.Pow.{pow-add, pow-pos, high}
 use lib.Pow as P
-use lib.Count.{leadingZeros, leading-top, leading-le}
-use lib.Ieee.{binary64, round, low}
+use lib.Count.{leadingZeros, leading-top}
+use lib.Ieee.{binary64, low}
 use lib.Ieee.Scale.{round-same}
 use Rattle.float.specs.inner.Sticky.{Sticky, sticky, ExactOrSticky}
 use Rattle.float.specs.inner.Rounded.{rounded}

@@ -1,21 +1,16 @@
 -- Sums and exact products of floats, by any fractions that they equal. Assumes nothing.
 use mathlib.Core.Path.{_≡_, refl, sym, ap, ap₂, _∙_, subst}
-use mathlib.Core.Logic.{_⊎_, inl, inr}
-use mathlib.Core.Bool.{Bool, true, false, not, _&&_, Bool·beq, cond}
-use Prim.Native.Nat.{ℕ, zero, suc, _+_, _-_, _*_, _/_, _%_, _^_, _≤_, _<_, zero-le}
-use native.Mathlib.Nat.{le-of-eq, le-of-lt, le-trans, lt-of-lt-of-le, lt-of-le-of-lt, lt-irrefl, zero-lt-suc, add-zero, add-comm, add-mul, mul-one, one-mul, zero-mul, mul-zero, mul-comm, mul-assoc}
-use native.Mathlib.Nat.{mul-left-comm, mul-right-comm, mul-sub, mul-pos, mul-lt-mul-of-pos-right, lt-of-mul-lt-mul-right, eq-of-mul-eq-mul-right, sub-zero}
-use native.Mathlib.Omega.{arith}
-use lib.IntN.{ℤ, pos, negsuc, _+ℤ_, subℕ}
-use lib.Dec.{T, ltb, eqb, ltb→lt, lt→ltb, nltb→le}
-use lib.Pow.{pow-add, pow-pos}
-use borrow.Author.Tests.{lt-ltb, le-ltb}
-use lib.Ieee.{Float, nan, inf, fin, Format, prec, emax, low, unlike, up, down, round, sum, add, mul}
-use lib.Ieee.Fits.{up-pos, down-pos}
-use lib.Ieee.Exact.{HasValue, round-exact}
+use mathlib.Core.Bool.{Bool, true, false, _&&_, Bool·beq, cond}
+use Prim.Native.Nat.{ℕ, _+_, _-_, _*_, _<_}
+use native.Mathlib.Nat.{le-of-eq, lt-of-lt-of-le, lt-of-le-of-lt, add-mul, mul-comm, mul-assoc}
+use native.Mathlib.Nat.{mul-right-comm, mul-sub, mul-pos, mul-lt-mul-of-pos-right, lt-of-mul-lt-mul-right, eq-of-mul-eq-mul-right}
+use lib.IntN.{_+ℤ_}
+use lib.Dec.{T, ltb, ltb→lt, lt→ltb}
+use lib.Ieee.{Float, nan, inf, fin, Format, unlike, up, down, round, sum, add}
+use lib.Ieee.Fits.{down-pos}
+use lib.Ieee.Exact.{HasValue}
 use lib.Ieee.Scale.{round-same}
 use Rattle.float.specs.FusedMultiplyAdd.{times, fusedMultiplyAdd}
-use Rattle.float.specs.inner.Operands.{isPlain}
 use Rattle.float.proofs.Sizes.{cross-left, cross-mid, cross-right, up-add}
 
 -- ---- a fraction at another scale

@@ -1,10 +1,10 @@
 -- `mul_add_any` meets its contract. Assumes nothing.
 use mathlib.Core.Path.{_≡_, sym, ap, _∙_, subst}
-use mathlib.Core.Bool.{Bool, true, false, not}
+use mathlib.Core.Bool.{true, false}
 use borrow.Author.Needs.{needs}
 use borrow.Author.Tests.{not-true, not-false}
 use lib.Dec.{T}
-use lib.Ieee.{Float, binary64, eq, fits, toBits, ofBits}
+use lib.Ieee.{binary64, eq, fits, toBits}
 use Rattle.float.specs.FusedMultiplyAdd.{fusedMultiplyAdd}
 use Rattle.float.specs.inner.Operands.{isPlain}
 use Rattle.float.proofs.SpecialValues.{zero-is, special-left, special-right, zero-third, other-third, plain-no-nan, plain-bits, plain-finite, fma-read, fma-bits, read-back}

@@ -1,11 +1,11 @@
 -- `fused` meets its contract. Assumes nothing.
-use mathlib.Core.Path.{_≡_, sym, ap, _∙_, subst}
+use mathlib.Core.Path.{sym, ap, _∙_, subst}
 use Prim.Native.Nat.{ℕ, _+_, _*_, _^_, _<_}
 use borrow.Author.Needs.{needs}
 use native.Mathlib.Omega.{arith}
 use lib.Dec.{leb}
 use lib.Ieee.{binary64, unlike, toBits, ofBits}
-use Rattle.float.specs.inner.TwoWords.{wide, LeftJustified}
+use Rattle.float.specs.inner.TwoWords.{LeftJustified}
 use Rattle.float.specs.inner.Rounded.{signedSum}
 use Rattle.float.proofs.Decomposition.{product-justified, addend-justified, fused-law}
 use Rattle.float.proofs.fusing.fused.Statement.{statement}

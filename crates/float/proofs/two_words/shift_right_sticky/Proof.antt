@@ -1,6 +1,6 @@
 -- `shift_right_sticky` meets its contract. Assumes nothing.
-use mathlib.Core.Path.{_≡_, sym, ap, _∙_, subst}
-use Prim.Native.Nat.{ℕ, _+_, _-_, _*_, _/_, _%_, _^_}
+use mathlib.Core.Path.{subst}
+use Prim.Native.Nat.{ℕ, _+_, _-_, _*_, _^_}
 use borrow.Author.Needs.{needs}
 use Rattle.float.specs.inner.Sticky.{Sticky, sticky}
 use Rattle.float.specs.inner.TwoWords.{wide}
