@@ -9,7 +9,7 @@ use lib.Ieee.{Float, nan, inf, fin, binary64, fits, neg, mul, add, lt, eq, le, n
 use lib.ListN.{getD}
 use Rattle.coefficients.specs.Binary64.{fma}
 use Rattle.float.specs.FusedMultiplyAdd.{times, fusedMultiplyAdd}
-use Rattle.float.specs.Operations.{negative, less, maximumNumber, roundToIntegralTiesToAway}
+use Rattle.float.specs.Operations.{negative, isLess, maximumNumber, roundToIntegralTiesToAway}
 use Rattle.float.proofs.Sizes.{Number}
 use Rattle.float.proofs.Bounds.{Upto, upto-fma}
 use Rattle.coefficients.specs.Constants.{f0, f1}
@@ -68,7 +68,7 @@ merge-any s =
 
 -- ---- a NaN's coefficient
 nan-coefficient : coefficient nan ≡ negsuc 32767
-unfolding coefficient neg mul lt maximumNumber less negative ne eq roundToIntegralTiesToAway round toSigned ofBits
+unfolding coefficient neg mul lt maximumNumber isLess negative ne eq roundToIntegralTiesToAway round toSigned ofBits
 nan-coefficient = refl
 
 first-any : (v : Float) → (v ≡ nan) ⊎ Upto v 1 → Within (coefficient v) 4096

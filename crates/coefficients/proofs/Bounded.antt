@@ -16,7 +16,7 @@ use lib.Ieee.Compare.{differs-from-itself}
 use Rattle.coefficients.specs.Binary64.{fma, larger, smaller, roundAway}
 use Rattle.whole.proofs.Values.{abs-neg}
 use Rattle.float.specs.FusedMultiplyAdd.{times, fusedMultiplyAdd}
-use Rattle.float.specs.Operations.{negative, less, maximumNumber, minimumNumber, roundToIntegralTiesToAway}
+use Rattle.float.specs.Operations.{negative, isLess, maximumNumber, minimumNumber, roundToIntegralTiesToAway}
 use Rattle.float.proofs.Sizes.{Size, Reach, Number, nought, unit, size-neg, size-round, holds-up, holds-down, times-size, add-reach, div-number, factor-above, square-size}
 use Rattle.float.proofs.Signs.{less-plus, less-minus}
 use Rattle.float.proofs.Bounds.{Upto, Least, upto-more, upto-neg, upto-add, upto-fma, upto-mul, upto-div, upto-number}
@@ -270,14 +270,14 @@ f32768-is = refl
 smaller-is : (x : Float) → Upto x 12 → smaller x f32767 ≡ x
 unfolding minimumNumber
 smaller-is x h =
-    ap (λ (b : Bool). cond b f32767 (cond (less f32767 x) f32767 x)) (same-itself x 12 h)
-    ∙ ap (λ (b : Bool). cond b f32767 x) (ap (λ (z : Float). less z x) f32767-is ∙ less-plus (fin false 32767 (pos 0)) x refl ∙ not-over x (h .size))
+    ap (λ (b : Bool). cond b f32767 (cond (isLess f32767 x) f32767 x)) (same-itself x 12 h)
+    ∙ ap (λ (b : Bool). cond b f32767 x) (ap (λ (z : Float). isLess z x) f32767-is ∙ less-plus (fin false 32767 (pos 0)) x refl ∙ not-over x (h .size))
 
 larger-is : (x : Float) → Upto x 12 → larger x (neg f32768) ≡ x
 unfolding maximumNumber
 larger-is x h =
-    ap (λ (b : Bool). cond b (neg f32768) (cond (less x (neg f32768)) (neg f32768) x)) (same-itself x 12 h)
-    ∙ ap (λ (b : Bool). cond b (neg f32768) x) (ap (less x) f32768-is ∙ less-minus x (fin true 1 (pos 15)) minus ∙ not-below x (h .size))
+    ap (λ (b : Bool). cond b (neg f32768) (cond (isLess x (neg f32768)) (neg f32768) x)) (same-itself x 12 h)
+    ∙ ap (λ (b : Bool). cond b (neg f32768) x) (ap (isLess x) f32768-is ∙ less-minus x (fin true 1 (pos 15)) minus ∙ not-below x (h .size))
   where
     minus : negative (fin true 1 (pos 15)) ≡ true
     minus = unfold negative in refl

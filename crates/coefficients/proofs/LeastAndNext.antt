@@ -6,7 +6,7 @@ use native.Mathlib.Decide.{ℕ-discrete}
 use native.Mathlib.Omega.{arith}
 use lib.Arith.{lt-of-le-ne}
 use lib.Ieee.{Float, binary64, lt}
-use Rattle.float.proofs.Counts.{Own, over, under, lt-true, lt-false}
+use Rattle.float.proofs.InUnits.{InUnits, over, under, lt-true, lt-false}
 use Rattle.coefficients.specs.declared.clusters.Best.{Best}
 use Rattle.coefficients.specs.declared.filter.Lead.{Lead}
 use Rattle.coefficients.specs.Clusters.{better}
@@ -17,11 +17,11 @@ abbrev pub Below : Float → Float → Type 0
 Below x y = over binary64 x + under binary64 y ≤ over binary64 y + under binary64 x
 
 record Lower (a b : Float) : Type 0 where
-  own : Own binary64 (lower a b)
+  own : InUnits binary64 (lower a b)
   first : Below (lower a b) a
   other : Below (lower a b) b
 
-lower-is : (a b : Float) → Own binary64 a → Own binary64 b → Lower a b
+lower-is : (a b : Float) → InUnits binary64 a → InUnits binary64 b → Lower a b
 unfolding lower
 lower-is a b v w = go (lt a b) refl
   where
@@ -30,7 +30,7 @@ lower-is a b v w = go (lt a b) refl
     go false e = let h = lt-false binary64 a b v w e in record { own = rw e w; first = rw e (omega arith); other = rw e (omega arith) }
 
 -- among the first k of the numbers c
-module _ (c : ℕ → Float) (n : ℕ) (own : (j : ℕ) → j < n → Own binary64 (c j)) where
+module _ (c : ℕ → Float) (n : ℕ) (own : (j : ℕ) → j < n → InUnits binary64 (c j)) where
   pub record Finds (k : ℕ) (l : Best) : Type 0 where
     pub place : l .index < k
     pub value : l .value ≡ c (l .index)
@@ -42,7 +42,7 @@ module _ (c : ℕ → Float) (n : ℕ) (own : (j : ℕ) → j < n → Own binary
     pub value : l .least ≡ c (l .index)
     pub all : (j : ℕ) → j < k → Below (l .least) (c j)
     pub others : (j : ℕ) → j < k → (j ≡ l .index → ⊥) → Below (l .second) (c j)
-    pub own2 : Own binary64 (l .second)
+    pub own2 : InUnits binary64 (l .second)
 
   -- one more, of the first of all
   pub finds-first : (l : Best) → lt (c 0) (l .value) ≡ true → Finds 1 (better l (c 0) 0)
@@ -53,7 +53,7 @@ module _ (c : ℕ → Float) (n : ℕ) (own : (j : ℕ) → j < n → Own binary
   unfolding better
   finds-next k l h r = go (lt (c k) (l .value)) refl
     where
-      v : Own binary64 (l .value)
+      v : InUnits binary64 (l .value)
       v = rw (r .value) (own (l .index) (omega arith))
 
       go : (t : Bool) → lt (c k) (l .value) ≡ t → Finds (suc k) (cond t (record { value = c k; index = k }) l)
@@ -64,7 +64,7 @@ module _ (c : ℕ → Float) (n : ℕ) (own : (j : ℕ) → j < n → Own binary
           let a = lt-false binary64 (c k) (l .value) (own k h) v e in
           record { place = omega arith; value = r .value; all = λ j g. elim (ℕ-discrete j k) [ yes p ↦ rw p (omega arith) | no q ↦ r .all j (lt-of-le-ne (omega arith) q) ] }
 
-  pub leads-first : (l : Lead) → Own binary64 (l .least) → Own binary64 (l .second) → lt (c 0) (l .least) ≡ true → Leads 1 (closer l (c 0) 0)
+  pub leads-first : (l : Lead) → InUnits binary64 (l .least) → InUnits binary64 (l .second) → lt (c 0) (l .least) ≡ true → Leads 1 (closer l (c 0) 0)
   unfolding closer
   leads-first l v w e = rw e (record {
     place = omega arith;
@@ -78,7 +78,7 @@ module _ (c : ℕ → Float) (n : ℕ) (own : (j : ℕ) → j < n → Own binary
   unfolding closer
   leads-next k l h r = go (lt (c k) (l .least)) refl
     where
-      v : Own binary64 (l .least)
+      v : InUnits binary64 (l .least)
       v = rw (r .value) (own (l .index) (omega arith))
 
       go : (t : Bool) → lt (c k) (l .least) ≡ t

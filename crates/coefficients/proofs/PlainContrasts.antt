@@ -13,9 +13,9 @@ use lib.Ieee.{Float, binary64, ofBits, neg, lt, fits}
 use lib.IntN.{pos}
 use lib.ListN.{getD}
 use Rattle.float.specs.Operations.{negative}
-use Rattle.float.proofs.Counts.{Held, Own, over, under, mag, held-sides, held-between, held-literal, neg-held, lt-true, true-lt}
-use Rattle.float.proofs.Drifts.{Apart, apart-same, add-held, mul-held, fma-held, mul-apart, fma-apart, add-near}
-use Rattle.float.proofs.Errors.{ample64, slack}
+use Rattle.float.proofs.InUnits.{AtMost, InUnits, over, under, mag, at-most-sides, at-most-between, at-most-literal, neg-at-most, lt-true, true-lt}
+use Rattle.float.proofs.RoundingDistance.{RoundingsApart, apart-same, add-at-most, mul-at-most, fma-at-most, mul-apart, fma-apart, add-near}
+use Rattle.float.proofs.RoundingError.{ample64, slack}
 use Rattle.coefficients.specs.declared.filter.Lead.{Lead}
 use Rattle.coefficients.specs.declared.merging.Record.{Record}
 use Rattle.coefficients.specs.declared.merging.Side.{Side}
@@ -44,95 +44,95 @@ lead-more ts s k = rw add-one
 
 -- ---- the numbers that the code names
 
-f2-held : Held binary64 f2 2
+f2-at-most : AtMost binary64 f2 2
 unfolding ofBits fits
-f2-held = held-literal {e = pos 1} 2 tt (lit≤ tt)
+f2-at-most = at-most-literal {e = pos 1} 2 tt (lit≤ tt)
 
-f16-held : Held binary64 f16 16
+f16-at-most : AtMost binary64 f16 16
 unfolding ofBits fits
-f16-held = held-literal {e = pos 4} 16 tt (lit≤ tt)
+f16-at-most = at-most-literal {e = pos 4} 16 tt (lit≤ tt)
 
 -- ---- contrasts
 
-small-held : {x : Float} → Small x → Held binary64 x 16
-small-held h = held-between (h .format) f16-held (h .above) (h .below)
+small-at-most : {x : Float} → Small x → AtMost binary64 x 16
+small-at-most h = at-most-between (h .format) f16-at-most (h .above) (h .below)
 
 -- exact and plain contrasts of a record and a vector
 module _ (v : VectorTerms) (b : Record) (val : Float) (sv : SmallTerms v) (sb : Smalls (b .v1) (b .v2) val) where
-  x : Held binary64 (neg (b .v1)) 16
-  x = neg-held (small-held (sb .one))
+  x : AtMost binary64 (neg (b .v1)) 16
+  x = neg-at-most (small-at-most (sb .one))
 
-  y : Held binary64 (neg (b .v2)) 16
-  y = neg-held (small-held (sb .two))
+  y : AtMost binary64 (neg (b .v2)) 16
+  y = neg-at-most (small-at-most (sb .two))
 
-  q : Held binary64 val 16
-  q = small-held (sb .three)
+  q : AtMost binary64 val 16
+  q = small-at-most (sb .three)
 
-  inner : Held binary64 (fma (neg (b .v1)) val (neg (b .v2))) 273
-  inner = fma-held ample64 x q y (lit≤ tt)
+  inner : AtMost binary64 (fma (neg (b .v1)) val (neg (b .v2))) 273
+  inner = fma-at-most ample64 x q y (lit≤ tt)
 
-  inner' : Held binary64 (neg (b .v1) *f val +f neg (b .v2)) 274
-  inner' = add-held ample64 (mul-held ample64 x q (lit≤ tt)) y (lit≤ tt)
+  inner' : AtMost binary64 (neg (b .v1) *f val +f neg (b .v2)) 274
+  inner' = add-at-most ample64 (mul-at-most ample64 x q (lit≤ tt)) y (lit≤ tt)
 
-  last : Held binary64 (f2 *f fma (neg (b .v1)) val (neg (b .v2))) 547
-  last = mul-held ample64 f2-held inner (lit≤ tt)
+  last : AtMost binary64 (f2 *f fma (neg (b .v1)) val (neg (b .v2))) 547
+  last = mul-at-most ample64 f2-at-most inner (lit≤ tt)
 
-  last' : Held binary64 (f2 *f (neg (b .v1) *f val +f neg (b .v2))) 549
-  last' = mul-held ample64 f2-held inner' (lit≤ tt)
+  last' : AtMost binary64 (f2 *f (neg (b .v1) *f val +f neg (b .v2))) 549
+  last' = mul-at-most ample64 f2-at-most inner' (lit≤ tt)
 
-  last-apart : Apart binary64 15 (f2 *f fma (neg (b .v1)) val (neg (b .v2))) (f2 *f (neg (b .v1) *f val +f neg (b .v2))) 8
+  last-apart : RoundingsApart binary64 15 (f2 *f fma (neg (b .v1)) val (neg (b .v2))) (f2 *f (neg (b .v1) *f val +f neg (b .v2))) 8
   last-apart =
-      mul-apart ample64 3 f2-held inner inner' (lit≤ tt) (lit≤ tt)
+      mul-apart ample64 3 f2-at-most inner inner' (lit≤ tt) (lit≤ tt)
       (fma-apart ample64 0 0 x q y x y (lit≤ tt) (lit≤ tt) (apart-same binary64 15 (neg (b .v1))) (apart-same binary64 15 (neg (b .v2))))
 
-  twice : Held binary64 (f2 *f val) 33
-  twice = mul-held ample64 f2-held q (lit≤ tt)
+  twice : AtMost binary64 (f2 *f val) 33
+  twice = mul-at-most ample64 f2-at-most q (lit≤ tt)
 
-  rest : Held binary64 (fma (f2 *f val) (v .val2) (v .val1)) 545
-  rest = fma-held ample64 twice (small-held (sv .two)) (small-held (sv .one)) (lit≤ tt)
+  rest : AtMost binary64 (fma (f2 *f val) (v .val2) (v .val1)) 545
+  rest = fma-at-most ample64 twice (small-at-most (sv .two)) (small-at-most (sv .one)) (lit≤ tt)
 
-  rest' : Held binary64 (f2 *f val *f v .val2 +f v .val1) 546
-  rest' = add-held ample64 (mul-held ample64 twice (small-held (sv .two)) (lit≤ tt)) (small-held (sv .one)) (lit≤ tt)
+  rest' : AtMost binary64 (f2 *f val *f v .val2 +f v .val1) 546
+  rest' = add-at-most ample64 (mul-at-most ample64 twice (small-at-most (sv .two)) (lit≤ tt)) (small-at-most (sv .one)) (lit≤ tt)
 
-  rest-apart : Apart binary64 15 (fma (f2 *f val) (v .val2) (v .val1)) (f2 *f val *f v .val2 +f v .val1) 3
+  rest-apart : RoundingsApart binary64 15 (fma (f2 *f val) (v .val2) (v .val1)) (f2 *f val *f v .val2 +f v .val1) 3
   rest-apart =
-      fma-apart ample64 0 0 twice (small-held (sv .two)) (small-held (sv .one)) twice (small-held (sv .one)) (lit≤ tt) (lit≤ tt)
+      fma-apart ample64 0 0 twice (small-at-most (sv .two)) (small-at-most (sv .one)) twice (small-at-most (sv .one)) (lit≤ tt) (lit≤ tt)
       (apart-same binary64 15 (f2 *f val)) (apart-same binary64 15 (v .val1))
 
-  exact-held : Held binary64 (termsContrast v (recordSide b val)) 9298
+  exact-at-most : AtMost binary64 (termsContrast v (recordSide b val)) 9298
   unfolding termsContrast recordSide
-  exact-held = fma-held ample64 last (small-held (sv .three)) rest (lit≤ tt)
+  exact-at-most = fma-at-most ample64 last (small-at-most (sv .three)) rest (lit≤ tt)
 
-  plain-held : Held binary64 (plainContrast v (plainSide b val)) 9332
+  plain-at-most : AtMost binary64 (plainContrast v (plainSide b val)) 9332
   unfolding plainContrast plainSide
-  plain-held = add-held ample64 (mul-held ample64 last' (small-held (sv .three)) (lit≤ tt)) rest' (lit≤ tt)
+  plain-at-most = add-at-most ample64 (mul-at-most ample64 last' (small-at-most (sv .three)) (lit≤ tt)) rest' (lit≤ tt)
 
-  contrasts-apart : Apart binary64 15 (termsContrast v (recordSide b val)) (plainContrast v (plainSide b val)) 134
+  contrasts-apart : RoundingsApart binary64 15 (termsContrast v (recordSide b val)) (plainContrast v (plainSide b val)) 134
   unfolding termsContrast recordSide plainContrast plainSide
-  contrasts-apart = fma-apart ample64 8 3 last (small-held (sv .three)) rest last' rest' (lit≤ tt) (lit≤ tt) last-apart rest-apart
+  contrasts-apart = fma-apart ample64 8 3 last (small-at-most (sv .three)) rest last' rest' (lit≤ tt) (lit≤ tt) last-apart rest-apart
 
 -- ---- the choice
 
-far-own : Own binary64 fE30
+far-own : InUnits binary64 fE30
 unfolding ofBits fits
-far-own = held-literal {f = binary64} {e = pos 48} 1267650600228229401496703205376 tt (lit≤ tt) .is
+far-own = at-most-literal {f = binary64} {e = pos 48} 1267650600228229401496703205376 tt (lit≤ tt) .is
 
 far-above : 9333 * 2 ^ 1074 + under binary64 fE30 ≤ over binary64 fE30
 unfolding ofBits over under mag negative
 far-above = lit≤ tt
 
--- what is held lies below 1.0e30
-far : {x : Float} {n : ℕ} → Held binary64 x n → n ≤ 9332 → lt x fE30 ≡ true
+-- a small number lies below 1.0e30
+far : {x : Float} {n : ℕ} → AtMost binary64 x n → n ≤ 9332 → lt x fE30 ≡ true
 far {x} {n} h l =
     true-lt binary64 x fE30 (h .is) far-own
-    (beyond (over binary64 x) (under binary64 x) n (2 ^ 1074) (over binary64 fE30) (under binary64 fE30) (held-sides h) (mul-le-mul-right (2 ^ 1074) l) (lit< tt) far-above)
+    (beyond (over binary64 x) (under binary64 x) n (2 ^ 1074) (over binary64 fE30) (under binary64 fE30) (at-most-sides h) (mul-le-mul-right (2 ^ 1074) l) (lit< tt) far-above)
   where
     beyond : (a b n u c d : ℕ) → a + b ≤ n * u → n * u ≤ 9332 * u → 0 < u → 9333 * u + d ≤ c → a + d < c + b
     beyond a b n u c d h l p q = omega arith
 
 -- at least twice what an exact and a plain contrast can be apart, and what the rounding of a sum can move
 pub record Wide (g : Float) : Type 0 where
-  pub held : Held binary64 g 1
+  pub at-most : AtMost binary64 g 1
   pub wide : 269 * slack binary64 15 + under binary64 g ≤ over binary64 g
 
 -- a is exact and p plain, and so are c and q; s is p and the gap g, t the second of the plain ones
@@ -147,11 +147,11 @@ module _ (ts : List VectorTerms) (n : ℕ) (b : Record) (val : Float) (sv : AllS
   abbrev plain : ℕ → Float
   plain j = plainContrast (getD ts j blankTerms) (plainSide b val)
 
-  exact-at : (j : ℕ) → j < n → Held binary64 (exact j) 9298
-  exact-at j h = exact-held (getD ts j blankTerms) b val (sv j h) sb
+  exact-at : (j : ℕ) → j < n → AtMost binary64 (exact j) 9298
+  exact-at j h = exact-at-most (getD ts j blankTerms) b val (sv j h) sb
 
-  plain-at : (j : ℕ) → j < n → Held binary64 (plain j) 9332
-  plain-at j h = plain-held (getD ts j blankTerms) b val (sv j h) sb
+  plain-at : (j : ℕ) → j < n → AtMost binary64 (plain j) 9332
+  plain-at j h = plain-at-most (getD ts j blankTerms) b val (sv j h) sb
 
   finds : (k : ℕ) → k < n → Finds exact n (λ j h. exact-at j h .is) (suc k) (leastByTerms ts (recordSide b val) (suc k))
   unfolding leastByTerms
@@ -170,11 +170,11 @@ module _ (ts : List VectorTerms) (n : ℕ) (b : Record) (val : Float) (sv : AllS
       let k = l .index in
       let K : k < n = omega (arith, r .place) in
       let I : i < n = omega arith in
-      let e : Held binary64 (l .least) 9332 = rw (r .value) (plain-at k K) in
-      let A : Apart binary64 15 (exact k) (l .least) 134 = rw (r .value) (contrasts-apart (getD ts k blankTerms) b val (sv k K) sb) in
+      let e : AtMost binary64 (l .least) 9332 = rw (r .value) (plain-at k K) in
+      let A : RoundingsApart binary64 15 (exact k) (l .least) 134 = rw (r .value) (contrasts-apart (getD ts k blankTerms) b val (sv k K) sb) in
       let B = contrasts-apart (getD ts i blankTerms) b val (sv i I) sb in
-      let C = add-near ample64 e (w .held) (lit≤ tt) in
-      let D = lt-true binary64 (l .least +f f) (l .second) (add-held ample64 e (w .held) (lit≤ tt) .is) (r .own2) d in
+      let C = add-near ample64 e (w .at-most) (lit≤ tt) in
+      let D = lt-true binary64 (l .least +f f) (l .second) (add-at-most ample64 e (w .at-most) (lit≤ tt) .is) (r .own2) d in
       clash
       (over binary64 (exact k)) (under binary64 (exact k)) (over binary64 (l .least)) (under binary64 (l .least))
       (over binary64 (exact i)) (under binary64 (exact i)) (over binary64 (plain i)) (under binary64 (plain i))

@@ -5,8 +5,8 @@ use borrow.Author.Needs.{needs}
 use lib.Dec.{lit≤}
 use lib.Ieee.{ofBits, fits}
 use Rattle.float.specs.Operations.{negative}
-use Rattle.float.proofs.Counts.{over, under, mag, held-literal}
-use Rattle.float.proofs.Errors.{slack}
+use Rattle.float.proofs.InUnits.{over, under, mag, at-most-literal}
+use Rattle.float.proofs.RoundingError.{slack}
 use Rattle.coefficients.specs.inner.SharedTerms.{recordSide, leastByTerms}
 use Rattle.coefficients.specs.inner.PlainContrasts.{plainSide, leading}
 use Rattle.coefficients.proofs.ChosenVector.{least-below}
@@ -29,7 +29,7 @@ returns c =
     let small = d .before .are-small .ensures (d .if2 .taken) in
     let v : l .index ≡ leastByTerms (a .ts) (recordSide (a .r) (a .val)) (a .n) .index =
     rw e
-    (clear (a .ts) (a .n) (a .r) (a .val) (s .pre .1 (d .before .before .if1 .taken)) small _ (record { held = held-literal 1 tt (lit≤ tt); wide = lit≤ tt }) (rw e at (c .if3 .taken))) in
+    (clear (a .ts) (a .n) (a .r) (a .val) (s .pre .1 (d .before .before .if1 .taken)) small _ (record { at-most = at-most-literal 1 tt (lit≤ tt); wide = lit≤ tt }) (rw e at (c .if3 .taken))) in
     record { value = v; below = rw v (least-below _ _ (a .n) 8 (omega arith) (s .pre .0)) }
 
 nearest-requires : tie.Need-nearest-requires

@@ -1,26 +1,32 @@
--- How `Jam` is made and kept: exactly, by cutting digits off, in two steps, at another scale, and under sums and differences with an even number. Assumes nothing.
+-- How `Sticky` is made and kept: exactly, by cutting digits off, in two steps, at another scale, and under sums and differences with an even number. Assumes nothing.
 use mathlib.Core.Path.{_≡_, refl, sym, ap, _∙_, subst}
 use mathlib.Core.Logic.{_⊎_, inl, inr}
 use mathlib.Core.Bool.{Bool, true, false, not}
 use Prim.Native.Nat.{ℕ, zero, suc, _+_, _-_, _*_, _/_, _%_, _≤_, _<_}
-use native.Mathlib.Nat.{le-trans, le-of-eq, lt-of-lt-of-le, lt-of-le-of-lt, mul-assoc, mul-comm, mul-right-comm, add-mul, mul-add, mul-le-mul-right, mul-lt-mul-of-pos-right, div-add-mod', mod-lt, suc-mul}
+use native.Mathlib.Nat.{le-of-suc-le-suc, lt-of-not-le, not-le-of-lt, le-trans, le-of-eq, lt-of-lt-of-le, lt-of-le-of-lt, mul-assoc, add-mul, mul-le-mul-right}
+use native.Mathlib.Nat.{mul-lt-mul-of-pos-right, div-add-mod', mod-lt}
+use native.Mathlib.Nat.{suc-mul}
 use native.Mathlib.Omega.{arith}
 use lib.Dec.{T, leb, leb→le, nleb→lt}
-use Rattle.float.specs.Jam.{Jam, jammed}
+use Rattle.float.specs.inner.Sticky.{Sticky, sticky}
 
-pub jam-exact : (w t : ℕ) → 0 < t → Jam (w * t) w t
-jam-exact w t h = record {
+pub sticky-exact : (w t : ℕ) → 0 < t → Sticky (w * t) w t
+sticky-exact w t h = record {
   under = λ v l. mul-lt-mul-of-pos-right l h;
   at = λ v e. ap (λ (z : ℕ). z * t) e;
   over = λ v l. mul-lt-mul-of-pos-right l h;
 }
 
-pub jam-is : (m w t : ℕ) → 0 < t → m ≡ w * t → Jam m w t
-jam-is m w t h e = subst (λ (z : ℕ). Jam z w t) (sym e) (jam-exact w t h)
+pub sticky-is : (m w t : ℕ) → 0 < t → m ≡ w * t → Sticky m w t
+sticky-is m w t h e = subst (λ (z : ℕ). Sticky z w t) (sym e) (sticky-exact w t h)
+
+-- what is at least an even number stays so
+pub sticky-least : (m w t v : ℕ) → Sticky m w t → 2 * v * t ≤ m → 2 * v ≤ w
+sticky-least m w t v j h = le-of-suc-le-suc (lt-of-not-le (λ (g : suc w ≤ 2 * v). not-le-of-lt (j .under v g) h))
 
 -- ---- in two steps
-pub jam-trans : (m w v t s : ℕ) → Jam m w t → Jam w v s → Jam m v (s * t)
-jam-trans m w v t s a b = record {
+pub sticky-trans : (m w v t s : ℕ) → Sticky m w t → Sticky w v s → Sticky m v (s * t)
+sticky-trans m w v t s a b = record {
   under = λ c l. subst (λ (z : ℕ). m < z) (two c) (a .under (c * s) (subst (λ (z : ℕ). w < z) (mul-assoc 2 c s) (b .under c l)));
   at = λ c e. a .at (c * s) (b .at c e ∙ mul-assoc 2 c s) ∙ two c;
   over = λ c l. subst (λ (z : ℕ). z < m) (two c) (a .over (c * s) (subst (λ (z : ℕ). z < w) (mul-assoc 2 c s) (b .over c l)));
@@ -30,8 +36,8 @@ jam-trans m w v t s a b = record {
     two c = ap (λ (z : ℕ). z * t) (sym (mul-assoc 2 c s)) ∙ mul-assoc (2 * c) s t
 
 -- ---- at another scale
-pub jam-scale : (m w t s : ℕ) → 0 < s → Jam m w t → Jam (m * s) w (t * s)
-jam-scale m w t s S a = record {
+pub sticky-scale : (m w t s : ℕ) → 0 < s → Sticky m w t → Sticky (m * s) w (t * s)
+sticky-scale m w t s S a = record {
   under = λ c l. subst (λ (z : ℕ). m * s < z) (mul-assoc (2 * c) t s) (mul-lt-mul-of-pos-right (a .under c l) S);
   at = λ c e. ap (λ (z : ℕ). z * s) (a .at c e) ∙ mul-assoc (2 * c) t s;
   over = λ c l. subst (λ (z : ℕ). z < m * s) (mul-assoc (2 * c) t s) (mul-lt-mul-of-pos-right (a .over c l) S);
@@ -39,8 +45,8 @@ jam-scale m w t s S a = record {
 
 -- ---- digits cut off
 module _ (m t : ℕ) (T₀ : 0 < t) where
-  cut-is : (r : ℕ) → m % t ≡ r → Jam m (jammed (m / t) r) t
-  cut-is zero e = jam-is m (m / t) t T₀ (go (m / t * t) (m % t) m (div-add-mod' m t) e)
+  cut-is : (r : ℕ) → m % t ≡ r → Sticky m (sticky (m / t) r) t
+  cut-is zero e = sticky-is m (m / t) t T₀ (go (m / t * t) (m % t) m (div-add-mod' m t) e)
     where
       go : (a r m : ℕ) → a + r ≡ m → r ≡ 0 → m ≡ a
       go a r m p q = omega arith
@@ -65,12 +71,12 @@ module _ (m t : ℕ) (T₀ : 0 < t) where
       bottom : (a r m s : ℕ) → a + r ≡ m → r ≡ suc s → a < m
       bottom a r m s p q = omega arith
 
-  pub jam-cut : Jam m (jammed (m / t) (m % t)) t
-  jam-cut = cut-is (m % t) refl
+  pub sticky-cut : Sticky m (sticky (m / t) (m % t)) t
+  sticky-cut = cut-is (m % t) refl
 
 -- ---- with an even number beside it
-split : (a b : ℕ) → (a ≤ b) ⊎ (b < a)
-split a b = go (leb a b) (leb→le a b) (nleb→lt a b)
+pub le-or-lt : (a b : ℕ) → (a ≤ b) ⊎ (b < a)
+le-or-lt a b = go (leb a b) (leb→le a b) (nleb→lt a b)
   where
     go : (x : Bool) → (T x → a ≤ b) → (T (not x) → b < a) → (a ≤ b) ⊎ (b < a)
     go true p q = inl (p tt)
@@ -89,12 +95,12 @@ less v b t T₀ h = mul-lt-mul-of-pos-right (go v b h) T₀
     go : (v b : ℕ) → v < b → 2 * v < 2 * b
     go v b h = omega arith
 
-module _ (m w t b : ℕ) (T₀ : 0 < t) (j : Jam m w t) where
-  pub jam-add : Jam (2 * b * t + m) (2 * b + w) t
-  jam-add = record {
+module _ (m w t b : ℕ) (T₀ : 0 < t) (j : Sticky m w t) where
+  pub sticky-add : Sticky (2 * b * t + m) (2 * b + w) t
+  sticky-add = record {
     under = λ v l. u-go v (2 * b * t) (2 * (v - b) * t) (2 * v * t) (parts b v t (u-le v l)) (j .under (v - b) (u-lt v l));
     at = λ v e. a-go (2 * b * t) (2 * (v - b) * t) (2 * v * t) (parts b v t (a-le v e)) (j .at (v - b) (a-eq v e));
-    over = λ v l. o-go v l (split b v);
+    over = λ v l. o-go v l (le-or-lt b v);
   }
     where
       u-le : (v : ℕ) → 2 * b + w < 2 * v → b ≤ v
@@ -128,9 +134,9 @@ module _ (m w t b : ℕ) (T₀ : 0 < t) (j : Jam m w t) where
       o-go v l (inl h) = o-sum (2 * b * t) (2 * (v - b) * t) (2 * v * t) (parts b v t h) (j .over (v - b) (o-lt v l h))
       o-go v l (inr h) = o-far (2 * b * t) (2 * v * t) (less v b t T₀ h)
 
-  pub jam-sub : m ≤ 2 * b * t → w ≤ 2 * b → Jam (2 * b * t - m) (2 * b - w) t
-  jam-sub M W = record {
-    under = λ v l. u-go v l (split v b);
+  pub sticky-sub : m ≤ 2 * b * t → w ≤ 2 * b → Sticky (2 * b * t - m) (2 * b - w) t
+  sticky-sub M W = record {
+    under = λ v l. u-go v l (le-or-lt v b);
     at = λ v e. a-go (2 * v * t) (2 * (b - v) * t) (2 * b * t) (parts v b t (a-le v e)) (j .at (b - v) (a-eq v e));
     over = λ v l. o-sum (2 * v * t) (2 * (b - v) * t) (2 * b * t) (parts v b t (o-le v l)) (j .under (b - v) (o-lt v l));
   }

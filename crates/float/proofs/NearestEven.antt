@@ -1,16 +1,17 @@
--- What `sticky` and `near` compute, on plain numbers. Assumes nothing.
-use mathlib.Core.Path.{_≡_, refl, sym, ap, _∙_, subst}
+-- What `sticky`, `nearest_even` and `nearest_even_53` compute, on plain numbers. Assumes nothing.
+use mathlib.Core.Path.{_≡_, refl, sym, ap, _∙_}
 use Prim.Native.Nat.{ℕ, zero, suc, _+_, _-_, _*_, _/_, _%_, _^_, _≤_, _<_, compare, Ordering, Ordering·lt, Ordering·eq, Ordering·gt}
-use native.Mathlib.Nat.{le-trans, le-of-eq, lt-of-le-of-lt, mul-assoc, mul-comm, mul-right-comm, mul-pos, suc-mul, pow-suc, div-add-mod', div-mul-le-self, div-le-self, mod-lt, mod-eq-of-lt, div-div-eq-div-mul, add-comm}
+use native.Mathlib.Nat.{lt-of-le-of-lt, mul-assoc, mul-right-comm, suc-mul, pow-suc, div-add-mod', div-mul-le-self, div-le-self, mod-lt, mod-eq-of-lt}
+use native.Mathlib.Nat.{div-div-eq-div-mul}
 use native.Mathlib.Omega.{arith}
 use lib.Pow.{pow-pos}
 use lib.Bits.{bitOr, bitAnd, or-add-and, and-mask}
 use lib.Ieee.{nearest}
 use lib.Ieee.Nearest.{closest}
-use Rattle.float.specs.Jam.{jammed}
-use Rattle.float.proofs.Jam.{Cmp, cmp}
+use Rattle.float.specs.inner.Sticky.{sticky}
+use Rattle.float.proofs.StickyRounding.{Cmp, cmp}
 
-pub sticky-law : (v rest : ℕ) → (rest ≡ 0 → ⊥) → bitOr v 1 ≡ jammed v rest
+pub sticky-law : (v rest : ℕ) → (rest ≡ 0 → ⊥) → bitOr v 1 ≡ sticky v rest
 sticky-law v zero n = absurd (n refl)
 sticky-law v (suc r) n = go (bitOr v 1) (bitAnd v 1) (or-add-and v 1) (and-mask v 1)
   where
@@ -118,8 +119,8 @@ half d h = sym (ap (λ (z : ℕ). 2 ^ z) (go d h) ∙ pow-suc 2 (d - 1))
 pub unshifted : (w h : ℕ) → w < 2 ^ 64 → (w / h * h) % 2 ^ 64 ≡ w / h * h
 unshifted w h l = mod-eq-of-lt (lt-of-le-of-lt (div-mul-le-self w h) l)
 
-pub room : (w h : ℕ) → 0 < h → w < 2 ^ 64 → w / h / 2 < 2 ^ 63
-room w h H l = go (w / h) (lt-of-le-of-lt (native-le w h H) l)
+pub bound : (w h : ℕ) → 0 < h → w < 2 ^ 64 → w / h / 2 < 2 ^ 63
+bound w h H l = go (w / h) (lt-of-le-of-lt (native-le w h H) l)
   where
     go : (q : ℕ) → q < 2 ^ 64 → q / 2 < 2 ^ 63
     go q h = omega arith

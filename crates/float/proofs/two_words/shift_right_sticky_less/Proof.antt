@@ -1,14 +1,14 @@
--- `shift_right_jam_less` meets its contract. Assumes nothing.
-use mathlib.Core.Path.{_≡_, sym, ap, _∙_, subst}
-use Prim.Native.Nat.{ℕ, _+_, _-_, _*_, _/_, _%_, _^_}
+-- `shift_right_sticky_less` meets its contract. Assumes nothing.
+use mathlib.Core.Path.{sym, subst}
+use Prim.Native.Nat.{ℕ, _+_, _*_, _/_, _^_}
 use native.Mathlib.Nat.{le-of-lt, mul-one}
 use borrow.Author.Needs.{needs}
-use Rattle.float.specs.Jam.{Jam, jammed}
-use Rattle.float.proofs.Words.{shift-fits, shift-words}
-use Rattle.float.proofs.Stand.{jam-is}
+use Rattle.float.specs.inner.Sticky.{Sticky, sticky}
+use Rattle.float.proofs.TwoWordShifts.{shift-fits, shift-words}
+use Rattle.float.proofs.Sticky.{sticky-is}
 use lib.Pow.{pow-pos}
-use Rattle.float.proofs.two_words.shift_right_jam_less.Statement.{statement}
-use Rattle.float.proofs.two_words.shift_right_jam_less.Tie as tie
+use Rattle.float.proofs.two_words.shift_right_sticky_less.Statement.{statement}
+use Rattle.float.proofs.two_words.shift_right_sticky_less.Tie as tie
 
 sub-sticky : tie.Need-sub-sticky
 sub-sticky c = search needs
@@ -38,7 +38,7 @@ returns : tie.Need-returns
 returns c =
     let a = c .before in
     let w = a .args .hi * 2 ^ 64 + a .args .lo in
-    subst (λ (d : ℕ). Jam w w (2 ^ d)) (sym (c .if1 .taken)) (jam-is w w 1 (pow-pos 0) (sym (mul-one w)))
+    subst (λ (d : ℕ). Sticky w w (2 ^ d)) (sym (c .if1 .taken)) (sticky-is w w 1 (pow-pos 0) (sym (mul-one w)))
 
 returns-2 : tie.Need-returns-2
 returns-2 c =
@@ -46,10 +46,10 @@ returns-2 c =
     let hi = a .args .hi in
     let lo = a .args .lo in
     let d = a .args .d in
-    subst (λ (x : ℕ). Jam (hi * 2 ^ 64 + lo) (hi / 2 ^ d * 2 ^ 64 + x) (2 ^ d)) (sym (c .sticky .ensures)) (shift-words hi lo d (le-of-lt (a .pre)) (a .fits .lo .fits))
+    subst (λ (x : ℕ). Sticky (hi * 2 ^ 64 + lo) (hi / 2 ^ d * 2 ^ 64 + x) (2 ^ d)) (sym (c .sticky .ensures)) (shift-words hi lo d (le-of-lt (a .pre)) (a .fits .lo .fits))
 
-pub shift-right-jam-less-spec : {M : Type 1} → statement M
-shift-right-jam-less-spec =
+pub shift-right-sticky-less-spec : {M : Type 1} → statement M
+shift-right-sticky-less-spec =
     tie.close
     (tie.spec
     sub-sticky

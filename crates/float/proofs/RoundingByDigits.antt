@@ -1,17 +1,18 @@
 -- `round` of a fraction whose divisor is a power of two, from the leading digits of its numerator: the core of the fused multiply-add's proof. Assumes nothing.
-use mathlib.Core.Path.{_≡_, refl, sym, ap, _∙_, subst}
+use mathlib.Core.Path.{_≡_, sym, ap, _∙_}
 use mathlib.Core.Logic.{_⊎_, inl, inr}
-use Prim.Native.Nat.{ℕ, zero, suc, _+_, _-_, _*_, _/_, _%_, _^_, _≤_, _<_, zero-le}
-use native.Mathlib.Nat.{le-antisymm, le-of-eq, le-trans, lt-of-lt-of-le, lt-of-le-of-lt, lt-of-not-le, not-le-of-lt, le-of-lt, le-of-suc-le-suc, mul-assoc, mul-comm, mul-right-comm, mul-one, mul-pos, pow-succ', le-div-iff-mul-le, div-lt-iff-lt-mul, eq-zero-or-pos}
+use Prim.Native.Nat.{ℕ, suc, _+_, _-_, _*_, _/_, _^_, _≤_, _<_}
+use native.Mathlib.Nat.{le-antisymm, le-of-eq, le-trans, lt-of-lt-of-le, lt-of-not-le, not-le-of-lt, mul-assoc}
+use native.Mathlib.Nat.{mul-pos, pow-succ', le-div-iff-mul-le, div-lt-iff-lt-mul, eq-zero-or-pos}
 use native.Mathlib.Omega.{arith}
 use mathlib.Core.Bool.{Bool}
 use lib.Pow.{pow-add, pow-pos, pow-mono}
-use lib.Ieee.{Float, Format, prec, emax, low, size, units, round}
-use lib.Ieee.Digits.{size-lt, size-le, size-reaches}
+use lib.Ieee.{Format, prec, low, size, units, round}
+use lib.Ieee.Digits.{size-lt, size-le}
 use lib.Ieee.Fits.{round-is}
 use lib.Ieee.Nearest.{closest, closest-same, div-same}
-use Rattle.float.specs.Jam.{Jam}
-use Rattle.float.proofs.Jam.{closest-jam, at-least}
+use Rattle.float.specs.inner.Sticky.{Sticky}
+use Rattle.float.proofs.StickyRounding.{closest-sticky, at-least}
 
 -- ---- a number's digits
 size-gt : (n j : ℕ) → 2 ^ j ≤ n → j < size n
@@ -71,7 +72,7 @@ round-cut f s m g k e =
     ∙ ap (λ (z : ℕ). units f s z k) c
 
 -- ---- `round` from a number w of prec + c digits, c at least 2, that stands for the numerator m over 2 ^ x
-module _ (f : Format) (s : Bool) (m w x g b : ℕ) (j : Jam m w (2 ^ x)) (lo : 2 ^ suc (prec f + b) ≤ w) (hi : w < 2 ^ suc (suc (prec f + b))) where
+module _ (f : Format) (s : Bool) (m w x g b : ℕ) (j : Sticky m w (2 ^ x)) (lo : 2 ^ suc (prec f + b) ≤ w) (hi : w < 2 ^ suc (suc (prec f + b))) where
   -- c is 2 + b
   twice : (z : ℕ) → 2 ^ suc z ≡ 2 * 2 ^ z
   twice z = pow-succ' 2 z
@@ -100,7 +101,7 @@ module _ (f : Format) (s : Bool) (m w x g b : ℕ) (j : Jam m w (2 ^ x)) (lo : 2
   at : (k i : ℕ) → g + k ≡ suc (suc i) + x → closest m (2 ^ g * 2 ^ k) ≡ closest w (2 ^ suc (suc i))
   at k i e =
       ap (closest m) (sym (pow-add 2 g k) ∙ ap (λ (z : ℕ). 2 ^ z) e ∙ pow-add 2 (suc (suc i)) x ∙ ap (λ (z : ℕ). z * 2 ^ x) (four i))
-      ∙ closest-jam m w (2 ^ x) (2 ^ i) (pow-pos x) (pow-pos i) j
+      ∙ closest-sticky m w (2 ^ x) (2 ^ i) (pow-pos x) (pow-pos i) j
       ∙ ap (closest w) (sym (four i))
 
   -- a normal result: c digits of w are dropped

@@ -1,18 +1,18 @@
 -- What `rounded` computes. Assumes nothing.
-use mathlib.Core.Path.{_≡_, refl, sym, ap, _∙_, subst}
-use Prim.Native.Nat.{ℕ, zero, suc, _+_, _-_, _*_, _/_, _%_, _^_, _≤_, _<_}
-use native.Mathlib.Nat.{le-trans, le-of-eq, lt-of-lt-of-le, pow-suc, div-eq-of-lt, le-div-iff-mul-le}
+use mathlib.Core.Path.{_≡_, refl, sym, ap, _∙_}
+use Prim.Native.Nat.{ℕ, suc, _+_, _-_, _*_, _/_, _%_, _^_, _≤_, _<_}
+use native.Mathlib.Nat.{le-trans, lt-of-lt-of-le, pow-suc, div-eq-of-lt, le-div-iff-mul-le}
 use native.Mathlib.Omega.{arith}
 use mathlib.Core.Bool.{Bool}
-use lib.Dec.{lit≤}
-use lib.Pow.{pow-add, pow-pos, pow-mono, shr-lt}
-use lib.Ieee.{Float, binary64, units, round, low}
+use lib.Pow.{pow-pos, pow-mono, shr-lt}
+use lib.Ieee.{binary64, units, round, low}
 use lib.Ieee.Fits.{nearest-le}
 use lib.Ieee.Nearest.{closest, nearest-ge}
 use Prim.Native.Nat.{compare}
-use Rattle.float.specs.Jam.{Jam, rounding}
-use Rattle.float.proofs.Rounding.{round-normal, round-low}
-use Rattle.float.proofs.Halves.{near-lt}
+use Rattle.float.specs.inner.Sticky.{Sticky}
+use Rattle.float.specs.inner.Rounded.{rounded}
+use Rattle.float.proofs.RoundingByDigits.{round-normal, round-low}
+use Rattle.float.proofs.NearestEven.{near-lt}
 
 pub closest-le : (w d : ℕ) → w < 2 ^ 64 → 11 ≤ d → closest w (2 ^ d) ≤ 2 ^ 53
 closest-le w d h l = le-trans (nearest-le (w / 2 ^ d) (compare (w % 2 ^ d * 2) (2 ^ d))) (shr-lt 53 d (lt-of-lt-of-le h (pow-mono (go d l))))
@@ -29,18 +29,18 @@ closest-none w i h =
     ∙ sym (near-lt w (2 ^ suc i) (pow-pos (suc i)) (ap (λ (z : ℕ). z % 2) (div-eq-of-lt h)))
     ∙ ap (λ (z : ℕ). z / 2) (div-eq-of-lt h)
 
-rounding-is : (g : ℕ) (s : Bool) (m : ℕ) → rounding g s m ≡ round binary64 s m (2 ^ (low binary64 + g))
-unfolding rounding
-rounding-is g s m = refl
+rounded-is : (g : ℕ) (s : Bool) (m : ℕ) → rounded g s m ≡ round binary64 s m (2 ^ (low binary64 + g))
+unfolding rounded
+rounded-is g s m = refl
 
-module _ (s : Bool) (m w x : ℕ) (j : Jam m w (2 ^ x)) (lo : 2 ^ 63 ≤ w) (hi : w < 2 ^ 64) where
-  low-at : (g i : ℕ) → suc (suc i) + x ≡ g → 9 ≤ i → rounding g s m ≡ units binary64 s (closest w (2 ^ suc (suc i))) 0
-  low-at g i e h = rounding-is g s m ∙ round-low binary64 s m w x g 9 j lo hi i e h
+module _ (s : Bool) (m w x : ℕ) (j : Sticky m w (2 ^ x)) (lo : 2 ^ 63 ≤ w) (hi : w < 2 ^ 64) where
+  low-at : (g i : ℕ) → suc (suc i) + x ≡ g → 9 ≤ i → rounded g s m ≡ units binary64 s (closest w (2 ^ suc (suc i))) 0
+  low-at g i e h = rounded-is g s m ∙ round-low binary64 s m w x g 9 j lo hi i e h
 
-  normal-at : (g : ℕ) → g ≤ 11 + x → rounding g s m ≡ units binary64 s (closest w (2 ^ 11)) (11 + x - g)
-  normal-at g h = rounding-is g s m ∙ round-normal binary64 s m w x g 9 j lo hi h
+  normal-at : (g : ℕ) → g ≤ 11 + x → rounded g s m ≡ units binary64 s (closest w (2 ^ 11)) (11 + x - g)
+  normal-at g h = rounded-is g s m ∙ round-normal binary64 s m w x g 9 j lo hi h
 
-  pub at-normal : 1251 ≤ x → rounding 1262 s m ≡ units binary64 s (closest w (2 ^ 11)) (x - 1251)
+  pub at-normal : 1251 ≤ x → rounded 1262 s m ≡ units binary64 s (closest w (2 ^ 11)) (x - 1251)
   at-normal h = normal-at 1262 (go x h) ∙ ap (units binary64 s (closest w (2 ^ 11))) (same x)
     where
       go : (x : ℕ) → 1251 ≤ x → 1262 ≤ 11 + x
@@ -49,7 +49,7 @@ module _ (s : Bool) (m w x : ℕ) (j : Jam m w (2 ^ x)) (lo : 2 ^ 63 ≤ w) (hi 
       same : (x : ℕ) → 11 + x - 1262 ≡ x - 1251
       same x = omega arith
 
-  pub at-low : x < 1251 → rounding 1262 s m ≡ units binary64 s (closest w (2 ^ (1262 - x))) 0
+  pub at-low : x < 1251 → rounded 1262 s m ≡ units binary64 s (closest w (2 ^ (1262 - x))) 0
   at-low h = low-at 1262 (1260 - x) (go x h) (more x h) ∙ ap (λ (z : ℕ). units binary64 s (closest w (2 ^ z)) 0) (same x h)
     where
       go : (x : ℕ) → x < 1251 → suc (suc (1260 - x)) + x ≡ 1262
@@ -61,7 +61,7 @@ module _ (s : Bool) (m w x : ℕ) (j : Jam m w (2 ^ x)) (lo : 2 ^ 63 ≤ w) (hi 
       same : (x : ℕ) → x < 1251 → suc (suc (1260 - x)) ≡ 1262 - x
       same x h = omega arith
 
-  pub at-none : x < 1198 → rounding 1262 s m ≡ units binary64 s 0 0
+  pub at-none : x < 1198 → rounded 1262 s m ≡ units binary64 s 0 0
   at-none h = low-at 1262 (1260 - x) (go x h) (more x h) ∙ ap (λ (z : ℕ). units binary64 s z 0) (closest-none w (1260 - x) (lt-of-lt-of-le hi (pow-mono (far x h))))
     where
       go : (x : ℕ) → x < 1198 → suc (suc (1260 - x)) + x ≡ 1262

@@ -1,15 +1,15 @@
 -- Numbers with a sticky bit. Assumes nothing.
 use mathlib.Core.Path.{_≡_, refl, sym, ap, _∙_, subst}
-use mathlib.Core.Logic.{_⊎_, inl, inr}
-use Prim.Native.Nat.{ℕ, zero, suc, _+_, _-_, _*_, _/_, _%_, _^_, _≤_, _<_, compare, Ordering, Ordering·lt, Ordering·eq, Ordering·gt}
-use native.Mathlib.Nat.{le-antisymm, le-of-eq, lt-of-lt-of-le, lt-of-le-of-lt, le-of-lt, le-of-suc-le-suc, mul-assoc, mul-comm, mul-right-comm, add-mul, suc-mul, one-mul, mul-pos, mul-le-mul-right, mul-lt-mul-of-pos-right, div-add-mod', div-mul-le-self, mod-lt, le-div-iff-mul-le, div-lt-iff-lt-mul}
+use Prim.Native.Nat.{ℕ, suc, _+_, _*_, _/_, _%_, _≤_, _<_, compare, Ordering, Ordering·lt, Ordering·eq, Ordering·gt}
+use native.Mathlib.Nat.{le-antisymm, le-of-eq, le-of-lt, le-of-suc-le-suc, mul-assoc, mul-comm, add-mul, suc-mul, mul-pos}
+use native.Mathlib.Nat.{div-add-mod', mod-lt, le-div-iff-mul-le, div-lt-iff-lt-mul}
 use native.Mathlib.Omega.{arith}
 use mathlib.Core.Bool.{not}
 use lib.Dec.{T, isLe, isEq, eqb, leb→le, nleb→lt, eqb→eq, eqb-refl}
 use lib.Arith.{lt-of-le-ne}
 use lib.Ieee.{nearest}
 use lib.Ieee.Nearest.{closest}
-use Rattle.float.specs.Jam.{Jam, jammed}
+use Rattle.float.specs.inner.Sticky.{Sticky}
 
 -- ---- what `compare` says
 abbrev pub Cmp : Ordering → ℕ → ℕ → Type 0
@@ -53,7 +53,7 @@ div-is : (n u q : ℕ) → 0 < u → q * u ≤ n → n < suc q * u → n / u ≡
 div-is n u q U a b = le-antisymm (le-of-suc-le-suc (div-lt-iff-lt-mul U .1 b)) (le-div-iff-mul-le U .1 a)
 
 -- ---- rounding a number is rounding what stands for it, if at least two bits are dropped
-module _ (m w t k : ℕ) (T₀ : 0 < t) (K : 0 < k) (j : Jam m w t) where
+module _ (m w t k : ℕ) (T₀ : 0 < t) (K : 0 < k) (j : Sticky m w t) where
   -- the even number 2 * v against w and m: at most
   pub at-least : (v : ℕ) → 2 * v ≤ w → 2 * v * t ≤ m
   at-least v h = go (compare (2 * v) w) (cmp (2 * v) w)
@@ -66,8 +66,8 @@ module _ (m w t k : ℕ) (T₀ : 0 < t) (K : 0 < k) (j : Jam m w t) where
           no-gt : (a b : ℕ) → a ≤ b → b < a → ⊥
           no-gt a b p q = omega arith
 
-  pub closest-jam : closest m (2 * (2 * k) * t) ≡ closest w (2 * (2 * k))
-  closest-jam =
+  pub closest-sticky : closest m (2 * (2 * k) * t) ≡ closest w (2 * (2 * k))
+  closest-sticky =
       let u = 2 * (2 * k) in
       let q = w / u in
       let r = w % u in

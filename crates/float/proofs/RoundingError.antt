@@ -13,7 +13,7 @@ use lib.Ieee.Digits.{size-le}
 use lib.Ieee.Nearest.{closest, nearest-ge}
 use lib.Ieee.Order.{drop, kept}
 use lib.Ieee.Scale.{grid, overflow}
-use Rattle.float.proofs.Counts.{plus, minus, over, under, Own, own, counted}
+use Rattle.float.proofs.InUnits.{plus, minus, over, under, InUnits, in-units, sign-and-size}
 
 -- a and b differ by at most e
 pub record Close (a b e : ℕ) : Type 0 where
@@ -38,18 +38,19 @@ slack f j = 2 ^ (low f + suc j - prec f)
 
 -- j is not too large for the format
 pub record Ample (f : Format) (j : ℕ) : Type 0 where
-  pub room : j < emax f
+  pub bound : j < emax f
   pub fine : slack f j ≤ 2 ^ low f
 
 pub ample64 : Ample binary64 15
 unfolding slack
-ample64 = record { room = lit< tt; fine = lit≤ tt }
+ample64 = record { bound = lit< tt; fine = lit≤ tt }
 
-module _ (f : Format) (j : ℕ) (room : j < emax f) (s : Bool) (a c : ℕ) (C : 0 < c) (h : a ≤ 2 ^ j * c) where
+module _ (f : Format) (j : ℕ) (bound : j < emax f) (s : Bool) (a c : ℕ) (C : 0 < c) (h : a ≤ 2 ^ j * c) where
   few-dropped : drop (prec f) (a * 2 ^ low f) c ≤ low f + suc j - prec f
   few-dropped =
       let w = a * 2 ^ low f / c in
-      let p : 2 ^ (low f + suc j) ≡ 2 * 2 ^ j * 2 ^ low f = ap (λ (z : ℕ). 2 ^ z) (swap (low f) j) ∙ pow-succ' 2 (j + low f) ∙ ap (λ (z : ℕ). 2 * z) (pow-add 2 j (low f)) ∙ sym (mul-assoc 2 (2 ^ j) (2 ^ low f)) in
+      let p : 2 ^ (low f + suc j) ≡ 2 * 2 ^ j * 2 ^ low f =
+      ap (λ (z : ℕ). 2 ^ z) (swap (low f) j) ∙ pow-succ' 2 (j + low f) ∙ ap (λ (z : ℕ). 2 * z) (pow-add 2 j (low f)) ∙ sym (mul-assoc 2 (2 ^ j) (2 ^ low f)) in
       let n : a * 2 ^ low f ≤ 2 ^ j * c * 2 ^ low f = mul-le-mul-right (2 ^ low f) h in
       let q : 0 < 2 ^ j * c * 2 ^ low f = mul-pos (mul-pos (pow-pos j) C) (pow-pos (low f)) in
       let r : a * 2 ^ low f < 2 ^ (low f + suc j) * c = rw p (twice (2 ^ j) c (2 ^ low f) (a * 2 ^ low f) n q) in
@@ -83,7 +84,7 @@ module _ (f : Format) (j : ℕ) (room : j < emax f) (s : Bool) (a c : ℕ) (C : 
       let g : grid f a c * c ≤ (2 ^ j * u + slack f j) * c = total (grid f a c) c a u (slack f j) (2 ^ j) (grid-close .le) h in
       let k : slack f j ≤ 2 ^ j * u = le-trans (pow-mono (less (low f) j (prec f) (two f))) (le-of-eq (pow-add 2 j (low f))) in
       let e : 2 ^ (suc j + low f) ≡ 2 * 2 ^ j * u = pow-add 2 (suc j) (low f) ∙ ap (λ (z : ℕ). z * u) (pow-succ' 2 j) in
-      lt-of-le-of-lt (le-trans (le-of-mul-le-mul-right g C) (le-trans (double (2 ^ j) u (slack f j) k) (le-of-eq (sym e)))) (pow-lt (last (low f) j (emax f) room))
+      lt-of-le-of-lt (le-trans (le-of-mul-le-mul-right g C) (le-trans (double (2 ^ j) u (slack f j) k) (le-of-eq (sym e)))) (pow-lt (last (low f) j (emax f) bound))
     where
       total : (g c a u s t : ℕ) → g * c ≤ a * u + s * c → a ≤ t * c → g * c ≤ (t * u + s) * c
       total g c a u s t p q = let r : a * u ≤ t * c * u = mul-le-mul-right u q in omega arith
@@ -102,7 +103,7 @@ module _ (f : Format) (j : ℕ) (room : j < emax f) (s : Bool) (a c : ℕ) (C : 
 
 -- r is the fraction (p - n) / c, rounded
 pub record Rounded (f : Format) (j : ℕ) (r : Float) (p n c : ℕ) : Type 0 where
-  pub is : Own f r
+  pub is : InUnits f r
   pub near : Close (over f r * c + n * 2 ^ low f) (under f r * c + p * 2 ^ low f) (slack f j * c)
 
 -- the same difference by other numbers
@@ -115,13 +116,13 @@ rounded-move {f} {j} {r} {p} {n} {c} q m e h =
     move : (x y k u : ℕ) → (p + m) * u ≡ (q + n) * u → x + n * u ≤ y + p * u + k → y + p * u ≤ x + n * u + k → Close (x + m * u) (y + q * u) k
     move x y k u d g h = record { le = omega arith; ge = omega arith }
 
-module _ (f : Format) (j : ℕ) (room : j < emax f) where
+module _ (f : Format) (j : ℕ) (bound : j < emax f) where
   pub round-rounded : (s : Bool) (a c : ℕ) → 0 < c → a ≤ 2 ^ j * c → Rounded f j (round f s a c) (plus s a) (minus s a) c
   unfolding over under
   round-rounded s a c C h =
-      let v = round-value f j room s a c C h in
-      let k = counted f (round f s a c) s (grid f a c) v in
-      record { is = own f (round f s a c) s (grid f a c) v; near = rw (k .sign, k .mag-is) (sided s (grid f a c) (grid-close f j room s a c C h)) }
+      let v = round-value f j bound s a c C h in
+      let k = sign-and-size f (round f s a c) s (grid f a c) v in
+      record { is = in-units f (round f s a c) s (grid f a c) v; near = rw (k .sign, k .mag-is) (sided s (grid f a c) (grid-close f j bound s a c C h)) }
     where
       sided : (s : Bool) (g : ℕ) → Close (g * c) (a * 2 ^ low f) (slack f j * c) → Close (plus s g * c + minus s a * 2 ^ low f) (minus s g * c + plus s a * 2 ^ low f) (slack f j * c)
       sided true g d = record { le = omega arith; ge = omega arith }
@@ -143,7 +144,8 @@ module _ (f : Format) (j : ℕ) (room : j < emax f) where
           last true k = at true (a - b) (0 + b) (a + 0) (omega arith) (omega arith)
           last false k = let g = k tt in at false (a - b) (0 + b) (a + 0) (omega arith) (omega arith)
 
-      go : (s t w : Bool) → (T w → a < b) → (T (not w) → b ≤ a) → Rounded f j (cond (Bool·beq s t) (round f s (a + b) c) (cond w (round f t (b - a) c) (round f (s && ltb b a) (a - b) c))) (plus s a + plus t b) (minus s a + minus t b) c
+      go : (s t w : Bool) → (T w → a < b) → (T (not w) → b ≤ a)
+          → Rounded f j (cond (Bool·beq s t) (round f s (a + b) c) (cond w (round f t (b - a) c) (round f (s && ltb b a) (a - b) c))) (plus s a + plus t b) (minus s a + minus t b) c
       go false false w k l = at false (a + b) (a + b) (0 + 0) (omega arith) (omega arith)
       go true true w k l = at true (a + b) (0 + 0) (a + b) (omega arith) (omega arith)
       go false true true k l = let g = k tt in at true (b - a) (a + 0) (0 + b) (omega arith) (omega arith)

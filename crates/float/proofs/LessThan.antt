@@ -1,29 +1,16 @@
--- What the tests of `is_less` say of `less`.
-use mathlib.Core.Path.{_≡_, refl, sym, ap, subst, _∙_}
+-- What the tests of `is_less` say of `isLess`, and what a test of two flags chooses.
+use mathlib.Core.Path.{_≡_, refl, sym, _∙_}
 use mathlib.Core.Bool.{Bool, true, false, not, cond, _&&_, _||_, Bool·beq}
 use Prim.Native.Nat.{ℕ, zero, suc, _+_, _*_, _<_}
-use native.Mathlib.Nat.{zero-mul, mul-one, mul-pos, zero-lt-suc}
+use native.Mathlib.Nat.{zero-mul, mul-pos, zero-lt-suc}
 use native.Mathlib.Omega.{arith}
 use borrow.Author.Tests.{le-ltb, eqb-true, eq-eqb}
-use lib.Dec.{T, ltb, eqb}
+use lib.Dec.{eqb}
 use lib.IntN.{ℤ, pos}
 use lib.Ieee.{Float, nan, inf, fin, binary64, up, down, below, level, lt, eq, div}
 use lib.Ieee.Fits.{down-pos, up-pos}
-use Rattle.float.specs.Operations.{negative, less}
-
-never : {P : Type 0} → false ≡ true → P
-never e = absurd (subst (λ (b : Bool). T (not b)) e tt)
-
-never′ : {P : Type 0} → true ≡ false → P
-never′ e = never (sym e)
-
-and-left : (a b : Bool) → a && b ≡ true → a ≡ true
-and-left true b e = refl
-and-left false b e = never e
-
-and-right : (a b : Bool) → a && b ≡ true → b ≡ true
-and-right true b e = e
-and-right false b e = never e
+use Rattle.float.specs.Operations.{negative, isLess}
+use Rattle.float.proofs.Flags.{never, never′, and-left, and-right}
 
 or-no : (b : Bool) → b ≡ b || false
 or-no true = refl
@@ -70,11 +57,11 @@ not-zero s m e h =
     let r = some m e (pos 0) in
     omega arith
 
-less-signs : (s t : Bool) (e d : ℤ) → eq (fin s zero e) (fin t zero d) ≡ true → less (fin s zero e) (fin t zero d) ≡ s && not t
-unfolding less lt negative
+less-signs : (s t : Bool) (e d : ℤ) → eq (fin s zero e) (fin t zero d) ≡ true → isLess (fin s zero e) (fin t zero d) ≡ s && not t
+unfolding isLess lt negative
 less-signs s t e d h = rw (h, below-zeros s t (zero * up e * down d) (zero * up d * down e) (none e d) (none d e))
 
-pub less-zeros : (x y : Float) → eq x y ≡ true → eq x (fin false 0 (pos 0)) ≡ true → lt (div binary64 (fin false 1 (pos 0)) x) (div binary64 (fin false 1 (pos 0)) y) ≡ less x y
+pub less-zeros : (x y : Float) → eq x y ≡ true → eq x (fin false 0 (pos 0)) ≡ true → lt (div binary64 (fin false 1 (pos 0)) x) (div binary64 (fin false 1 (pos 0)) y) ≡ isLess x y
 less-zeros nan y h z = unfold eq in never h
 less-zeros (inf s) y h z = unfold eq in never z
 less-zeros (fin s (suc m) e) y h z = absurd (not-zero s m e z)
@@ -112,8 +99,8 @@ inf-case false t h = no-and (Bool·beq false t)
 inf-case true true h = refl
 inf-case true false h = never h
 
-pub less-equal : (x y : Float) → eq x y ≡ true → eq x (fin false 0 (pos 0)) ≡ false → false ≡ less x y
-unfolding less eq lt negative
+pub less-equal : (x y : Float) → eq x y ≡ true → eq x (fin false 0 (pos 0)) ≡ false → false ≡ isLess x y
+unfolding isLess eq lt negative
 less-equal nan y h z = never h
 less-equal (inf s) nan h z = never h
 less-equal (inf s) (inf t) h z = sym (inf-case s t h)
@@ -124,8 +111,8 @@ less-equal (fin s m e) (fin t n d) h z = sym (level-case s t (m * up e * down d)
 
 -- ---- not equal
 
-pub less-apart : (x y : Float) → eq x y ≡ false → lt x y ≡ less x y
-unfolding less
+pub less-apart : (x y : Float) → eq x y ≡ false → lt x y ≡ isLess x y
+unfolding isLess
 less-apart x y h = rw h (or-no (lt x y))
 
 -- ---- a test `n || l` that chooses y
