@@ -134,7 +134,7 @@ fn mark(store: &mut [f64; 128], r: usize) {
 }
 
 // The number of records, with record r if its place is written.
-fn held(store: &[f64; 128], r: usize) -> usize {
+fn counted(store: &[f64; 128], r: usize) -> usize {
     if r < 64 {
         if store[2 * r] != 1.0e300 {
             return r + 1;
@@ -183,7 +183,7 @@ fn ask(calculator: CoefficientCalculator, pending: usize, store: &mut [f64; 128]
     let coefficients = done.coefficients;
     let next = done.calculator;
     let more = match answer {
-        Answer::Accepted => write_answer(store, held(store, r), &coefficients),
+        Answer::Accepted => write_answer(store, counted(store, r), &coefficients),
         Answer::Refused(why) => write_refusal(why),
     };
     State {
@@ -224,6 +224,7 @@ fn replay(state: State, piece: &mut [i16; 1024], store: &mut [f64; 128]) -> Stat
     }
 }
 
+// Replays every line of the list.
 fn main() {
     let mut piece = [0i16; 1024];
     let mut store = [0.0f64; 128];

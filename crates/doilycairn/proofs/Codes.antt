@@ -17,7 +17,7 @@ use Rattle.block.specs.declared.Refusal as Block
 use Rattle.block.specs.declared.Refusal.the-variants as OfBlock
 use Rattle.block.specs.Refusals as BlockNumbers
 
-pub measuring-refused : (r : Measuring.Refusal) → 0 < MeasuringNumbers.numberOf r
+pub measuring-refused : (r : Measuring.Refusal) → 0 < MeasuringNumbers.code r
 measuring-refused OfMeasuring.InvalidState = omega arith
 measuring-refused OfMeasuring.TooManySamples = omega arith
 measuring-refused OfMeasuring.StoreTooShort = omega arith

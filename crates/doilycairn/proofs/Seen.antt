@@ -13,9 +13,9 @@ use Rattle.block.specs.Refusals.{Outcome}
 use Rattle.clip.specs.declared.Answer as Clip
 use Rattle.clip.specs.declared.Encoder.{Encoder}
 use Rattle.clip.specs.Encoding.{Out, both, outOf}
-use Rattle.coefficients.specs.declared.Answer as Measure
+use Rattle.whole.specs.Outcome as Answered
 use Rattle.coefficients.specs.declared.CoefficientCalculator.{CoefficientCalculator}
-use Rattle.coefficients.specs.Measure.{ProcessOut, processOut, measuring, FinishOut, finishOut}
+use Rattle.coefficients.specs.Measure.{ProcessEffect, processEffect, measuring, FinishEffect, finishEffect}
 use Rattle.frame.specs.declared.OneFrame.{OneFrame}
 use Rattle.image.specs.declared.Answer.the-variants.{Accepted, Refused}
 use Rattle.image.specs.declared.Opening as Image
@@ -41,12 +41,12 @@ use Rattle.doilycairn.specs.Writing.{frameCode, frameSeen, encoded, clip
 
 -- ---- measuring
 
-pub process-seen : (a : Measure.Answer) (d : CoefficientCalculator) (t : List Float) {o : ProcessOut} {k : ℕ}
-    → k ≡ Measuring.codeOf a → processOut a (measuring d t) ≡ o → processing (record { code = k; calculator = d }) t ≡ processSeen o
+pub process-seen : (a : Answered.Outcome Unit) (d : CoefficientCalculator) (t : List Float) {o : ProcessEffect} {k : ℕ}
+    → k ≡ Measuring.code a → processEffect a (measuring d t) ≡ o → processing (record { code = k; calculator = d }) t ≡ processSeen o
 process-seen a d t p q = ap (λ (k : ℕ). processing (record { code = k; calculator = d }) t) p ∙ ap processSeen q
 
-pub finish-seen : (a : Measure.Answer) (cs : List ℤ) (d : CoefficientCalculator) (t : List Float) {o : FinishOut} {k : ℕ}
-    → k ≡ Measuring.codeOf a → finishOut a cs d t ≡ o → finishing (record { code = k; coefficients = cs; calculator = d }) t ≡ finishSeen o
+pub finish-seen : (a : Answered.Outcome Unit) (cs : List ℤ) (d : CoefficientCalculator) (t : List Float) {o : FinishEffect} {k : ℕ}
+    → k ≡ Measuring.code a → finishEffect a cs d t ≡ o → finishing (record { code = k; coefficients = cs; calculator = d }) t ≡ finishSeen o
 finish-seen a cs d t p q = ap (λ (k : ℕ). finishing (record { code = k; coefficients = cs; calculator = d }) t) p ∙ ap finishSeen q
 
 -- ---- a frame, a clip

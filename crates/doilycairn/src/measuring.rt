@@ -1,7 +1,8 @@
 // Measuring samples and asking for coefficients (section 1).
 ghost use mathlib.Core.Path.{_≡_};
-ghost use Rattle.coefficients.specs.Measure.{fresh};
-ghost use Rattle.doilycairn.specs.Measuring.{codeOf, processing, processInC, finishing, finishInC};
+ghost use Rattle.coefficients.specs.Measure.{fresh, outcome};
+ghost use Rattle.doilycairn.specs.Measuring as Measuring;
+ghost use Rattle.doilycairn.specs.Measuring.{processing, processInC, finishing, finishInC};
 use coefficients::Answer;
 use coefficients::CoefficientCalculator;
 
@@ -20,9 +21,9 @@ pub struct Finished {
     pub calculator: CoefficientCalculator,
 }
 
-// The number of an answer.
-fn code_of(answer: Answer) -> u32
-    ensures { λ r. ⌜ r ≡ codeOf answer ⌝ }
+// The number of an answer: 0 where the call is accepted.
+fn code(answer: Answer) -> u32
+    ensures { λ r. ⌜ r ≡ Measuring.code (outcome answer) ⌝ }
 {
     match answer {
         Answer::Accepted => 0,
@@ -51,7 +52,7 @@ pub extern "C" fn doilycairn_process(
     let answer = done.answer;
     let after = done.calculator;
     Processed {
-        code: code_of(answer),
+        code: code(answer),
         calculator: after,
     }
 }
@@ -69,7 +70,7 @@ pub extern "C" fn doilycairn_finish(
     let coefs = done.coefficients;
     let kept = done.calculator;
     Finished {
-        code: code_of(answer),
+        code: code(answer),
         coefficients: coefs,
         calculator: kept,
     }

@@ -1,13 +1,13 @@
 // How much room the calls' buffers need.
 ghost use mathlib.Core.Path.{_≡_};
-ghost use Rattle.coefficients.specs.Measure.{neededOf};
+ghost use Rattle.coefficients.specs.Measure.{needed};
 ghost use Rattle.doilycairn.specs.Sizes.{imageSize};
 use layout::sizes::size;
 
 // The numbers of the store that measuring so many samples needs.
 #[no_mangle]
 pub extern "C" fn doilycairn_store_size(samples: u32) -> u64
-    ensures { λ r. ⌜ r ≡ neededOf samples ⌝ }
+    ensures { λ r. ⌜ r ≡ needed samples ⌝ }
 {
     2 * ((samples as u64 + 13) / 14)
 }

@@ -73,6 +73,7 @@ fn replay() -> bool {
     io::write_all(1, b"\n")
 }
 
+// Replays every line of the input.
 fn main() {
     let mut turns: u32 = 1_000_000;
     while turns > 0 && replay() {

@@ -1,18 +1,17 @@
 -- The clip theorem, and the theorem on closed images that it rests on.
 use mathlib.Core.Path.{_≡_, refl, sym, ap, _∙_, subst}
 use mathlib.Core.Bool.{true, false}
-use mathlib.Core.List.{List, [], _++_}
+use mathlib.Core.List.{List, [], _∷_, _++_}
 use Prim.Native.Nat.{ℕ, _+_, _*_, _/_, _%_, _^_, _≤_, _<_}
 use native.Mathlib.Numerals.{add-one}
 use native.Mathlib.Omega.{arith}
 use lib.Ieee.{Float}
 use lib.IntN.{ℤ, pos, natAbs, _-ℤ_}
-use lib.ListN.{length, getD, drop}
+use lib.ListN.{length, getD, drop, replicate}
 use Rattle.whole.specs.declared.History.{History}
 use Rattle.frame.proofs.LawsFrame.{limits-bounded}
-use Rattle.coefficients.specs.declared.Answer.the-variants as Measuring
-use Rattle.coefficients.specs.Measure.{neededOf}
-use Rattle.coefficients.specs.Runs as measured
+use Rattle.coefficients.specs.Measure.{needed}
+use Rattle.whole.specs.Outcome.{accepted}
 use Rattle.coefficients.specs.Runs.{coefficientsOf}
 use Rattle.coefficients.proofs.WholeRuns.{measuring-runs}
 use Rattle.clip.specs.declared.Answer.the-variants as Encoding
@@ -33,11 +32,11 @@ use Rattle.image.specs.declared.Answer.the-variants.{Accepted}
 use Rattle.image.specs.Reading.{headIn}
 use Rattle.image.specs.Opened.{openBy, openOf}
 use Rattle.image.specs.Sameness.{samplesIn}
-use Rattle.round_trip.specs.Job.{Sampled, Starting, joined, measuringCalls, encodingCalls, lastCoefficients, measuringAnswers, encodingAnswers}
+use Rattle.round_trip.specs.Job.{Sampled, Starting, joined, measuringCalls, encodingCalls, lastCoefficients, encodingAnswers}
 use Rattle.round_trip.specs.Outcome.{Outcome, seen, start, begun, Done}
 use Rattle.round_trip.proofs.Opening.{total-is, rate-is, block-is, gain-is, blocks-are, coefficients-are, image-opens}
 use Rattle.round_trip.proofs.Heard.{all-heard, block-plays, all-plays, header-heard}
-use Rattle.round_trip.proofs.Pieces.{coefficients-length, measured-answers, measured-last, encoded-after, encoded-answers}
+use Rattle.round_trip.proofs.Pieces.{coefficients-length, measured-answers, last-answer, encoded-after, encoded-answers}
 
 -- ---- of X's closed image
 
@@ -104,7 +103,7 @@ closed-image n rate size gain cs h l sixteen hf ok ks closed fits =
 -- leaves the image that document 01 defines; it opens; its blocks play from their entries, exactly as many samples as X has; and each
 -- sample in a frame of exponent p below 12 is within ⌊(3 × 2^p + 1) / 2⌋ of its original.
 pub clip-theorem : (ps qs : List (List ℤ)) → joined ps ≡ joined qs → Sampled (joined qs)
-    → (store : List Float) → neededOf (length (joined qs)) ≤ length store
+    → (store : List Float) → needed (length (joined qs)) ≤ length store
     → (rate size gain : ℕ) (h : History) → Starting h → (l : List ℕ)
     → start ps qs store rate size gain h l .answer ≡ Encoding.Accepted
     → Done ps qs store rate size gain h l
@@ -114,14 +113,17 @@ clip-theorem ps qs same fits store room rate size gain h hf l ok =
     let cs = lastCoefficients (seen ps qs store rate size gain h l) in
     let few = start-accepted (length xs) rate size cs (length l) (start-answered (length xs) rate size gain cs h l ok) .limits .few in
     let n : length (joined ps) ≡ length xs = ap length same in
-    let run = measuring-runs store (measuringCalls ps) in
-    let c : cs ≡ coefficientsOf xs = ap lastCoefficients run ∙ measured-last (length store) ps [] (omega arith) (omega arith) ∙ ap coefficientsOf same in
+    let all : seen ps qs store rate size gain h l ≡ replicate (length ps) (accepted []) ++ (accepted (coefficientsOf xs) ∷ []) =
+    measuring-runs store (measuringCalls ps)
+    ∙ measured-answers (length store) ps [] (omega arith) (omega arith)
+    ∙ ap (λ (ys : List ℤ). replicate (length ps) (accepted []) ++ (accepted (coefficientsOf ys) ∷ [])) same in
+    let c : cs ≡ coefficientsOf xs = ap lastCoefficients all ∙ last-answer (length ps) (coefficientsOf xs) in
     let sixteen : length cs ≡ 16 = ap length c ∙ coefficients-length xs in
     let g = begun ps qs store rate size gain h l in
     let a : plainAfter g (plain [] false) (encodingCalls qs) ≡ plain xs true = encoded-after g qs [] (omega arith) in
     let z : plainAfter g (plain [] false) (encodingCalls qs) .samples ≡ xs = ap (λ (m : Plain). m .samples) a in
     record {
-      measured-answers = rw add-one (ap measuringAnswers run ∙ measured-answers (length store) ps [] (omega arith) (omega arith));
+      measured-answers = all;
       coefficients = c;
       encoded-answers = rw add-one (ap encodingAnswers (encoding-runs (length xs) rate size gain cs h l sixteen ok (encodingCalls qs)) ∙ encoded-answers g qs [] (omega arith));
       outcome =

@@ -6,7 +6,7 @@ use lib.ListN.{getD}
 use mir.Syntax.{w16}
 use mir.Val.{SFits}
 use Rattle.whole.specs.declared.History.{History}
-use Rattle.coefficients.specs.declared.Answer as Measure
+use Rattle.whole.specs.Outcome.{Outcome, accepted, refused}
 use Rattle.coefficients.specs.Runs as measured
 use Rattle.coefficients.specs.Runs.{measures, asks}
 use Rattle.clip.specs.declared.Answer.{Answer}
@@ -36,15 +36,13 @@ encodingCalls [] = closes ∷ []
 encodingCalls (p ∷ ps) = feeds p ∷ encodingCalls ps
 
 -- the coefficients that the last call answered
-unfoldable pub lastCoefficients : List measured.Seen → List ℤ
+unfoldable pub lastCoefficients : List (Outcome (List ℤ)) → List ℤ
 lastCoefficients [] = []
-lastCoefficients (s ∷ []) = s .coefficients
-lastCoefficients (s ∷ t ∷ ss) = lastCoefficients (t ∷ ss)
+lastCoefficients (accepted cs ∷ []) = cs
+lastCoefficients (refused n ∷ []) = []
+lastCoefficients (o ∷ q ∷ os) = lastCoefficients (q ∷ os)
 
 -- what each call answered
-unfoldable pub measuringAnswers : List measured.Seen → List Measure.Answer
-measuringAnswers [] = []
-measuringAnswers (s ∷ ss) = s .answer ∷ measuringAnswers ss
 
 unfoldable pub encodingAnswers : List encoded.Seen → List Answer
 encodingAnswers [] = []

@@ -1,14 +1,15 @@
 -- What is promised of the state and the image that a closed clip leaves. Definitions only.
 use mathlib.Core.Path.{_≡_}
 use mathlib.Core.Bool.{true}
-use mathlib.Core.List.{List, _++_}
+use mathlib.Core.List.{List, [], _∷_, _++_}
 use Prim.Native.Nat.{ℕ, _+_, _*_, _/_, _%_, _^_, _≤_, _<_}
 use lib.Ieee.{Float}
 use lib.IntN.{ℤ, pos, natAbs, _-ℤ_}
 use lib.ListN.{length, getD, drop, replicate}
 use Rattle.whole.specs.declared.History.{History}
 use Rattle.block.specs.Address.{addressToSample}
-use Rattle.coefficients.specs.declared.Answer.the-variants as Measuring
+use Rattle.whole.specs.Outcome as Answered
+use Rattle.whole.specs.Outcome.{accepted}
 use Rattle.coefficients.specs.Measure.{measuring, fresh}
 use Rattle.coefficients.specs.Runs as measured
 use Rattle.coefficients.specs.Runs.{coefficientsOf}
@@ -24,7 +25,7 @@ use Rattle.image.specs.Opened.{openOf}
 use Rattle.image.specs.Samples.{playOf}
 use Rattle.image.specs.Sameness.{blockSamples, samplesIn}
 use Rattle.image.specs.AllBlocks.{playAllOf}
-use Rattle.round_trip.specs.Job.{joined, measuringCalls, encodingCalls, lastCoefficients, measuringAnswers, encodingAnswers}
+use Rattle.round_trip.specs.Job.{joined, measuringCalls, encodingCalls, lastCoefficients, encodingAnswers}
 
 -- of a clip of the samples xs that was started as g says on a buffer that held l: the state and the buffer once it is closed
 pub record Outcome (g : Start) (xs : List ℤ) (l : List ℕ) (closed : Both) : Type 0 where
@@ -53,7 +54,7 @@ pub record Outcome (g : Start) (xs : List ℤ) (l : List ℕ) (closed : Both) : 
 
 -- of the whole job: a recording measured in pieces ps on a store, started with what the asking answered, fed in pieces qs and closed
 module _ (ps qs : List (List ℤ)) (store : List Float) (rate size gain : ℕ) (h : History) (l : List ℕ) where
-  abbrev pub seen : List measured.Seen
+  abbrev pub seen : List (Answered.Outcome (List ℤ))
   seen = measured.run (measuring fresh store) (measuringCalls ps)
 
   abbrev pub start : Out
@@ -64,7 +65,7 @@ module _ (ps qs : List (List ℤ)) (store : List Float) (rate size gain : ℕ) (
 
   pub record Done : Type 0 where
     -- every measuring is accepted, and the asking; its coefficients are those of X
-    pub measured-answers : measuringAnswers seen ≡ replicate (length ps + 1) Measuring.Accepted
+    pub measured-answers : seen ≡ replicate (length ps) (accepted []) ++ (accepted (coefficientsOf (joined qs)) ∷ [])
     pub coefficients : lastCoefficients seen ≡ coefficientsOf (joined qs)
     -- every feeding is accepted, and the closing
     pub encoded-answers : encodingAnswers (encoded.run (sizeOf (length (joined qs)) (begun .block)) (left start) (encodingCalls qs)) ≡ replicate (length qs + 1) Encoding.Accepted
