@@ -7,7 +7,7 @@ use native.Mathlib.Omega.{arith}
 use borrow.Author.Tests.{leb-true, ltb-false, eqb-false}
 use lib.Dec.{leb, ltb, eqb}
 use lib.IntN.{ℤ}
-use Rattle.frame.specs.Frame.{withinLimits}
+use Rattle.frame.specs.Frame.{coefficientsOk}
 use Rattle.clip.specs.declared.Answer.{Answer}
 use Rattle.clip.specs.declared.Answer.the-variants.{Accepted, Refused}
 use Rattle.clip.specs.declared.Encoder.{Encoder}
@@ -38,7 +38,7 @@ failed false r a p = (refl, p)
 pub record Started (n rate b : ℕ) (cs : List ℤ) (len : ℕ) : Type 0 where
   pub some : rate ≡ 0 → ⊥
   pub limits : Limits n b
-  pub within : withinLimits cs ≡ true
+  pub within : coefficientsOk cs ≡ true
   pub size : sizeOf n b ≤ len
 
 pub start-accepted : (n rate size : ℕ) (cs : List ℤ) (len : ℕ) → startAnswer n rate size cs len ≡ Accepted → Started n rate (cutDown size) cs len
@@ -49,7 +49,7 @@ start-accepted n rate size cs len p =
     let b = failed (eqb rate 0) RateZero _ (a .1) in
     let d = passed (blockOk size) BadBlockSize _ (b .1) in
     let w = both-true (leb 8 size) (leb size 65536) (d .0) in
-    let e = passed (withinLimits cs) CoefficientOutside _ (d .1) in
+    let e = passed (coefficientsOk cs) CoefficientOutside _ (d .1) in
     let f = failed (ltb len (sizeOf n (size / 8 * 8))) ImageTooShort Accepted (e .1) in
     let lo = leb-true 8 size (w .0) in
     let hi = leb-true size 65536 (w .1) in

@@ -8,7 +8,7 @@ use lib.Dec.{eqb, leb, ltb}
 use lib.IntN.{ℤ, pos}
 use lib.ListN.{length, getD, take, set, replicate}
 use lib.Seq.{sets}
-use Rattle.frame.specs.Frame.{encodeFrame, historyAfter, withinLimits}
+use Rattle.frame.specs.Frame.{encodeFrame, historyAfter, coefficientsOk}
 use Rattle.frame.specs.declared.EncodedFrame.{EncodedFrame}
 use Rattle.frame.specs.declared.History.{History}
 use Rattle.clip.specs.declared.Answer.{Answer}
@@ -64,7 +64,7 @@ countsOk n total closed passes = not (closed && ltb n total) && leb passes (104 
 -- a state with none of these, nor "a coefficient outside 7"
 unfoldable pub validOf : Encoder → Bool
 validOf e =
-    numbersOk (e .fed) (e .total) (e .block) (e .rate) && (withinLimits (e .coefficients) && countsOk (e .fed) (e .total) (e .closed) (e .passes))
+    numbersOk (e .fed) (e .total) (e .block) (e .rate) && (coefficientsOk (e .coefficients) && countsOk (e .fed) (e .total) (e .closed) (e .passes))
 
 -- ---- a frame is stored
 
@@ -175,7 +175,7 @@ startAnswer n rate size cs room =
     cond (not (totalOk n)) (Refused BadSampleCount)
     (cond (eqb rate 0) (Refused RateZero)
     (cond (not (blockOk size)) (Refused BadBlockSize)
-    (cond (not (withinLimits cs)) (Refused CoefficientOutside)
+    (cond (not (coefficientsOk cs)) (Refused CoefficientOutside)
     (cond (ltb room (sizeOf n (cutDown size))) (Refused ImageTooShort)
     Accepted))))
 

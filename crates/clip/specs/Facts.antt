@@ -3,7 +3,7 @@ use Rattle.layout.specs.Limits.{Limits}
 use Prim.Native.Nat.{ℕ, _+_, _*_, _/_, _%_, _≤_, _<_}
 use mathlib.Core.Path.{_≡_}
 use mathlib.Core.Bool.{true}
-use Rattle.frame.specs.Frame.{withinLimits}
+use Rattle.frame.specs.Frame.{coefficientsOk}
 use Rattle.clip.specs.declared.Encoder.{Encoder}
 use Rattle.layout.specs.Sizes.{bodyOf, sizeOf}
 use Rattle.whole.specs.Frames.{most, framesOf}
@@ -21,7 +21,7 @@ pub record Room (n b q k len : ℕ) : Type 0 where
 -- of m samples i are in: the others fit the clip, and the image is large enough
 pub record Going (e : Encoder) (i m len : ℕ) : Type 0 where
   pub limits : Limits (e .total) (e .block)
-  pub within : withinLimits (e .coefficients) ≡ true
+  pub within : coefficientsOk (e .coefficients) ≡ true
   pub rest : e .fed + m ≤ e .total + i
   pub count : e .passes ≤ 104 * (e .fed / 14)
   pub size : sizeOf (e .total) (e .block) ≤ len
@@ -29,7 +29,7 @@ pub record Going (e : Encoder) (i m len : ℕ) : Type 0 where
 -- all samples are in
 pub record Whole (e : Encoder) (len : ℕ) : Type 0 where
   pub limits : Limits (e .total) (e .block)
-  pub within : withinLimits (e .coefficients) ≡ true
+  pub within : coefficientsOk (e .coefficients) ≡ true
   pub all : e .fed ≡ e .total
   pub count : e .passes ≤ 104 * (e .fed / 14)
   pub size : sizeOf (e .total) (e .block) ≤ len
@@ -37,6 +37,6 @@ pub record Whole (e : Encoder) (len : ℕ) : Type 0 where
 -- what the state test says of a state that passes it
 pub record Sound (e : Encoder) : Type 0 where
   pub limits : Limits (e .total) (e .block)
-  pub within : withinLimits (e .coefficients) ≡ true
+  pub within : coefficientsOk (e .coefficients) ≡ true
   pub fed : e .fed ≤ e .total
   pub count : e .passes ≤ 104 * encodedOf (e .fed) (e .total) (e .closed)

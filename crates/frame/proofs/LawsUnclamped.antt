@@ -19,8 +19,8 @@ use lib.Ieee.Fits.{nearest-le, kept-lt, div-fits, fits-widens}
 use lib.Ieee.Nearest.{closest}
 use lib.Ieee.Positive.{num, den}
 use lib.Ieee.Scale.{grid}
-use Rattle.frame.specs.Quantise.{unit24, round24, scale, nearestDown, quantised, clamp4}
-use Rattle.frame.specs.Pass.{Bounded, residual, reconstruct, stepOf}
+use Rattle.frame.specs.Quantise.{unit24, round24, scale, nearestDown, quantise, clamp4}
+use Rattle.frame.specs.Pass.{Bounded, residual, reconstruct, codeSample}
 use Rattle.frame.specs.Unclamped.{asF32, nearHalf, quotient, unclamped}
 use Rattle.frame.specs.declared.pass.Step.{Step}
 use Rattle.frame.proofs.LawsFloat.{few-digits, whole-at, round-between, neg-at, div-at, add-at, toSigned-at}
@@ -137,8 +137,8 @@ none = sym (round-same 0 (lit< tt))
 -- "this equals the Rust's ± 0.4999999": for every D of 32 bits, of either sign or 0, and every p up to 12, the Rust's expression in f32 and f64
 -- gives the number of the whole-number rule. The cast is the 24-bit rounding (`cast-at`), the quotient is exact (`quotient-at`), and the sum, which is
 -- rounded once, stays 2 ^ -26 off the whole numbers, so that it is cut to the right one (`sum-at`).
-pub unclamped-is : (d : ℤ) (p : ℕ) → natAbs d ≤ 2147483648 → p ≤ 12 → unclamped d p ≡ quantised d p
-unfolding unclamped sub quantised
+pub unclamped-is : (d : ℤ) (p : ℕ) → natAbs d ≤ 2147483648 → p ≤ 12 → unclamped d p ≡ quantise d p
+unfolding unclamped sub quantise
 unclamped-is (pos zero) p h l =
     let down : nearestDown (round24 0) (scale p) ≡ 0 = ap (λ (m : ℕ). nearestDown m (scale p)) none ∙ down-zero (scale p) (scale-pos p) in
     rounded (pos 0) p true (neg nearHalf) h l (inr none) near-half-neg ∙ ap (λ (m : ℕ). negℤ (pos m)) down ∙ ap pos (sym down)
@@ -148,15 +148,15 @@ unclamped-is (pos (suc n)) p h l =
 unclamped-is (negsuc n) p h l = rounded (negsuc n) p true (neg nearHalf) h l (inl refl) near-half-neg
 
 -- no further: at p = 13 this D is over a half of S' by less than 0.4999999 lacks
-pub unclamped-13 : (unclamped (pos 8388609) 13 ≡ pos 0) × (quantised (pos 8388609) 13 ≡ pos 1)
-unfolding unclamped quotient nearHalf round ofInt div add sub toSigned quantised round24 unit24 nearestDown
+pub unclamped-13 : (unclamped (pos 8388609) 13 ≡ pos 0) × (quantise (pos 8388609) 13 ≡ pos 1)
+unfolding unclamped quotient nearHalf round ofInt div add sub toSigned quantise round24 unit24 nearestDown
 unclamped-13 = (refl, refl)
 
 -- so the step of a pass is the one with the Rust's expression: every D that it meets is in range
-pub step-unclamped : (c0 c1 s0 s1 x : ℤ) (p : ℕ) → Bounded c0 c1 → SFits w16 s0 → SFits w16 s1 → SFits w16 x → p ≤ 12 → stepOf c0 c1 s0 s1 x p ≡
+pub step-unclamped : (c0 c1 s0 s1 x : ℤ) (p : ℕ) → Bounded c0 c1 → SFits w16 s0 → SFits w16 s1 → SFits w16 x → p ≤ 12 → codeSample c0 c1 s0 s1 x p ≡
     let u = unclamped (residual c0 c1 s0 s1 x) p in
     record { nibble = clamp4 u; sample = reconstruct c0 c1 s0 s1 (clamp4 u) p; overflow = natAbs (u -ℤ clamp4 u) }
-unfolding stepOf
+unfolding codeSample
 step-unclamped c0 c1 s0 s1 x p b f g h l =
-    let is : unclamped (residual c0 c1 s0 s1 x) p ≡ quantised (residual c0 c1 s0 s1 x) p = unclamped-is (residual c0 c1 s0 s1 x) p (le-trans (residual-size c0 c1 s0 s1 x b f g h) (lit≤ tt)) l in
+    let is : unclamped (residual c0 c1 s0 s1 x) p ≡ quantise (residual c0 c1 s0 s1 x) p = unclamped-is (residual c0 c1 s0 s1 x) p (le-trans (residual-size c0 c1 s0 s1 x b f g h) (lit≤ tt)) l in
     rw is

@@ -39,5 +39,5 @@ passesOf h xs cs zero = 0
 passesOf h xs cs (suc k) = passesOf h xs cs k + candidateAt h xs cs k .passes
 
 -- what is known after the pairs 0 to k: the winner among these alone, and their passes
-unfoldable pub bestOf : History → List ℤ → List ℤ → ℕ → Best
-bestOf h xs cs k = let i = winner h xs cs k in record { candidate = candidateAt h xs cs i; index = i; passes = passesOf h xs cs (suc k) }
+unfoldable pub choose : History → List ℤ → List ℤ → ℕ → Best
+choose h xs cs k = let i = winner h xs cs k in record { candidate = candidateAt h xs cs i; index = i; passes = passesOf h xs cs (suc k) }

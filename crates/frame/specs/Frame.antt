@@ -32,9 +32,9 @@ unfoldable pub byteOf : List ℤ → ℕ → ℕ
 byteOf ns k = low4 (getD ns (2 * k) (pos 0)) * 16 + low4 (getD ns (2 * k + 1) (pos 0))
 
 -- "a header byte, then two nibbles a byte": the header and k bytes
-unfoldable pub packed : ℕ → List ℤ → ℕ → List ℕ
-packed b ns zero = b ∷ []
-packed b ns (suc k) = packed b ns k ++ (byteOf ns k ∷ [])
+unfoldable pub packFrame : ℕ → List ℤ → ℕ → List ℕ
+packFrame b ns zero = b ∷ []
+packFrame b ns (suc k) = packFrame b ns k ++ (byteOf ns k ∷ [])
 
 -- the four bits of sample i in a frame's bytes
 unfoldable pub nibbleAt : List ℕ → ℕ → ℕ
@@ -45,7 +45,7 @@ unfoldable pub encodeFrame : History → List ℤ → List ℤ → EncodedFrame
 encodeFrame h xs cs =
     let i = winner h xs cs 7 in
     let c = candidateAt h xs cs i in
-    record { bytes = packed (header i (c .exponent)) (c .nibbles) 7; passes = passesOf h xs cs 8; samples = c .samples }
+    record { bytes = packFrame (header i (c .exponent)) (c .nibbles) 7; passes = passesOf h xs cs 8; samples = c .samples }
 
 -- samples with the two before them, oldest first
 unfoldable pub preceded : History → List ℤ → List ℤ
@@ -56,25 +56,25 @@ unfoldable pub historyAfter : History → List ℤ → ℕ → History
 historyAfter h xs m = record { newest = getD (preceded h xs) (suc m) (pos 0); older = getD (preceded h xs) m (pos 0) }
 
 -- code 7: "c0 outside ±4096 or c1 outside ±2048"
-unfoldable pub pairWithin : ℤ → ℤ → Bool
-pairWithin c0 c1 = leb (natAbs c0) 4096 && leb (natAbs c1) 2048
+unfoldable pub pairOk : ℤ → ℤ → Bool
+pairOk c0 c1 = leb (natAbs c0) 4096 && leb (natAbs c1) 2048
 
 -- the first k pairs are within the limits
-unfoldable pub within : List ℤ → ℕ → Bool
-within cs zero = true
-within cs (suc k) = within cs k && pairWithin (c0At cs k) (c1At cs k)
+unfoldable pub pairsOk : List ℤ → ℕ → Bool
+pairsOk cs zero = true
+pairsOk cs (suc k) = pairsOk cs k && pairOk (c0At cs k) (c1At cs k)
 
-unfoldable pub withinLimits : List ℤ → Bool
-withinLimits cs = within cs 8
+unfoldable pub coefficientsOk : List ℤ → Bool
+coefficientsOk cs = pairsOk cs 8
 
 -- document 01's number
-abbrev pub numberOf : Refusal → ℕ
-numberOf CoefficientOutside = 7
+abbrev pub code : Refusal → ℕ
+code CoefficientOutside = 7
 
 -- "answers the eight bytes, the passes and the new history"; a refusal answers no bytes, no passes and the history given
 unfoldable pub encodeOneFrame : History → List ℤ → List ℤ → OneFrame
 encodeOneFrame h xs cs =
     let e = encodeFrame h xs cs in
-    cond (withinLimits cs)
+    cond (coefficientsOk cs)
     (record { verdict = Encoded; bytes = e .bytes; passes = e .passes; history = historyAfter h (e .samples) 14 })
     (record { verdict = Refused CoefficientOutside; bytes = replicate 8 0; passes = 0; history = h })

@@ -3,10 +3,10 @@ ghost use mathlib.Core.Path.{_≡_};
 ghost use Prim.Native.Nat.{ℕ, _<_};
 ghost use lib.IntN.{pos};
 ghost use lib.ListN.{getD};
-ghost use Rattle.frame.specs.Frame.{low4, packed, InNibble};
+ghost use Rattle.frame.specs.Frame.{low4, packFrame, InNibble};
 
 // The four bits of a nibble.
-fn low_four(n: i8) -> u8
+fn low_4(n: i8) -> u8
     requires { ⌜ InNibble n ⌝ }
     ensures { λ r. ⌜ r ≡ low4 n ⌝ }
     ensures { λ r. ⌜ r < 16 ⌝ }
@@ -20,7 +20,7 @@ fn low_four(n: i8) -> u8
 // The header and seven bytes, high nibble first.
 pub(crate) fn pack_frame(header: u8, nibbles: [i8; 14]) -> [u8; 8]
     requires { ⌜ ((k : ℕ) → k < 14 → InNibble (getD nibbles k (pos 0))) ⌝ }
-    ensures { λ r. ⌜ r ≡ packed header nibbles 7 ⌝ }
+    ensures { λ r. ⌜ r ≡ packFrame header nibbles 7 ⌝ }
 {
     let mut out = [0u8; 8];
     out[0] = header;
@@ -28,8 +28,8 @@ pub(crate) fn pack_frame(header: u8, nibbles: [i8; 14]) -> [u8; 8]
     while k < 7 {
         let a = nibbles[2 * k];
         let b = nibbles[2 * k + 1];
-        let hi = low_four(a);
-        let lo = low_four(b);
+        let hi = low_4(a);
+        let lo = low_4(b);
         out[k + 1] = hi * 16 + lo;
         k = k + 1;
     }

@@ -90,32 +90,32 @@ fn print_sample(x: i16) {
 fn history_after(
     history: frame::History,
     samples: [i16; 14],
-    coefs: [i16; 16],
+    coefficients: [i16; 16],
     m: usize,
 ) -> frame::History
-    requires { ⌜ AllBounded coefs ⌝ }
+    requires { ⌜ AllBounded coefficients ⌝ }
     requires { ⌜ m ≤ 14 ⌝ }
 {
-    let e = frame::encode_frame(history, samples, coefs);
+    let e = frame::encode_frame(history, samples, coefficients);
     let kept = e.samples;
     frame::history_after(history, kept, m)
 }
 
 // Encodes one frame and writes its answer.
-fn answer(history: frame::History, samples: [i16; 14], coefs: [i16; 16], m: usize) -> bool
+fn answer(history: frame::History, samples: [i16; 14], coefficients: [i16; 16], m: usize) -> bool
     requires { ⌜ m ≤ 14 ⌝ }
 {
-    if !frame::coefficients_ok(coefs) {
+    if !frame::coefficients_ok(coefficients) {
         return io::write_all(1, b"refused 7\n");
     }
-    let one = frame::encode_one_frame(history, samples, coefs);
+    let one = frame::encode_one_frame(history, samples, coefficients);
     let bytes = one.bytes;
     print_bytes(bytes);
     io::write_all(1, b" ");
     io::print_hex(1, one.passes as u64, 2);
     let mut after = one.history;
     if m < 14 {
-        after = history_after(history, samples, coefs, m);
+        after = history_after(history, samples, coefficients, m);
     }
     print_sample(after.newest);
     print_sample(after.older);
@@ -136,8 +136,8 @@ fn replay() -> bool {
         older: older,
     };
     let samples = samples_of(&line);
-    let coefs = coefficients_of(&line);
-    answer(history, samples, coefs, count(&line))
+    let coefficients = coefficients_of(&line);
+    answer(history, samples, coefficients, count(&line))
 }
 
 fn main() {

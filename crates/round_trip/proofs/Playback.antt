@@ -9,7 +9,7 @@ use lib.ListN.{getD, take}
 use lib.Seq.{take-suc}
 use Rattle.whole.specs.Whole.{clamp16, floored, signedNibble}
 use Rattle.frame.specs.Choice.{AllBounded, c0At, c1At}
-use Rattle.frame.specs.Estimate.{weighted}
+use Rattle.frame.specs.Estimate.{weigh}
 use Rattle.frame.specs.Frame as encoded
 use Rattle.frame.specs.Frame.{encodeFrame, historyAfter}
 use Rattle.frame.specs.declared.History.{History}
@@ -33,8 +33,8 @@ nibble-same bytes i =
 module _ (cs : List ℤ) (header : ℕ) (s0 s1 : ℤ) (n : ℕ) where
   -- the sample that a header's pair and scale give
   named : header / 16 ≤ 7
-      → nextSample cs (contextOf header s0 s1) n ≡ clamp16 (floored (weighted (c0At cs (header / 16)) (c1At cs (header / 16)) s0 s1 +ℤ pos 1024) 2048 +ℤ signedNibble n *ℤ pos (2 ^ (header % 16)))
-  unfolding nextSample sample.sampleOf predictorOf scaleOf weighted
+      → nextSample cs (contextOf header s0 s1) n ≡ clamp16 (floored (weigh (c0At cs (header / 16)) (c1At cs (header / 16)) s0 s1 +ℤ pos 1024) 2048 +ℤ signedNibble n *ℤ pos (2 ^ (header % 16)))
+  unfolding nextSample sample.sampleOf predictorOf scaleOf weigh
   named l =
       let e : header / 16 % 8 ≡ header / 16 = omega arith in
       rw e

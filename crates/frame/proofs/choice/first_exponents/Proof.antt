@@ -14,10 +14,10 @@ use Rattle.frame.proofs.choice.first_exponents.Statement.{statement}
 use Rattle.frame.proofs.choice.first_exponents.Tie as tie
 
 abbrev Inv-loop : tie.InvT-loop
-Inv-loop history samples coefs out₀ k₀ out k = (k ≤ 8) × (length out ≡ 8) × ((j : ℕ) → j < k → getD out j 0 ≡ firstExponent (c0At coefs j) (c1At coefs j) history samples)
+Inv-loop history samples coefficients out₀ k₀ out k = (k ≤ 8) × (length out ≡ 8) × ((j : ℕ) → j < k → getD out j 0 ≡ firstExponent (c0At coefficients j) (c1At coefficients j) history samples)
 
 abbrev μ-loop : tie.MeasureT-loop
-μ-loop history samples coefs out₀ k₀ out k = 8 - k
+μ-loop history samples coefficients out₀ k₀ out k = 8 - k
 
 never : (j : ℕ) → j < 0 → ⊥
 never j m = omega arith

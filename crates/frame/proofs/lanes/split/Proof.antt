@@ -13,15 +13,15 @@ use Rattle.frame.proofs.lanes.split.Statement.{statement}
 use Rattle.frame.proofs.lanes.split.Tie as tie
 
 abbrev Inv-loop : tie.InvT-loop
-Inv-loop coefs c0₀ c1₀ k₀ c0 c1 k =
+Inv-loop coefficients c0₀ c1₀ k₀ c0 c1 k =
     (k ≤ 8)
     × (length c0 ≡ 8)
     × (length c1 ≡ 8)
-    × ((j : ℕ) → j < k → getD c0 j (pos 0) ≡ c0At coefs j)
-    × ((j : ℕ) → j < k → getD c1 j (pos 0) ≡ c1At coefs j)
+    × ((j : ℕ) → j < k → getD c0 j (pos 0) ≡ c0At coefficients j)
+    × ((j : ℕ) → j < k → getD c1 j (pos 0) ≡ c1At coefficients j)
 
 abbrev μ-loop : tie.MeasureT-loop
-μ-loop coefs c0₀ c1₀ k₀ c0 c1 k = 8 - k
+μ-loop coefficients c0₀ c1₀ k₀ c0 c1 k = 8 - k
 
 never : (j : ℕ) → j < 0 → ⊥
 never j m = omega arith

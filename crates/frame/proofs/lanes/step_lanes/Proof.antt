@@ -9,7 +9,7 @@ use lib.ListN.{length, getD, set, length-set}
 use mir.Syntax.{w16, w32, w64}
 use mir.Val.{Fits, SFits, toZ, ofZ}
 use mir.Facts.{toZ-ofZ}
-use Rattle.frame.specs.Lanes.{Room, laneOf, laneNext}
+use Rattle.frame.specs.Lanes.{LaneRoom, laneOf, stepLane}
 use Rattle.frame.proofs.LawsLanes.{Mixed, mixed-more}
 use Rattle.frame.proofs.lanes.step_lanes.Statement.{statement}
 use Rattle.frame.proofs.lanes.step_lanes.Tie as tie
@@ -193,7 +193,7 @@ step-lane-requires c κs =
       toZ-ofZ (older-fits (top .before)),
       toZ-ofZ (newest-fits (top .before .before)),
     )
-    (s .pre .0 .pair k m, (s .pre .0 .unit k m, subst Room (sym (l .loop .inv .6 .kept k (le-refl k))) (s .pre .1 k m)))
+    (s .pre .0 .pair k m, (s .pre .0 .unit k m, subst LaneRoom (sym (l .loop .inv .6 .kept k (le-refl k))) (s .pre .1 k m)))
 
 loop-again : tie.Need-loop-again Inv-loop μ-loop
 loop-again c =

@@ -9,13 +9,13 @@ use lib.ListN.{length, getD, take, set, length-set}
 use mir.Syntax.{w8}
 use mir.Val.{SFits, toZ, ofZ}
 use mir.Facts.{toZ-ofZ}
-use Rattle.frame.specs.Frame.{low4, byteOf, packed, InNibble}
+use Rattle.frame.specs.Frame.{low4, byteOf, packFrame, InNibble}
 use Rattle.frame.proofs.LawsNibbles.{pack-more}
 use Rattle.frame.proofs.nibbles.pack_frame.Statement.{statement}
 use Rattle.frame.proofs.nibbles.pack_frame.Tie as tie
 
 abbrev Inv-loop : tie.InvT-loop
-Inv-loop header nibbles out₀ k₀ out k = (k ≤ 7) × (length out ≡ 8) × (take (k + 1) out ≡ packed header nibbles k)
+Inv-loop header nibbles out₀ k₀ out k = (k ≤ 7) × (length out ≡ 8) × (take (k + 1) out ≡ packFrame header nibbles k)
 
 abbrev μ-loop : tie.MeasureT-loop
 μ-loop header nibbles out₀ k₀ out k = 7 - k
@@ -24,7 +24,7 @@ array-write-out : tie.Need-array-write-out Inv-loop μ-loop
 array-write-out c = omega arith
 
 loop-holds : tie.Need-loop-holds Inv-loop μ-loop
-unfolding packed
+unfolding packFrame
 loop-holds c = (omega arith, refl, refl)
 
 mul-a : tie.Need-mul-a Inv-loop μ-loop
@@ -48,11 +48,11 @@ a-fits c = record { sfits = c .a .given }
 b-fits : (c : tie.After-b Inv-loop μ-loop) → SFits w8 (getD (c .before .before .before .before .args .t2) (2 * c .before .before .before .loop .k + 1) (pos 0))
 b-fits c = record { sfits = c .b .given }
 
-low-four-requires : tie.Need-low-four-requires Inv-loop μ-loop
-low-four-requires c κs = rw (toZ-ofZ (a-fits (c .before))) (c .before .before .before .before .pre (2 * c .before .before .before .loop .k) (omega arith))
+low-4-requires : tie.Need-low-4-requires Inv-loop μ-loop
+low-4-requires c κs = rw (toZ-ofZ (a-fits (c .before))) (c .before .before .before .before .pre (2 * c .before .before .before .loop .k) (omega arith))
 
-low-four-requires-2 : tie.Need-low-four-requires-2 Inv-loop μ-loop
-low-four-requires-2 c κs = rw (toZ-ofZ (b-fits (c .before))) (c .before .before .before .before .before .pre (2 * c .before .before .before .before .loop .k + 1) (omega arith))
+low-4-requires-2 : tie.Need-low-4-requires-2 Inv-loop μ-loop
+low-4-requires-2 c κs = rw (toZ-ofZ (b-fits (c .before))) (c .before .before .before .before .before .pre (2 * c .before .before .before .before .loop .k + 1) (omega arith))
 
 mul-out : tie.Need-mul-out Inv-loop μ-loop
 mul-out c = omega arith
@@ -76,8 +76,8 @@ loop-again : tie.Need-loop-again Inv-loop μ-loop
 unfolding byteOf
 loop-again c =
     let l = c .before .before .before .before .before in
-    let hi = rw (toZ-ofZ (a-fits (c .before .before .before))) at (c .before .low-four .ensures .0) in
-    let lo = rw (toZ-ofZ (b-fits (c .before .before))) at (c .low-four2 .ensures .0) in (
+    let hi = rw (toZ-ofZ (a-fits (c .before .before .before))) at (c .before .low-4 .ensures .0) in
+    let lo = rw (toZ-ofZ (b-fits (c .before .before))) at (c .low-42 .ensures .0) in (
       omega arith,
       simp length-set (l .loop .inv .1),
       pack-more (l .before .args .header) (l .before .args .t2) (l .loop .k) (l .loop .out) _ (omega arith) (l .loop .inv .2) (ap₂ (λ (x y : ℕ). x * 16 + y) hi lo),
@@ -103,8 +103,8 @@ pack-frame-spec =
     mul-b
     add-b
     array-copy-out-b
-    low-four-requires
-    low-four-requires-2
+    low-4-requires
+    low-4-requires-2
     mul-out
     add-out
     add-out-2

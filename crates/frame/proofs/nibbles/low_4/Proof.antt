@@ -7,8 +7,8 @@ use mir.Facts.{toZ-ofZ}
 use Rattle.whole.proofs.Values.{Is, is-in, is-sized, is-cast, chk-cast, is-lit, is-add, chk-add, is-eq, is-cast-u, chk-cast-u}
 use Rattle.frame.specs.Frame.{low4}
 use Rattle.frame.proofs.LawsNibbles.{nibble-size, low-lt, low-neg, low-pos}
-use Rattle.frame.proofs.nibbles.low_four.Statement.{statement}
-use Rattle.frame.proofs.nibbles.low_four.Tie as tie
+use Rattle.frame.proofs.nibbles.low_4.Statement.{statement}
+use Rattle.frame.proofs.nibbles.low_4.Tie as tie
 
 n-is : (c : tie.Start) → Is w8 (ofZ w8 (c .args .n)) (c .args .n) 8
 n-is c = is-sized (c .args .n) (nibble-size (c .pre)) tt
@@ -37,6 +37,6 @@ cast-result-3 c = chk-cast-u (kept c) tt
 returns-2 : tie.Need-returns-2
 returns-2 c = let e = is-cast-u (kept c) in (e, subst (λ (m : ℕ). m < 16) (sym e) (low-lt (c .before .pre)))
 
-pub low-four-spec : {M : Type 1} → statement M
-low-four-spec =
+pub low-4-spec : {M : Type 1} → statement M
+low-4-spec =
     tie.close (tie.spec cast-result add-result cast-result-2 returns cast-result-3 returns-2)
