@@ -11,10 +11,10 @@ use lib.ListN.{length, getD, set, length-append}
 use lib.Seq.{sets}
 use Rattle.block.specs.Sample.{sampleOf}
 use Rattle.block.proofs.Stores.{sets-then}
+use Rattle.whole.specs.declared.History.{History}
 use Rattle.block.specs.declared.FrameContext.{FrameContext}
-use Rattle.block.specs.declared.frame.History.{History}
-use Rattle.block.specs.Context.{predictorOf, scaleOf, contextOf, newest, older, pushSample}
-use Rattle.block.specs.Frame.{nibbleAt, nibblesFrom, Run, run, runNibble, runNibbles, runFrom, Playing, playing, nextSample, takeNibble, playFrame, lent, frameInto, historyOf}
+use Rattle.block.specs.Context.{predictorOf, scaleOf, historyWith, contextWith, pushSample}
+use Rattle.block.specs.Frame.{nibbleAt, nibblesFrom, Run, run, runNibble, runNibbles, runFrom, Playing, playing, nextSample, takeNibble, playFrame, lent, frameInto}
 
 -- ---- nibbles
 
@@ -56,38 +56,39 @@ module _ (c0 c1 : ℤ) (scale : ℕ) where
   run-length r [] = sym (add-zero (length (r .samples)))
   run-length r (n ∷ ns) = run-length (runNibble c0 c1 scale r n) ns ∙ simp length-append (omega arith)
 
-module _ (bytes : List ℕ) (a : ℕ) (c0 c1 : ℤ) (scale : ℕ) (s0 s1 : ℤ) where
+module _ (bytes : List ℕ) (a : ℕ) (c0 c1 : ℤ) (scale : ℕ) (h : History) where
   -- n nibbles more
-  pub from-more : (m n : ℕ) → runFrom bytes a (m + n) c0 c1 scale s0 s1 ≡ runNibbles c0 c1 scale (runFrom bytes a m c0 c1 scale s0 s1) (nibblesFrom bytes (a + m) n)
+  pub from-more : (m n : ℕ) → runFrom bytes a (m + n) c0 c1 scale h ≡ runNibbles c0 c1 scale (runFrom bytes a m c0 c1 scale h) (nibblesFrom bytes (a + m) n)
   unfolding runFrom
-  from-more m n = ap (runNibbles c0 c1 scale (run s0 s1 [])) (nibbles-append bytes a m n) ∙ run-append c0 c1 scale (run s0 s1 []) (nibblesFrom bytes a m) (nibblesFrom bytes (a + m) n)
+  from-more m n = ap (runNibbles c0 c1 scale (run h [])) (nibbles-append bytes a m n) ∙ run-append c0 c1 scale (run h []) (nibblesFrom bytes a m) (nibblesFrom bytes (a + m) n)
 
-  pub from-length : (n : ℕ) → length (runFrom bytes a n c0 c1 scale s0 s1 .samples) ≡ n
+  pub from-length : (n : ℕ) → length (runFrom bytes a n c0 c1 scale h .samples) ≡ n
   unfolding runFrom
-  from-length n = run-length c0 c1 scale (run s0 s1 []) (nibblesFrom bytes a n) ∙ zero-add (length (nibblesFrom bytes a n)) ∙ nibbles-length bytes a n
+  from-length n = run-length c0 c1 scale (run h []) (nibblesFrom bytes a n) ∙ zero-add (length (nibblesFrom bytes a n)) ∙ nibbles-length bytes a n
 
--- two samples more, of one byte
-pub pair-more : (bytes : List ℕ) (k j : ℕ) (c0 c1 : ℤ) (scale : ℕ) (s0 s1 a b x y : ℤ) → runFrom bytes (2 * k) (2 * j) c0 c1 scale s0 s1 .s0 ≡ a → runFrom bytes (2 * k) (2 * j) c0 c1 scale s0 s1 .s1 ≡ b → x ≡ sampleOf c0 c1 a b (getD bytes (k + j) 0 / 16) scale → y ≡ sampleOf c0 c1 x a (getD bytes (k + j) 0 % 16) scale
-    → runFrom bytes (2 * k) (2 * (j + 1)) c0 c1 scale s0 s1 ≡ run y x (runFrom bytes (2 * k) (2 * j) c0 c1 scale s0 s1 .samples ++ (x ∷ y ∷ []))
-unfolding runNibbles runNibble
-pair-more bytes k j c0 c1 scale s0 s1 a b x y ea eb ex ey =
-    let e : 2 * (j + 1) ≡ 2 * j + 2 = omega arith in
-    let f : 2 * k + 2 * j ≡ 2 * (k + j) = omega arith in
-    ap (λ (n : ℕ). runFrom bytes (2 * k) n c0 c1 scale s0 s1) e
-    ∙ from-more bytes (2 * k) c0 c1 scale s0 s1 (2 * j) 2
-    ∙ ap (λ (n : ℕ). runNibbles c0 c1 scale (runFrom bytes (2 * k) (2 * j) c0 c1 scale s0 s1) (nibblesFrom bytes n 2)) f
-    ∙ ap (runNibbles c0 c1 scale (runFrom bytes (2 * k) (2 * j) c0 c1 scale s0 s1)) (nibbles-pair bytes (k + j))
-    ∙ rw (ea, eb, ← ex, ← ey, append-assoc)
+module _ (bytes : List ℕ) (k j : ℕ) (c0 c1 : ℤ) (scale : ℕ) (h : History) (a b : ℤ) (e : runFrom bytes (2 * k) (2 * j) c0 c1 scale h .history ≡ historyWith a b) where
+  -- two samples more, of one byte
+  pub pair-more : (x y : ℤ) → x ≡ sampleOf c0 c1 a b (getD bytes (k + j) 0 / 16) scale → y ≡ sampleOf c0 c1 x a (getD bytes (k + j) 0 % 16) scale
+      → runFrom bytes (2 * k) (2 * (j + 1)) c0 c1 scale h ≡ run (historyWith y x) (runFrom bytes (2 * k) (2 * j) c0 c1 scale h .samples ++ (x ∷ y ∷ []))
+  unfolding runNibbles runNibble
+  pair-more x y ex ey =
+      let d : 2 * (j + 1) ≡ 2 * j + 2 = omega arith in
+      let f : 2 * k + 2 * j ≡ 2 * (k + j) = omega arith in
+      ap (λ (n : ℕ). runFrom bytes (2 * k) n c0 c1 scale h) d
+      ∙ from-more bytes (2 * k) c0 c1 scale h (2 * j) 2
+      ∙ ap (λ (n : ℕ). runNibbles c0 c1 scale (runFrom bytes (2 * k) (2 * j) c0 c1 scale h) (nibblesFrom bytes n 2)) f
+      ∙ ap (runNibbles c0 c1 scale (runFrom bytes (2 * k) (2 * j) c0 c1 scale h)) (nibbles-pair bytes (k + j))
+      ∙ rw (e, ← ex, ← ey, append-assoc)
 
--- one sample more, of a byte's high nibble
-pub high-more : (bytes : List ℕ) (k j : ℕ) (c0 c1 : ℤ) (scale : ℕ) (s0 s1 a b x : ℤ) → runFrom bytes (2 * k) (2 * j) c0 c1 scale s0 s1 .s0 ≡ a → runFrom bytes (2 * k) (2 * j) c0 c1 scale s0 s1 .s1 ≡ b → x ≡ sampleOf c0 c1 a b (getD bytes (k + j) 0 / 16) scale
-    → runFrom bytes (2 * k) (2 * j + 1) c0 c1 scale s0 s1 ≡ run x a (runFrom bytes (2 * k) (2 * j) c0 c1 scale s0 s1 .samples ++ (x ∷ []))
-unfolding runNibbles runNibble nibblesFrom
-high-more bytes k j c0 c1 scale s0 s1 a b x ea eb ex =
-    let f : 2 * k + 2 * j ≡ 2 * (k + j) = omega arith in
-    from-more bytes (2 * k) c0 c1 scale s0 s1 (2 * j) 1
-    ∙ ap (λ (n : ℕ). runNibbles c0 c1 scale (runFrom bytes (2 * k) (2 * j) c0 c1 scale s0 s1) (nibblesFrom bytes n 1)) f
-    ∙ rw (nibble-high, ea, eb, ← ex)
+  -- one sample more, of a byte's high nibble
+  pub high-more : (x : ℤ) → x ≡ sampleOf c0 c1 a b (getD bytes (k + j) 0 / 16) scale
+      → runFrom bytes (2 * k) (2 * j + 1) c0 c1 scale h ≡ run (historyWith x a) (runFrom bytes (2 * k) (2 * j) c0 c1 scale h .samples ++ (x ∷ []))
+  unfolding runNibbles runNibble nibblesFrom
+  high-more x ex =
+      let f : 2 * k + 2 * j ≡ 2 * (k + j) = omega arith in
+      from-more bytes (2 * k) c0 c1 scale h (2 * j) 1
+      ∙ ap (λ (n : ℕ). runNibbles c0 c1 scale (runFrom bytes (2 * k) (2 * j) c0 c1 scale h) (nibblesFrom bytes n 1)) f
+      ∙ rw (nibble-high, e, ← ex)
 
 -- the stores of a turn
 pub pair-stores : (out : List ℤ) (to j : ℕ) (xs : List ℤ) (x y : ℤ) → length xs ≡ 2 * j → set (set (sets out to xs) (to + 2 * j) x) (to + 2 * j + 1) y ≡ sets out to (xs ++ (x ∷ y ∷ []))
@@ -105,36 +106,30 @@ abbrev pub secondOf : List ℤ → ℕ → ℤ
 secondOf cs h = getD cs (2 * predictorOf h + 1) (pos 0)
 
 abbrev pub playingOf : ℕ → Run → Playing
-playingOf h r = playing (contextOf h (r .s0) (r .s1)) (r .samples)
+playingOf h r = playing (contextWith h (r .history)) (r .samples)
 
 pub nibbles-run : (cs : List ℤ) (h : ℕ) (r : Run) (ns : List ℕ) → foldl (takeNibble cs) (playingOf h r) ns ≡ playingOf h (runNibbles (firstOf cs h) (secondOf cs h) (scaleOf h) r ns)
 unfolding runNibbles runNibble takeNibble nextSample pushSample
 nibbles-run cs h r [] = refl
 nibbles-run cs h r (n ∷ ns) = nibbles-run cs h (runNibble (firstOf cs h) (secondOf cs h) (scaleOf h) r n) ns
 
--- a context is its header and its two samples
-pub context-two : (c : FrameContext) → length (c .«last_samples») ≡ 2 → c ≡ contextOf (c .«predictor_and_scale») (newest c) (older c)
-context-two c e = ap (λ (l : List ℤ). record { «predictor_and_scale» = c .«predictor_and_scale»; «last_samples» = l }) (two (c .«last_samples») e)
-  where
-    two : (l : List ℤ) → length l ≡ 2 → l ≡ getD l 0 (pos 0) ∷ getD l 1 (pos 0) ∷ []
-    two [] e = absurd (omega arith)
-    two (x ∷ []) e = absurd (omega arith)
-    two (x ∷ y ∷ []) e = refl
-    two (x ∷ y ∷ z ∷ l) e = absurd (omega arith)
+-- the same from a context
+abbrev pub runAt : List ℕ → ℕ → ℕ → List ℤ → FrameContext → Run
+runAt bytes a count cs c =
+    let header = c .«predictor_and_scale» in
+    runFrom bytes a count (firstOf cs header) (secondOf cs header) (scaleOf header) (c .«last_samples»)
 
-pub frame-run : (bytes : List ℕ) (at count : ℕ) (cs : List ℤ) (c : FrameContext) → length (c .«last_samples») ≡ 2
-    → playFrame bytes at count cs (playing c []) ≡ playingOf (c .«predictor_and_scale») (runFrom bytes (2 * at + 2) count (firstOf cs (c .«predictor_and_scale»)) (secondOf cs (c .«predictor_and_scale»)) (scaleOf (c .«predictor_and_scale»)) (newest c) (older c))
+pub frame-run : (bytes : List ℕ) (at count : ℕ) (cs : List ℤ) (c : FrameContext) → playFrame bytes at count cs (playing c []) ≡ playingOf (c .«predictor_and_scale») (runAt bytes (2 * at + 2) count cs c)
 unfolding playFrame runFrom
-frame-run bytes at count cs c e =
-    ap (λ (d : FrameContext). foldl (takeNibble cs) (playing d []) (nibblesFrom bytes (2 * at + 2) count)) (context-two c e)
-    ∙ nibbles-run cs (c .«predictor_and_scale») (run (newest c) (older c) []) (nibblesFrom bytes (2 * at + 2) count)
+frame-run bytes at count cs c = nibbles-run cs (c .«predictor_and_scale») (run (c .«last_samples») []) (nibblesFrom bytes (2 * at + 2) count)
 
 -- what the step leaves, from what the nibbles' call answers
-pub frame-into : (bytes : List ℕ) (at count : ℕ) (cs : List ℤ) (c : FrameContext) (out : List ℤ) (to : ℕ) (h : History) (o : List ℤ) → length (c .«last_samples») ≡ 2
-    → (let r = runFrom bytes (2 * (at + 1)) count (firstOf cs (c .«predictor_and_scale»)) (secondOf cs (c .«predictor_and_scale»)) (scaleOf (c .«predictor_and_scale»)) (newest c) (older c) in (h ≡ historyOf r) × (o ≡ sets out to (r .samples)))
-    → lent (contextOf (c .«predictor_and_scale») (h .s0) (h .s1)) o ≡ frameInto bytes at count cs c out to
+pub frame-into : (bytes : List ℕ) (at count : ℕ) (cs : List ℤ) (c : FrameContext) (out : List ℤ) (to : ℕ) (h : History) (o : List ℤ)
+    → h ≡ runAt bytes (2 * (at + 1)) count cs c .history → o ≡ sets out to (runAt bytes (2 * (at + 1)) count cs c .samples)
+    → lent (contextWith (c .«predictor_and_scale») h) o ≡ frameInto bytes at count cs c out to
 unfolding frameInto
 frame-into bytes at count cs c out to h o e f =
     let g : 2 * (at + 1) ≡ 2 * at + 2 = omega arith in
+    let d = rw g at e in
     let k = rw g at f in
-    rw (frame-run bytes at count cs c e, k .0, k .1)
+    rw (frame-run bytes at count cs c, d, k)

@@ -6,9 +6,9 @@ use lib.Dec.{eqb}
 use lib.IntN.{ℤ, pos}
 use lib.ListN.{getD}
 use lib.Seq.{sets}
+use Rattle.whole.specs.declared.History.{History}
 use Rattle.block.specs.declared.FrameContext.{FrameContext}
-use Rattle.block.specs.declared.frame.History.{History}
-use Rattle.block.specs.Context.{predictorOf, scaleOf, newest, older, pushSample}
+use Rattle.block.specs.Context.{predictorOf, scaleOf, historyWith, pushSample}
 use Rattle.block.specs.Sample.{sampleOf}
 
 -- two nibbles a byte, high nibble first
@@ -31,8 +31,9 @@ playing c xs = record { context = c; samples = xs }
 -- the sample of a nibble, with the pair and the scale that the context's header names
 unfoldable pub nextSample : List ℤ → FrameContext → ℕ → ℤ
 nextSample cs c n =
-    let h = c .«predictor_and_scale» in
-    sampleOf (getD cs (2 * predictorOf h) (pos 0)) (getD cs (2 * predictorOf h + 1) (pos 0)) (newest c) (older c) n (scaleOf h)
+    let header = c .«predictor_and_scale» in
+    let h = c .«last_samples» in
+    sampleOf (getD cs (2 * predictorOf header) (pos 0)) (getD cs (2 * predictorOf header + 1) (pos 0)) (h .newest) (h .older) n (scaleOf header)
 
 -- one sample more
 unfoldable pub takeNibble : List ℤ → Playing → ℕ → Playing
@@ -58,26 +59,23 @@ frameInto bytes at count cs c out to =
     let p = playFrame bytes at count cs (playing c []) in
     lent (p .context) (sets out to (p .samples))
 
--- the same for a pair and a scale: the newest sample, the one before it, and the samples so far
+-- the same for a pair and a scale: the history, and the samples so far
 pub record Run : Type 0 where
-  pub s0 : ℤ
-  pub s1 : ℤ
+  pub history : History
   pub samples : List ℤ
 
-abbrev pub run : ℤ → ℤ → List ℤ → Run
-run s0 s1 xs = record { s0 = s0; s1 = s1; samples = xs }
+abbrev pub run : History → List ℤ → Run
+run h xs = record { history = h; samples = xs }
 
 unfoldable pub runNibble : ℤ → ℤ → ℕ → Run → ℕ → Run
 runNibble c0 c1 scale r n =
-    let x = sampleOf c0 c1 (r .s0) (r .s1) n scale in
-    run x (r .s0) (r .samples ++ (x ∷ []))
+    let h = r .history in
+    let x = sampleOf c0 c1 (h .newest) (h .older) n scale in
+    run (historyWith x (h .newest)) (r .samples ++ (x ∷ []))
 
 unfoldable pub runNibbles : ℤ → ℤ → ℕ → Run → List ℕ → Run
 runNibbles c0 c1 scale r ns = foldl (runNibble c0 c1 scale) r ns
 
--- the samples of n nibbles from address a on, after s0 and s1
-unfoldable pub runFrom : List ℕ → ℕ → ℕ → ℤ → ℤ → ℕ → ℤ → ℤ → Run
-runFrom bytes a n c0 c1 scale s0 s1 = runNibbles c0 c1 scale (run s0 s1 []) (nibblesFrom bytes a n)
-
-abbrev pub historyOf : Run → History
-historyOf r = record { s0 = r .s0; s1 = r .s1 }
+-- the samples of n nibbles from address a on, after a history
+unfoldable pub runFrom : List ℕ → ℕ → ℕ → ℤ → ℤ → ℕ → History → Run
+runFrom bytes a n c0 c1 scale h = runNibbles c0 c1 scale (run h []) (nibblesFrom bytes a n)

@@ -5,11 +5,11 @@ mod join;
 mod play;
 mod sample;
 
+use whole::History;
 ghost use mathlib.Core.Path.{_≡_};
 ghost use Rattle.block.specs.Address.{addressToSample, sampleToAddress};
-ghost use Rattle.block.specs.Context.{predictorOf, scaleOf, pushSample, withHeader, contextOf};
+ghost use Rattle.block.specs.Context.{predictorOf, scaleOf, pushSample, withHeader, newContext};
 ghost use Prim.Native.Nat.{_+_, _*_, _≤_};
-ghost use lib.IntN.{pos};
 ghost use lib.ListN.{length};
 ghost use Rattle.block.specs.Frame.{frameInto, lent};
 ghost use Rattle.block.specs.Refusals.{numberOf};
@@ -20,7 +20,7 @@ ghost use Rattle.block.specs.Join.{joinBlocks, joinEffect, joinOutcome};
 #[repr(C)]
 pub struct FrameContext {
     pub predictor_and_scale: u16,
-    pub last_samples: [i16; 2],
+    pub last_samples: History,
 }
 
 // Why a call is refused.
@@ -52,12 +52,14 @@ pub struct Playback {
 impl FrameContext {
     // All zeros.
     pub fn new() -> FrameContext
-        ensures { λ r. ⌜ r ≡ contextOf 0 (pos 0) (pos 0) ⌝ }
+        ensures { λ r. ⌜ r ≡ newContext ⌝ }
     {
-        let last_samples = [0i16; 2];
         FrameContext {
             predictor_and_scale: 0,
-            last_samples: last_samples,
+            last_samples: History {
+                newest: 0,
+                older: 0,
+            },
         }
     }
 
@@ -91,10 +93,12 @@ impl FrameContext {
         ensures { λ r. ⌜ r ≡ pushSample self sample ⌝ }
     {
         let before = self.last_samples;
-        let last_samples = [sample, before[0]];
         FrameContext {
             predictor_and_scale: self.predictor_and_scale,
-            last_samples: last_samples,
+            last_samples: History {
+                newest: sample,
+                older: before.newest,
+            },
         }
     }
 }
@@ -140,13 +144,9 @@ pub fn play_frame(
     let c1 = coefficients[index + 1];
     let scale = context.scale();
     let history = context.last_samples;
-    let s0 = history[0];
-    let s1 = history[1];
-    let h = frame::play_nibbles(bytes, at + 1, count, c0, c1, scale, s0, s1, out, to);
-    let last_samples = [h.s0, h.s1];
     FrameContext {
         predictor_and_scale: context.predictor_and_scale,
-        last_samples: last_samples,
+        last_samples: frame::play_nibbles(bytes, at + 1, count, c0, c1, scale, history, out, to),
     }
 }
 

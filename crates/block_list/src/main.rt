@@ -118,7 +118,8 @@ fn print_answer(code: u32, value: u64) {
 
 fn print_context(context: FrameContext) {
     io::print_hex(1, context.predictor_and_scale as u64, 4);
-    print_samples(&context.last_samples);
+    let history = context.last_samples;
+    print_samples(&[history.newest, history.older]);
     io::write_all(1, b" ");
 }
 
@@ -151,10 +152,12 @@ fn size(record: &[u8; 178], at: usize, most: usize) -> usize
 
 // Plays a block and prints what it leaves.
 fn play_to(record: &[u8; 178], bytes: &[u8], out: &mut [i16]) {
-    let last_samples = [signed(word(record, 14)), signed(word(record, 16))];
     let context = FrameContext {
         predictor_and_scale: word(record, 12) as u16,
-        last_samples: last_samples,
+        last_samples: whole::History {
+            newest: signed(word(record, 14)),
+            older: signed(word(record, 16)),
+        },
     };
     let r = block::play_bytes(
         bytes,

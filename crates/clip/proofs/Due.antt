@@ -12,7 +12,7 @@ use lib.Dec.{eqb}
 use lib.ListN.{length, getD, set, length-set, List·getD-eq-default}
 use lib.Seq.{sets, length-sets, getD-set-same, getD-set-other}
 use Rattle.whole.specs.Frames.{framesOf}
-use Rattle.frame.specs.declared.History.{History}
+use Rattle.whole.specs.declared.History.{History}
 use Rattle.layout.specs.Sizes.{lastOf, blocksOf, bodyOf, sizeOf}
 use Rattle.layout.specs.Fields.{mark}
 use Rattle.clip.specs.Image.{contextBytes}

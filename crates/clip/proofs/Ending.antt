@@ -11,7 +11,7 @@ use lib.Seq.{sets}
 use Rattle.whole.proofs.Stores.{sets-replicate}
 use Rattle.frame.specs.Frame.{encodeFrame, historyAfter}
 use Rattle.frame.specs.declared.EncodedFrame.{EncodedFrame}
-use Rattle.frame.specs.declared.History.{History}
+use Rattle.whole.specs.declared.History.{History}
 use Rattle.clip.specs.declared.Encoder.{Encoder}
 use Rattle.layout.specs.Sizes.{lastOf, bodyOf, sizeOf}
 use Rattle.whole.specs.Frames.{framesOf}

@@ -14,7 +14,7 @@ use Rattle.whole.specs.Frames.{frameAt, framesOf}
 use Rattle.whole.proofs.Framing.{frame-snoc, frame-none, frame-pad}
 use Rattle.frame.specs.Frame.{encodeFrame, historyAfter}
 use Rattle.frame.specs.declared.EncodedFrame.{EncodedFrame}
-use Rattle.frame.specs.declared.History.{History}
+use Rattle.whole.specs.declared.History.{History}
 use Rattle.frame.proofs.LawsEncoded.{history-start}
 use Rattle.layout.specs.Sizes.{lastOf, bodyOf}
 use Rattle.layout.specs.Fields.{mark, noMark}

@@ -12,7 +12,7 @@ use Rattle.whole.specs.Frames.{frameAt}
 use Rattle.whole.proofs.Framing.{frame-stable}
 use Rattle.frame.specs.Frame.{encodeFrame, historyAfter}
 use Rattle.frame.specs.declared.EncodedFrame.{EncodedFrame}
-use Rattle.frame.specs.declared.History.{History}
+use Rattle.whole.specs.declared.History.{History}
 use Rattle.frame.proofs.LawsEncoded.{frame-lengths, frame-passes}
 use Rattle.clip.specs.Image.{contextBytes, noContext}
 use Rattle.clip.specs.Runs.{Start, historyAt, encodedAt, bodiesOf, passesOf, contextAt}

@@ -10,7 +10,7 @@ use lib.ListN.{length, take, set, getD}
 use lib.Seq.{sets, take-all}
 use Rattle.frame.specs.Frame.{encodeFrame, historyAfter}
 use Rattle.frame.specs.declared.EncodedFrame.{EncodedFrame}
-use Rattle.frame.specs.declared.History.{History}
+use Rattle.whole.specs.declared.History.{History}
 use Rattle.frame.proofs.LawsEncoded.{frame-lengths, frame-passes}
 use Rattle.clip.specs.declared.Encoder.{Encoder}
 use Rattle.layout.specs.Sizes.{lastOf, blocksOf, bodyOf, sizeOf}

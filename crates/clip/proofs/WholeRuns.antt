@@ -11,7 +11,7 @@ use lib.ListN.{length, take, drop, getD, length-append}
 use lib.Seq.{sets-eq, take-at}
 use Rattle.whole.specs.Frames.{frameAt, most, framesOf}
 use Rattle.whole.proofs.Stores.{take-replicate}
-use Rattle.frame.specs.declared.History.{History}
+use Rattle.whole.specs.declared.History.{History}
 use Rattle.clip.specs.declared.Answer.{Answer}
 use Rattle.clip.specs.declared.Answer.the-variants.{Accepted, Refused}
 use Rattle.clip.specs.declared.Refusal.the-variants.{AlreadyClosed, PieceTooLong, Unfinished}

@@ -10,7 +10,7 @@ use lib.ListN.{length, getD, take, set, replicate}
 use lib.Seq.{sets}
 use Rattle.frame.specs.Frame.{encodeFrame, historyAfter, coefficientsOk}
 use Rattle.frame.specs.declared.EncodedFrame.{EncodedFrame}
-use Rattle.frame.specs.declared.History.{History}
+use Rattle.whole.specs.declared.History.{History}
 use Rattle.clip.specs.declared.Answer.{Answer}
 use Rattle.clip.specs.declared.Answer.the-variants.{Accepted, Refused}
 use Rattle.clip.specs.declared.Encoder.{Encoder}

@@ -6,7 +6,7 @@ use lib.IntN.{ℤ}
 use lib.ListN.{getD, replicate}
 use mir.Syntax.{w16}
 use mir.Val.{ofZ}
-use Rattle.frame.specs.declared.History.{History}
+use Rattle.whole.specs.declared.History.{History}
 use Rattle.layout.specs.Sizes.{blocksOf, bodyOf, offsetOf, lengthOf}
 
 -- "coefficients, two bytes each"

@@ -8,7 +8,6 @@ ghost use Rattle.layout.specs.Limits.{Limits};
 ghost use Rattle.layout.specs.Fields.{be16, be32, mark, noMark};
 ghost use Rattle.clip.specs.Image.{noContext, contextBytes, coefficientBytes, headOf, tableOf, freshOf};
 ghost use Rattle.layout.specs.Sizes.{blocksOf, lengthOf, sizeOf};
-use frame::History;
 use layout::MARK;
 use layout::fields::bits16;
 use layout::fields::put16;
@@ -18,6 +17,7 @@ use layout::sizes::block_length;
 use layout::sizes::blocks;
 use layout::sizes::body;
 use layout::sizes::frames;
+use whole::History;
 
 // The mark, at the image's start.
 pub(crate) fn put_mark(image: &mut [u8])

@@ -7,11 +7,11 @@ ghost use Rattle.clip.specs.Encoding.{both, storeOf, pieceOf};
 ghost use Rattle.clip.specs.Facts.{Room, Going};
 use crate::Encoder;
 use crate::contents::put_context;
-use frame::History;
 use frame::encode_frame;
 use frame::history_after;
 use layout::fields::put_part;
 use layout::sizes::blocks;
+use whole::History;
 
 // Stores a frame's first k bytes at its place, and its block's context where it is a block's first.
 pub(crate) fn store(

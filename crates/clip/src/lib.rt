@@ -13,7 +13,7 @@ use checks::start_answer;
 use closing::finish;
 use contents::put_fresh;
 use feeding::feed_all;
-use frame::History;
+use whole::History;
 
 // Why a call is refused.
 pub enum Refusal {

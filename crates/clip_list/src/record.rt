@@ -5,7 +5,7 @@ use crate::numbers::least;
 use crate::numbers::signed;
 use crate::numbers::wide;
 use clip::Encoder;
-use frame::History;
+use whole::History;
 
 // The bytes of a line, after its letter.
 pub(crate) fn unhex(line: &[u8; 182], record: &mut [u8; 90]) {

@@ -5,7 +5,7 @@ use Prim.Native.Nat.{ℕ, _+_, _/_}
 use lib.Ieee.{Float}
 use lib.IntN.{ℤ, pos}
 use Rattle.block.specs.declared.FrameContext.{FrameContext}
-use Rattle.block.specs.Context.{contextOf}
+use Rattle.block.specs.Context.{newContext}
 use Rattle.block.specs.Frame.{lent}
 use Rattle.block.specs.Join.{JoinEffect, joinEffect}
 use Rattle.block.specs.Play.{PlayEffect, playEffect}
@@ -82,7 +82,7 @@ body-found l k p q = rw (p, q)
 
 -- refused, it is nowhere and has no bytes
 pub body-refused : (l : List ℕ) (k : ℕ) (why : Refusal) {code : ℕ} {c : FrameContext}
-    → code ≡ numberOf why → c ≡ contextOf 0 (pos 0) (pos 0) → blockAnswer l k ≡ Refused why → handed (record { code = code; offset = 0; bytes = 0; nibbles = 0; context = c }) l ≡ bodyInC l k
+    → code ≡ numberOf why → c ≡ newContext → blockAnswer l k ≡ Refused why → handed (record { code = code; offset = 0; bytes = 0; nibbles = 0; context = c }) l ≡ bodyInC l k
 unfolding bodyInC blockBody
 body-refused l k why p z q = rw (p, z, q)
 

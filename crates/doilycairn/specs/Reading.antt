@@ -5,7 +5,7 @@ use Prim.Native.Nat.{ℕ, _+_, _/_}
 use lib.IntN.{ℤ, pos}
 use lib.ListN.{take, drop}
 use Rattle.block.specs.declared.FrameContext.{FrameContext}
-use Rattle.block.specs.Context.{contextOf}
+use Rattle.block.specs.Context.{newContext}
 use Rattle.image.specs.declared.Answer.{Answer}
 use Rattle.image.specs.declared.Answer.the-variants.{Accepted, Refused}
 use Rattle.image.specs.declared.Opening as Image
@@ -55,7 +55,7 @@ bodyAt l k = record { code = 0; offset = offsetIn l k; bytes = (lengthIn l k + 1
 -- the refusal's number, and zeros
 abbrev pub placeBy : Answer → Body → Body
 placeBy Accepted place = place
-placeBy (Refused r) place = record { code = numberOf r; offset = 0; bytes = 0; nibbles = 0; context = contextOf 0 (pos 0) (pos 0) }
+placeBy (Refused r) place = record { code = numberOf r; offset = 0; bytes = 0; nibbles = 0; context = newContext }
 
 -- the bytes that it points to are the block's body; refused, none
 unfoldable pub bodyInC : List ℕ → ℕ → Handed

@@ -3,8 +3,8 @@ ghost use mathlib.Core.Path.{_≡_};
 ghost use Rattle.doilycairn.specs.Writing.{frameCode, codeOf, frameInC, encoded, startInC, feedInC, closeInC};
 use clip::Answer;
 use clip::Encoder;
-use frame::History;
 use frame::Verdict;
+use whole::History;
 
 // What encoding one frame returns.
 #[repr(C)]

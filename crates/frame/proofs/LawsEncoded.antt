@@ -10,7 +10,7 @@ use lib.ListN.{getD, length}
 use mir.Syntax.{w16}
 use mir.Val.{SFits}
 use Rattle.whole.specs.Whole.{clamp16, floored, signedNibble}
-use Rattle.frame.specs.declared.History.{History}
+use Rattle.whole.specs.declared.History.{History}
 use Rattle.frame.specs.declared.EncodedFrame.{EncodedFrame}
 use Rattle.frame.specs.declared.search.Coded.{Coded}
 use Rattle.frame.specs.Estimate.{weigh}

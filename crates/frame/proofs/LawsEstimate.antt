@@ -17,7 +17,7 @@ use Rattle.whole.specs.Whole.{towardsZero}
 use Rattle.whole.proofs.Values.{abs-add, abs-mul, abs-sfits}
 use Rattle.whole.proofs.Differences.{diff-pos, diff-sub, diff-eq}
 use Rattle.whole.proofs.Laws.{clamp-fits}
-use Rattle.frame.specs.declared.History.{History}
+use Rattle.whole.specs.declared.History.{History}
 use Rattle.frame.specs.Estimate.{weigh, difference, largerMagnitude, isLowest, look, largestDifference, isSmall, halvingsWithin, halvings, maxZ, exponentOf, firstExponent}
 
 -- ---- sizes

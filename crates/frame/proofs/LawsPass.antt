@@ -18,7 +18,7 @@ use Rattle.whole.specs.Whole.{clamp16, floored}
 use Rattle.whole.proofs.Values.{abs-add, abs-sub, abs-mul, abs-sfits}
 use Rattle.whole.proofs.Differences.{Diff, diff-of, diff-pos, diff-add, diff-times, diff-same, diff-eq, over, under, left, floor-law}
 use Rattle.whole.proofs.Laws.{clamp-fits}
-use Rattle.frame.specs.declared.History.{History}
+use Rattle.whole.specs.declared.History.{History}
 use Rattle.frame.specs.declared.pass.Step.{Step}
 use Rattle.frame.specs.declared.pass.Pass.{Pass}
 use Rattle.frame.specs.Estimate.{weigh}

@@ -10,7 +10,7 @@ use native.Mathlib.Decide.{decLe}
 use lib.Dec.{eqb, leb, ltb}
 use lib.IntN.{ℤ}
 use borrow.Author.Tests.{eqb-true, eqb-false, leb-true, lt-ltb, le-ltb}
-use Rattle.frame.specs.declared.History.{History}
+use Rattle.whole.specs.declared.History.{History}
 use Rattle.frame.specs.declared.search.Coded.{Coded}
 use Rattle.frame.specs.declared.pass.Pass.{Pass}
 use Rattle.frame.specs.declared.search.Candidate.{Candidate}

@@ -5,7 +5,7 @@ use Prim.Native.Nat.{ℕ, zero, suc, _+_, _*_, _<_}
 use lib.Dec.{ltb}
 use lib.IntN.{ℤ, pos}
 use lib.ListN.{getD}
-use Rattle.frame.specs.declared.History.{History}
+use Rattle.whole.specs.declared.History.{History}
 use Rattle.frame.specs.declared.search.Coded.{Coded}
 use Rattle.frame.specs.declared.choice.Best.{Best}
 use Rattle.frame.specs.Pass.{Bounded}

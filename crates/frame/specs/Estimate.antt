@@ -7,7 +7,7 @@ use lib.IntN.{ℤ, pos, negsuc, natAbs, _+ℤ_, _-ℤ_, _*ℤ_}
 use lib.ListN.{getD}
 use lib.Signed.{ltZ}
 use Rattle.whole.specs.Whole.{clamp16, towardsZero}
-use Rattle.frame.specs.declared.History.{History}
+use Rattle.whole.specs.declared.History.{History}
 
 -- "c0 × previous + c1 × one before"
 unfoldable pub weigh : ℤ → ℤ → ℤ → ℤ → ℤ

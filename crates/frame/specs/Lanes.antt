@@ -9,7 +9,7 @@ use lib.IntN.{ℤ, pos, negsuc, natAbs, _+ℤ_, _-ℤ_, _*ℤ_}
 use lib.ListN.{getD}
 use lib.Signed.{ltZ, mag}
 use Rattle.whole.specs.Whole.{clamp16, floored}
-use Rattle.frame.specs.declared.History.{History}
+use Rattle.whole.specs.declared.History.{History}
 use Rattle.frame.specs.declared.pass.Pass.{Pass}
 use Rattle.frame.specs.declared.lane.Lane.{Lane}
 use Rattle.frame.specs.declared.lanes.Lanes.{Lanes}

@@ -3,7 +3,6 @@ ghost use mathlib.Core.Path.{_≡_};
 ghost use Prim.Native.Nat.{_<_, _≤_, _-_};
 ghost use Rattle.frame.specs.Choice.{AllBounded, candidateAt, choose};
 ghost use Rattle.frame.specs.Lanes.{Firsts, LanesTell, Shown, laneAt, figuresAt, candidateOf};
-use crate::History;
 use crate::estimate::first_exponent;
 use crate::lanes::Lanes;
 use crate::lanes::fresh;
@@ -15,6 +14,7 @@ use crate::search::Candidate;
 use crate::search::Coded;
 use crate::search::Figures;
 use crate::search::try_coefficients;
+use whole::History;
 
 // The best candidate, its index, and the passes of all.
 pub(crate) struct Best {

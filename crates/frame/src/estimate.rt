@@ -1,8 +1,8 @@
 // The exponent of a frame's first pass.
 ghost use mathlib.Core.Path.{_≡_};
 ghost use Rattle.frame.specs.Estimate.{weigh, difference, largerMagnitude, isSmall, largestDifference, halvings, firstExponent};
-use crate::History;
 use crate::quantise::magnitude;
+use whole::History;
 
 // c0 * previous + c1 * before.
 pub(crate) fn weigh(c0: i16, c1: i16, previous: i16, before: i16) -> i64

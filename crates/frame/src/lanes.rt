@@ -5,9 +5,9 @@ ghost use lib.IntN.{pos};
 ghost use lib.ListN.{getD};
 ghost use Rattle.frame.specs.Choice.{c0At, c1At};
 ghost use Rattle.frame.specs.Lanes.{Empty, LaneRoom, Ready, laneAt, laneStart, laneStep, laneAfter};
-use crate::History;
 use crate::lane::Lane;
 use crate::lane::step_lane;
+use whole::History;
 
 // The eight lanes, field by field.
 pub(crate) struct Lanes {

@@ -17,13 +17,7 @@ mod search;
 use choice::choose;
 use nibbles::pack_frame;
 use quantise::magnitude;
-
-// The two samples before a frame.
-#[repr(C)]
-pub struct History {
-    pub newest: i16,
-    pub older: i16,
-}
+use whole::History;
 
 // A frame's eight bytes, the passes over all eight candidates, and the samples that the bytes play.
 pub struct EncodedFrame {

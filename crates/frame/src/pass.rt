@@ -3,11 +3,11 @@ ghost use mathlib.Core.Path.{_≡_};
 ghost use Prim.Native.Nat.{_≤_, _^_, max};
 ghost use lib.IntN.{pos};
 ghost use Rattle.frame.specs.Pass.{Bounded, codeSample, squaredDifference, runPass};
-use crate::History;
 use crate::estimate::weigh;
 use crate::quantise::clamp_4;
 use crate::quantise::excess;
 use crate::quantise::quantise;
+use whole::History;
 
 // One sample: its nibble, the reconstructed sample, and how far the nibble was out of range.
 pub(crate) struct Step {

@@ -5,8 +5,8 @@ ghost use Rattle.frame.specs.Estimate.{firstExponent};
 ghost use Rattle.frame.specs.Pass.{Bounded, runPass};
 ghost use Rattle.frame.specs.Search.{raise, isLast, tryCoefficients};
 ghost use Rattle.frame.specs.Lanes.{Tells, figures, candidateOf};
-use crate::History;
 use crate::pass::run_pass;
+use whole::History;
 
 // A candidate, and what a pass at its exponent gives.
 pub(crate) struct Coded {

@@ -88,11 +88,11 @@ fn print_sample(x: i16) {
 
 // The history after m real samples: the one-frame call's where the frame is full.
 fn history_after(
-    history: frame::History,
+    history: whole::History,
     samples: [i16; 14],
     coefficients: [i16; 16],
     m: usize,
-) -> frame::History
+) -> whole::History
     requires { ⌜ AllBounded coefficients ⌝ }
     requires { ⌜ m ≤ 14 ⌝ }
 {
@@ -102,7 +102,7 @@ fn history_after(
 }
 
 // Encodes one frame and writes its answer.
-fn answer(history: frame::History, samples: [i16; 14], coefficients: [i16; 16], m: usize) -> bool
+fn answer(history: whole::History, samples: [i16; 14], coefficients: [i16; 16], m: usize) -> bool
     requires { ⌜ m ≤ 14 ⌝ }
 {
     if !frame::coefficients_ok(coefficients) {
@@ -131,7 +131,7 @@ fn replay() -> bool {
     }
     let newest = number(&line, 3);
     let older = number(&line, 8);
-    let history = frame::History {
+    let history = whole::History {
         newest: newest,
         older: older,
     };

@@ -7,7 +7,7 @@ use lib.IntN.{ℤ, pos}
 use lib.ListN.{length, take, drop}
 use lib.Seq.{sets}
 use Rattle.block.specs.declared.FrameContext.{FrameContext}
-use Rattle.block.specs.Context.{contextOf}
+use Rattle.block.specs.Context.{newContext}
 use Rattle.block.specs.Play.{playInto}
 use Rattle.image.specs.declared.Answer.the-variants.{Accepted}
 use Rattle.image.specs.declared.PlayAnswer.{PlayAnswer}
@@ -39,7 +39,7 @@ after t e = record { count = t .count + answered (e .answer); context = e .conte
 
 -- the first k blocks, by a call of `play` each
 unfoldable pub turns : List ℕ → ℕ → List ℤ → Turns
-turns l zero out = record { count = 0; context = contextOf 0 (pos 0) (pos 0); out = out }
+turns l zero out = record { count = 0; context = newContext; out = out }
 turns l (suc k) out = let t = turns l k out in after t (playOf l k (drop (t .count) (t .out)))
 
 module _ (l : List ℕ) (out : List ℤ) (p : AllPlayable l (length out)) where

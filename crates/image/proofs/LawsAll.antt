@@ -11,7 +11,7 @@ use lib.ListN.{length, take, drop, length-append, length-drop, drop-of-length-le
 use lib.Seq.{sets, sets-eq, length-sets, take-all, take-append-seam, drop-append-seam, drop-drop}
 use Rattle.block.specs.declared.FrameContext.{FrameContext}
 use Rattle.block.specs.Address.{addressToSample}
-use Rattle.block.specs.Context.{contextOf}
+use Rattle.block.specs.Context.{newContext}
 use Rattle.block.specs.Frame.{Lent, lent}
 use Rattle.block.specs.Play.{playInto}
 use Rattle.block.specs.Refusals.{lowestPair}
@@ -107,7 +107,7 @@ module _ (l : List ℕ) (o : Opens l) where
 
 -- the context after the first k blocks
 abbrev pub contextOn : List ℕ → ℕ → FrameContext
-contextOn l zero = contextOf 0 (pos 0) (pos 0)
+contextOn l zero = newContext
 contextOn l (suc k) = contextAfter l k
 
 module _ (l : List ℕ) (out : List ℤ) (p : AllPlayable l (length out)) where

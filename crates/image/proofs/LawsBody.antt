@@ -13,7 +13,7 @@ use mir.Facts.{toZ-ofZ}
 use mir.Syntax.{w16}
 use mir.Val.{SFits, ofZ, toZ}
 use Rattle.block.specs.Address.{addressToSample}
-use Rattle.block.specs.Context.{contextOf}
+use Rattle.block.specs.Context.{historyWith, contextWith}
 use Rattle.block.specs.Refusals.{badLength, lowestPair}
 use Rattle.layout.specs.Limits.{Limits}
 use Rattle.layout.specs.Sizes.{lastOf, blocksOf, bodyOf, sizeOf, offsetOf, lengthOf}
@@ -107,7 +107,7 @@ play-accepts l k room p = rw (block-accepts l k (p .found), p .pairs, le-ltb roo
 
 -- its context, from what was read
 pub context-made : (l : List ℕ) (k h : ℕ) (x y : ℤ) → SFits w16 x → SFits w16 y → h ≡ headerIn l k → x ≡ newestIn l k → y ≡ olderIn l k
-    → contextOf h (toZ w16 (ofZ w16 x)) (toZ w16 (ofZ w16 y)) ≡ contextIn l k
+    → contextWith h (historyWith (toZ w16 (ofZ w16 x)) (toZ w16 (ofZ w16 y))) ≡ contextIn l k
 unfolding contextIn
 context-made l k h x y f g p q r = rw (toZ-ofZ f, toZ-ofZ g, p, q, r)
 

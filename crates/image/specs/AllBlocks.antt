@@ -7,7 +7,7 @@ use lib.IntN.{ℤ, pos}
 use lib.ListN.{length}
 use lib.Seq.{sets}
 use Rattle.block.specs.declared.FrameContext.{FrameContext}
-use Rattle.block.specs.Context.{contextOf}
+use Rattle.block.specs.Context.{newContext}
 use Rattle.block.specs.Frame.{Lent, lent}
 use Rattle.block.specs.Play.{play}
 use Rattle.image.specs.declared.Answer.{Answer}
@@ -34,7 +34,7 @@ allInto l out = lent (contextAfter l (blocksIn l - 1)) (sets out 0 (samplesIn l)
 -- N and the samples; refused, no context and the output unaltered
 abbrev pub playAllBy : Answer → List ℕ → List ℤ → Effect
 playAllBy Accepted l out = effectOf (Played.Played (totalIn l)) (allInto l out)
-playAllBy (Refused r) l out = effectOf (Played.Refused r) (lent (contextOf 0 (pos 0) (pos 0)) out)
+playAllBy (Refused r) l out = effectOf (Played.Refused r) (lent newContext out)
 
 unfoldable pub playAllOf : List ℕ → List ℤ → Effect
 playAllOf l out = playAllBy (allAnswer l (length out)) l out

@@ -7,7 +7,7 @@ use lib.IntN.{ℤ, pos}
 use lib.ListN.{getD, replicate}
 use lib.Seq.{sets}
 use Rattle.block.specs.declared.FrameContext.{FrameContext}
-use Rattle.block.specs.Context.{contextOf, withHeader}
+use Rattle.block.specs.Context.{newContext, withHeader}
 use Rattle.block.specs.Frame.{Playing, playing, playFrame}
 use Rattle.layout.specs.Sizes.{placeOf}
 use Rattle.layout.specs.Sizes.{lastOf}
@@ -31,7 +31,7 @@ contextBefore l i c =
 
 -- the first i frames in turn
 unfoldable pub framesIn : List ℕ → ℕ → Playing
-framesIn l zero = playing (contextOf 0 (pos 0) (pos 0)) []
+framesIn l zero = playing newContext []
 framesIn l (suc i) =
     let p = framesIn l i in
     playFrame l (frameIn l i) (countOf (totalIn l) i) (coefficientsIn l) (playing (contextBefore l i (p .context)) (p .samples))

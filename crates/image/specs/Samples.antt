@@ -7,7 +7,7 @@ use lib.IntN.{ℤ, pos}
 use lib.ListN.{length}
 use Rattle.block.specs.declared.FrameContext.{FrameContext}
 use Rattle.block.specs.Address.{addressToSample}
-use Rattle.block.specs.Context.{contextOf}
+use Rattle.block.specs.Context.{historyWith, contextWith, newContext}
 use Rattle.block.specs.Frame.{Lent, lent}
 use Rattle.block.specs.Play.{playInto}
 use Rattle.block.specs.Refusals.{lowestPair}
@@ -21,7 +21,7 @@ use Rattle.image.specs.Bodies.{andThen, blockAnswer, bodyIn}
 
 -- the context of block k's entry
 unfoldable pub contextIn : List ℕ → ℕ → FrameContext
-contextIn l k = contextOf (headerIn l k) (newestIn l k) (olderIn l k)
+contextIn l k = contextWith (headerIn l k) (historyWith (newestIn l k) (olderIn l k))
 
 -- codes 15, 16, 17, 13, 14
 unfoldable pub playAnswer : List ℕ → ℕ → ℕ → Answer
@@ -44,7 +44,7 @@ effectOf a l = record { answer = a; context = l .context; out = l .out }
 abbrev pub playBy : Answer → List ℕ → ℕ → List ℤ → Effect
 playBy Accepted l k out =
     effectOf (Played.Played (addressToSample (lengthIn l k))) (playInto (bodyIn l k) (coefficientsIn l) (lengthIn l k) (contextIn l k) out)
-playBy (Refused r) l k out = effectOf (Played.Refused r) (lent (contextOf 0 (pos 0) (pos 0)) out)
+playBy (Refused r) l k out = effectOf (Played.Refused r) (lent newContext out)
 
 unfoldable pub playOf : List ℕ → ℕ → List ℤ → Effect
 playOf l k out = playBy (playAnswer l k (length out)) l k out

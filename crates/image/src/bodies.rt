@@ -12,6 +12,7 @@ use block::FrameContext;
 use layout::ENTRY_BYTES;
 use layout::HEAD_BYTES;
 use layout::fields::get32;
+use whole::History;
 
 // Block k's body, found by its entry.
 pub(crate) fn find_body<'a>(image: &'a [u8], k: usize) -> &'a [u8]
@@ -42,9 +43,11 @@ pub fn read_context(image: &[u8], k: usize) -> FrameContext
     let header = word_at(image, at + 8);
     let newest = signed_at(image, at + 10);
     let older = signed_at(image, at + 12);
-    let last_samples = [newest, older];
     FrameContext {
         predictor_and_scale: header,
-        last_samples: last_samples,
+        last_samples: History {
+            newest: newest,
+            older: older,
+        },
     }
 }

@@ -47,5 +47,6 @@ pub(crate) fn print_head(head: Head) {
 
 pub(crate) fn print_context(context: FrameContext) {
     print_field(context.predictor_and_scale as u64, 4);
-    print_samples(&context.last_samples);
+    let history = context.last_samples;
+    print_samples(&[history.newest, history.older]);
 }

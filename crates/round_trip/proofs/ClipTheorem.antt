@@ -8,7 +8,7 @@ use native.Mathlib.Omega.{arith}
 use lib.Ieee.{Float}
 use lib.IntN.{ℤ, pos, natAbs, _-ℤ_}
 use lib.ListN.{length, getD, drop}
-use Rattle.frame.specs.declared.History.{History}
+use Rattle.whole.specs.declared.History.{History}
 use Rattle.frame.proofs.LawsFrame.{limits-bounded}
 use Rattle.coefficients.specs.declared.Answer.the-variants as Measuring
 use Rattle.coefficients.specs.Measure.{neededOf}

@@ -12,12 +12,12 @@ use Rattle.frame.specs.Choice.{AllBounded, c0At, c1At}
 use Rattle.frame.specs.Estimate.{weigh}
 use Rattle.frame.specs.Frame as encoded
 use Rattle.frame.specs.Frame.{encodeFrame, historyAfter}
-use Rattle.frame.specs.declared.History.{History}
+use Rattle.whole.specs.declared.History.{History}
 use Rattle.frame.proofs.LawsEncoded.{history-step, frame-lengths, header-parts, index-le, frame-played}
 use Rattle.frame.proofs.LawsArrays.{Fit}
 use Rattle.frame.proofs.LawsPass.{FitHistory}
 use Rattle.block.specs.declared.FrameContext.{FrameContext}
-use Rattle.block.specs.Context.{predictorOf, scaleOf, contextOf, pushSample}
+use Rattle.block.specs.Context.{predictorOf, scaleOf, contextWith, pushSample}
 use Rattle.block.specs.Frame as played
 use Rattle.block.specs.Frame.{Playing, playing, nibblesFrom, nextSample, takeNibble, playFrame}
 use Rattle.block.specs.Sample as sample
@@ -30,10 +30,10 @@ nibble-same bytes i =
     let f : (2 + i) / 2 ≡ suc (i / 2) = omega arith in
     rw (e, f)
 
-module _ (cs : List ℤ) (header : ℕ) (s0 s1 : ℤ) (n : ℕ) where
+module _ (cs : List ℤ) (header : ℕ) (h : History) (n : ℕ) where
   -- the sample that a header's pair and scale give
   named : header / 16 ≤ 7
-      → nextSample cs (contextOf header s0 s1) n ≡ clamp16 (floored (weigh (c0At cs (header / 16)) (c1At cs (header / 16)) s0 s1 +ℤ pos 1024) 2048 +ℤ signedNibble n *ℤ pos (2 ^ (header % 16)))
+      → nextSample cs (contextWith header h) n ≡ clamp16 (floored (weigh (c0At cs (header / 16)) (c1At cs (header / 16)) (h .newest) (h .older) +ℤ pos 1024) 2048 +ℤ signedNibble n *ℤ pos (2 ^ (header % 16)))
   unfolding nextSample sample.sampleOf predictorOf scaleOf weigh
   named l =
       let e : header / 16 % 8 ≡ header / 16 = omega arith in
@@ -45,7 +45,7 @@ module _ (h : History) (xs : List ℤ) (cs : List ℤ) (b : AllBounded cs) (f : 
   abbrev pub contextAfter : ℕ → FrameContext
   contextAfter m =
       let t = historyAfter h (encodeFrame h xs cs .samples) m in
-      contextOf (getD (encodeFrame h xs cs .bytes) 0 0) (t .newest) (t .older)
+      contextWith (getD (encodeFrame h xs cs .bytes) 0 0) t
 
   -- a sample more
   step : (m : ℕ) → m < 14
@@ -55,7 +55,7 @@ module _ (h : History) (xs : List ℤ) (cs : List ℤ) (b : AllBounded cs) (f : 
       let t = historyAfter h (encodeFrame h xs cs .samples) m in
       let e = header-parts h xs cs .0 in
       let i = index-le h xs cs in
-      let s = named cs (getD (encodeFrame h xs cs .bytes) 0 0) (t .newest) (t .older) (encoded.nibbleAt (encodeFrame h xs cs .bytes) m) (omega arith) ∙ sym (frame-played h xs cs b f x m l) in
+      let s = named cs (getD (encodeFrame h xs cs .bytes) 0 0) t (encoded.nibbleAt (encodeFrame h xs cs .bytes) m) (omega arith) ∙ sym (frame-played h xs cs b f x m l) in
       let n = frame-lengths h xs cs .1 in
       rw (nibble-same (encodeFrame h xs cs .bytes) m, s, history-step h (encodeFrame h xs cs .samples) m, take-suc (encodeFrame h xs cs .samples) m (pos 0) (omega arith))
 

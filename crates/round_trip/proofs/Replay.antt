@@ -13,12 +13,12 @@ use Rattle.whole.specs.Frames.{frameAt}
 use Rattle.whole.proofs.Framing.{frame-at}
 use Rattle.frame.specs.Choice.{AllBounded}
 use Rattle.frame.specs.Frame.{encodeFrame, historyAfter, preceded}
-use Rattle.frame.specs.declared.History.{History}
+use Rattle.whole.specs.declared.History.{History}
 use Rattle.frame.proofs.LawsArrays.{Fit}
 use Rattle.frame.proofs.LawsEncoded.{history-fits, frame-lengths, frame-fits, frame-distance}
 use Rattle.frame.proofs.LawsPass.{FitHistory}
 use Rattle.block.specs.declared.FrameContext.{FrameContext}
-use Rattle.block.specs.Context.{contextOf, withHeader}
+use Rattle.block.specs.Context.{contextWith, withHeader}
 use Rattle.block.specs.Frame.{Playing, playing, nibbleAt, nibblesFrom, takeNibble, playFrame}
 use Rattle.block.specs.Play.{takeHeader, play, playFrames}
 use Rattle.block.proofs.LawsPlay.{onto, frame-onto, repeats}
@@ -56,13 +56,13 @@ soundFrom g xs q (suc k) = soundFrom g xs q k ++ encodedAt g xs (q + k) .samples
 
 -- the context that frame i is played from
 abbrev pub contextBefore : Start → List ℤ → ℕ → FrameContext
-contextBefore g xs i = contextOf (getD (encodedAt g xs i .bytes) 0 0) (historyAt g xs i .newest) (historyAt g xs i .older)
+contextBefore g xs i = contextWith (getD (encodedAt g xs i .bytes) 0 0) (historyAt g xs i)
 
 -- and that after m of its samples
 abbrev pub contextWithin : Start → List ℤ → ℕ → ℕ → FrameContext
 contextWithin g xs i m =
     let h = historyAfter (historyAt g xs i) (encodedAt g xs i .samples) m in
-    contextOf (getD (encodedAt g xs i .bytes) 0 0) (h .newest) (h .older)
+    contextWith (getD (encodedAt g xs i .bytes) 0 0) h
 
 module _ (g : Start) (xs : List ℤ) where
   pub samples-length : (i : ℕ) → length (encodedAt g xs i .samples) ≡ 14
@@ -136,7 +136,7 @@ module _ (g : Start) (xs : List ℤ) (bytes : List ℕ) (q size : ℕ) (H : Hold
         let t : take 14 (encodedAt g xs (q + k) .samples) ≡ encodedAt g xs (q + k) .samples = take-all 14 (encodedAt g xs (q + k) .samples) (omega (arith, samples-length g xs (q + k))) in
         ap (λ (p : Playing). takeHeader bytes (16 * suc k) (playFrame bytes (8 * k) 14 (g .coefficients) p)) (frames-held k (omega arith))
         ∙ ap (takeHeader bytes (16 * suc k)) (one-held k 14 (soundFrom g xs q k) (omega arith) (omega arith))
-        ∙ ap₂ (λ (n : ℕ) (h : History). playing (contextOf n (h .newest) (h .older)) (soundFrom g xs q k ++ take 14 (encodedAt g xs (q + k) .samples))) v x
+        ∙ ap₂ (λ (n : ℕ) (h : History). playing (contextWith n h) (soundFrom g xs q k ++ take 14 (encodedAt g xs (q + k) .samples))) v x
         ∙ ap (λ (zs : List ℤ). playing (contextBefore g xs (q + suc k)) (soundFrom g xs q k ++ zs)) t
 
     -- a block of k whole frames and m samples of the next: 16 nibbles for each, and m + 2

@@ -5,7 +5,7 @@ use lib.IntN.{ℤ, pos}
 use lib.ListN.{getD}
 use mir.Syntax.{w16}
 use mir.Val.{SFits}
-use Rattle.frame.specs.declared.History.{History}
+use Rattle.whole.specs.declared.History.{History}
 use Rattle.coefficients.specs.declared.Answer as Measure
 use Rattle.coefficients.specs.Runs as measured
 use Rattle.coefficients.specs.Runs.{measures, asks}

@@ -4,11 +4,11 @@ use mathlib.Core.List.{List, [], _∷_, _++_}
 use Prim.Native.Nat.{ℕ, _≤_}
 use lib.IntN.{ℤ, pos, negsuc}
 use lib.ListN.{length, drop, replicate}
-use Rattle.frame.specs.declared.History.{History}
+use Rattle.whole.specs.declared.History.{History}
 use Rattle.frame.specs.Quantise.{quantise}
 use Rattle.frame.specs.Worked.{alone, frame}
 use Rattle.block.specs.Address.{addressToSample, sampleToAddress}
-use Rattle.block.specs.Context.{predictorOf, scaleOf, contextOf}
+use Rattle.block.specs.Context.{predictorOf, scaleOf, contextWith}
 use Rattle.block.specs.Play.{play}
 use Rattle.whole.specs.Whole.{signedNibble}
 use Rattle.layout.specs.Sizes.{sizeOf}
@@ -28,7 +28,7 @@ nine =
 
 -- one sample played from a header and a byte, with zero coefficients and history
 abbrev pub heard : ℕ → ℕ → List ℤ
-heard header byte = play (header ∷ byte ∷ []) (replicate 16 (pos 0)) 3 (contextOf header (pos 0) (pos 0)) .samples
+heard header byte = play (header ∷ byte ∷ []) (replicate 16 (pos 0)) 3 (contextWith header silence) .samples
 
 pub record WorkedNumbers : Type 0 where
   -- "Address to sample: 0, 1, 2 → 0; 15 → 13; 16, 17, 18 → 14; 19 → 15"

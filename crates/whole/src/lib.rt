@@ -1,6 +1,13 @@
-// The whole-number helpers of the codec: clamping to 16 bits, division towards zero, arithmetic shift.
+// What the crates of the codec share: whole-number helpers (clamping to 16 bits, division towards zero, arithmetic shift) and two samples of history.
 ghost use mathlib.Core.Path.{_≡_};
 ghost use Rattle.whole.specs.Whole.{clamp16, towardsZero, floored};
+
+// The newest sample and the one before it.
+#[repr(C)]
+pub struct History {
+    pub newest: i16,
+    pub older: i16,
+}
 
 // x, or the nearer end of -32768..32767.
 pub fn clamp_i16(x: i64) -> i16

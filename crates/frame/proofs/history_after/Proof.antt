@@ -8,7 +8,7 @@ use lib.ListN.{getD}
 use mir.Syntax.{w16}
 use mir.Val.{SFits, toZ, ofZ}
 use mir.Facts.{toZ-ofZ}
-use Rattle.frame.specs.declared.History.{History}
+use Rattle.whole.specs.declared.History.{History}
 use Rattle.frame.specs.Frame.{historyAfter}
 use Rattle.frame.proofs.LawsFrame.{history-none, history-one, history-more}
 use Rattle.frame.proofs.history_after.Statement.{statement}
