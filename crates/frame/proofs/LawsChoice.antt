@@ -18,11 +18,13 @@ use Rattle.frame.specs.declared.search.Candidate.{Candidate}
 use Rattle.frame.specs.declared.choice.Best.{Best}
 use Rattle.frame.specs.Pass.{Bounded, runPass}
 use Rattle.frame.specs.Search.{finished, tryCoefficients}
-use Rattle.frame.specs.Choice.{c0At, c1At, candidateAt, winner, passesOf, choose}
-use Rattle.frame.specs.Frame.{InNibble}
-use Rattle.frame.specs.Lanes.{candidateOf}
-use Rattle.frame.proofs.LawsArrays.{Fit}
-use Rattle.frame.proofs.LawsPass.{FitHistory, pass-nibble}
+use Rattle.frame.specs.Choice.{c0At, c1At, candidateAt, winner, passesOf}
+use Rattle.frame.specs.inner.Chosen.{choose}
+use Rattle.frame.specs.inner.Nibbles.{InNibble}
+use Rattle.frame.specs.inner.Lanes.{candidateOf}
+use Rattle.frame.specs.Fits.{Fit, FitHistory}
+use Rattle.frame.proofs.LawsOrder.{none-below}
+use Rattle.frame.proofs.LawsPass.{pass-nibble}
 use Rattle.frame.proofs.LawsSearch.{Shape, try-shape, Found, try-found}
 
 abbrev pub best : Coded → ℕ → ℕ → Best
@@ -77,10 +79,7 @@ module _ (h : History) (xs : List ℤ) (cs : List ℤ) where
   -- every candidate with a lower index has a greater distance
   pub winner-first : (k j : ℕ) → j < winner h xs cs k → distanceAt (winner h xs cs k) < distanceAt j
   unfolding winner
-  winner-first zero j l = absurd (never j l)
-    where
-      never : (j : ℕ) → j < 0 → ⊥
-      never j l = omega arith
+  winner-first zero j l = absurd (none-below j l)
   winner-first (suc k) j l = go (ltb (distanceAt (suc k)) (distanceAt (winner h xs cs k))) refl l (winner-first k j)
     where
       go : (t : Bool) → ltb (distanceAt (suc k)) (distanceAt (winner h xs cs k)) ≡ t → j < cond t (suc k) (winner h xs cs k) → (j < winner h xs cs k → distanceAt (winner h xs cs k) < distanceAt j) → distanceAt (cond t (suc k) (winner h xs cs k)) < distanceAt j

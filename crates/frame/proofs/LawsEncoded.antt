@@ -18,9 +18,10 @@ use Rattle.frame.specs.Quantise.{scale}
 use Rattle.frame.specs.Pass.{Bounded, reconstruct, codeSample, upto, runPass}
 use Rattle.frame.specs.Search.{finished, tryCoefficients}
 use Rattle.frame.specs.Choice.{c0At, c1At, AllBounded, candidateAt, winner, passesOf}
-use Rattle.frame.specs.Frame.{InNibble, header, low4, nibbleAt, packFrame, preceded, historyAfter, encodeFrame}
-use Rattle.frame.proofs.LawsArrays.{Fit}
-use Rattle.frame.proofs.LawsPass.{reconstruct-played, FitHistory, stepAt, overflow-upto, upto-sample, pass-lengths, pass-sample, pass-fits}
+use Rattle.frame.specs.Frame.{header, low4, nibbleAt, packFrame, preceded, historyAfter, encodeFrame}
+use Rattle.frame.specs.inner.Nibbles.{InNibble}
+use Rattle.frame.specs.Fits.{Fit, FitHistory}
+use Rattle.frame.proofs.LawsPass.{reconstruct-played, stepAt, overflow-upto, upto-sample, pass-lengths, pass-sample, pass-fits}
 use Rattle.frame.proofs.LawsSearch.{Shape, Found, try-found, ended}
 use Rattle.frame.proofs.LawsChoice.{candidate-shape, candidate-nibble, winner-le, passes-le}
 use Rattle.frame.proofs.LawsDistance.{step-distance}

@@ -17,6 +17,7 @@ use Rattle.whole.specs.declared.History.{History}
 use Rattle.frame.specs.Pass.{Bounded}
 use Rattle.frame.specs.Choice.{c0At, c1At, AllBounded}
 use Rattle.frame.specs.Frame.{preceded, historyAfter, pairOk, pairsOk, coefficientsOk}
+use Rattle.frame.proofs.LawsOrder.{none-below}
 
 -- ---- the history after m samples
 pub history-none : (h : History) (xs : List ℤ) → h ≡ historyAfter h xs 0
@@ -71,10 +72,7 @@ pair-bounded c0 c1 e =
 
 pub pairs-at : (cs : List ℤ) (k i : ℕ) → i < k → pairsOk cs k ≡ true → pairOk (c0At cs i) (c1At cs i) ≡ true
 unfolding pairsOk
-pairs-at cs zero i l e = absurd (never i l)
-  where
-    never : (i : ℕ) → i < 0 → ⊥
-    never i l = omega arith
+pairs-at cs zero i l e = absurd (none-below i l)
 pairs-at cs (suc k) i l e = go (decLe k i) (pairs-at cs k i)
   where
     t : (pairsOk cs k ≡ true) × (pairOk (c0At cs k) (c1At cs k) ≡ true)

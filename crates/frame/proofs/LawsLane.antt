@@ -19,7 +19,8 @@ use Rattle.whole.proofs.Differences.{Diff, diff-of, diff-pos, diff-neg, diff-ad
 use Rattle.frame.specs.Quantise.{unit24, round24, scale, nearestDown, withSign, quantise, clamp4}
 use Rattle.frame.specs.Estimate.{weigh}
 use Rattle.frame.specs.Pass.{Bounded}
-use Rattle.frame.specs.Lanes.{PowerOfTwo, finer, isBig, isNear, track, clampWithin}
+use Rattle.frame.specs.inner.Lanes.{PowerOfTwo, finer, isBig, isNear, track, clampWithin}
+use Rattle.frame.proofs.LawsOrder.{none-below}
 use Rattle.frame.proofs.LawsQuantise.{unit-le, unit-pos as unit-above, round24-le, round-same, down-pos, down-neg, sign-twice, sign-size, clamp4-size, clamp4-low, clamp4-high, clamp4-mid, excess-low, excess-high, excess-none}
 
 -- ---- a unit
@@ -333,10 +334,7 @@ pub apart-above : (x y : ℤ) → ltZ x y ≡ false → x -ℤ y ≡ pos (natAbs
 apart-above x y e = not-below-zero (x -ℤ y) (le-diff (diff-sub (diff-of x) (diff-of y)) (diff-pos 0) (let l = diff-le (diff-of x) (diff-of y) e in omega arith))
 
 pub mag-below : (v : ℤ) → ltZ v (pos 0) ≡ true → negsuc 0 -ℤ v ≡ pos (mag v)
-mag-below (pos n) e = absurd (never n (ltb-true n 0 e))
-  where
-    never : (n : ℕ) → n < 0 → ⊥
-    never n h = omega arith
+mag-below (pos n) e = absurd (none-below n (ltb-true n 0 e))
 mag-below (negsuc n) e = diff-eq (diff-sub (diff-of (negsuc 0)) (diff-of (negsuc n))) (diff-pos n) (omega arith)
 
 pub mag-above : (v : ℤ) → ltZ v (pos 0) ≡ false → v ≡ pos (mag v)

@@ -27,10 +27,10 @@ use Rattle.frame.specs.declared.search.Figures.{Figures}
 use Rattle.frame.specs.Estimate.{weigh, maxZ}
 use Rattle.frame.specs.Quantise.{quantise, clamp4}
 use Rattle.frame.specs.Pass.{Bounded, residual, reconstruct, codeSample, squaredDifference, Carried, next, upto, runPass}
-use Rattle.frame.specs.Lanes.{PowerOfTwo, LaneRoom, finer, isBig, isNear, track, stepLane, laneFrom, laneStart, laneOf, figures, figuresAt, Empty, Shown, Tells}
-use Rattle.frame.proofs.LawsArrays.{Fit}
+use Rattle.frame.specs.inner.Lanes.{PowerOfTwo, LaneRoom, finer, isBig, isNear, track, stepLane, laneFrom, laneStart, laneOf, figures, figuresAt, Empty, Shown, Tells}
+use Rattle.frame.specs.Fits.{Fit, FitHistory}
 use Rattle.frame.proofs.LawsLane.{excess-is, mag-floor, sure-is, apart-16}
-use Rattle.frame.proofs.LawsPass.{FitHistory, reconstruct-played, residual-size, squared-le, upto-fits}
+use Rattle.frame.proofs.LawsPass.{reconstruct-played, residual-size, squared-le, upto-fits}
 
 -- ---- lists that are filled place by place
 

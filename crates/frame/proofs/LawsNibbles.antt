@@ -14,8 +14,10 @@ use lib.Seq.{take-suc-set, getD-at}
 use lib.Signed.{ltZ}
 use borrow.Author.Tests.{ltb-true, lt-ltb, le-ltb, eqb-true, eqb-false}
 use Rattle.whole.proofs.Differences.{diff-of, diff-pos, diff-sub, diff-eq}
-use Rattle.frame.specs.Frame.{low4, byteOf, packFrame, InNibble, up, down, nibbleAt}
+use Rattle.frame.specs.Frame.{low4, byteOf, packFrame, nibbleAt}
+use Rattle.frame.specs.inner.Nibbles.{InNibble, up, down}
 use Rattle.whole.specs.Whole.{signedNibble}
+use Rattle.frame.proofs.LawsOrder.{none-below}
 
 pub nibble-size : {z : ℤ} → InNibble z → natAbs z ≤ 8
 nibble-size (up h) = omega arith
@@ -28,10 +30,7 @@ low-lt (down h) = omega arith
 
 pub low-neg : {z : ℤ} → InNibble z → ltZ z (pos 0) ≡ true → z +ℤ pos 16 ≡ pos (low4 z)
 unfolding low4
-low-neg (up {n} h) e = absurd (never n (ltb-true n 0 e))
-  where
-    never : (n : ℕ) → n < 0 → ⊥
-    never n h = omega arith
+low-neg (up {n} h) e = absurd (none-below n (ltb-true n 0 e))
 low-neg (down {n} h) e = rw (le-ltb 16 (suc n) (omega arith)) (ap pos (omega arith))
 
 pub low-pos : {z : ℤ} → InNibble z → ltZ z (pos 0) ≡ false → z ≡ pos (low4 z)
@@ -65,10 +64,7 @@ pack-head b ns (suc k) = List·getD-append (packFrame b ns k) (byteOf ns k ∷ [
 
 pub pack-byte : (b : ℕ) (ns : List ℤ) (k j : ℕ) → j < k → getD (packFrame b ns k) (suc j) 0 ≡ byteOf ns j
 unfolding packFrame
-pack-byte b ns zero j l = absurd (never j l)
-  where
-    never : (j : ℕ) → j < 0 → ⊥
-    never j l = omega arith
+pack-byte b ns zero j l = absurd (none-below j l)
 pack-byte b ns (suc k) j l = go (decLe k j) (pack-byte b ns k j)
   where
     go : Dec (k ≤ j) → (j < k → getD (packFrame b ns k) (suc j) 0 ≡ byteOf ns j) → getD (packFrame b ns k ++ (byteOf ns k ∷ [])) (suc j) 0 ≡ byteOf ns j

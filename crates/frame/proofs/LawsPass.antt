@@ -24,8 +24,10 @@ use Rattle.frame.specs.declared.pass.Pass.{Pass}
 use Rattle.frame.specs.Estimate.{weigh}
 use Rattle.frame.specs.Quantise.{scale, quantise, clamp4}
 use Rattle.frame.specs.Pass.{Bounded, residual, reconstruct, codeSample, squaredDifference, Carried, next, upto, runPass}
-use Rattle.frame.specs.Frame.{InNibble, up, down, preceded, historyAfter}
-use Rattle.frame.proofs.LawsArrays.{Fit}
+use Rattle.frame.specs.Frame.{preceded, historyAfter}
+use Rattle.frame.specs.inner.Nibbles.{InNibble, up, down}
+use Rattle.frame.specs.Fits.{Fit, FitHistory}
+use Rattle.frame.proofs.LawsOrder.{none-below}
 use Rattle.frame.proofs.LawsQuantise.{quantise-size, quantise-12, clamp4-size, clamp4-excess, clamp4-low, clamp4-high, clamp4-mid}
 
 -- ---- sizes
@@ -116,10 +118,7 @@ module _ (l : ℕ → List ℤ) (v : ℕ → ℤ) (none : l 0 ≡ []) (more : (i
   grown-length (suc i) = ap length (more i) ∙ length-append (l i) (v i ∷ []) ∙ omega (arith, grown-length i)
 
   pub grown-at : (i j : ℕ) → j < i → getD (l i) j (pos 0) ≡ v j
-  grown-at zero j k = absurd (never j k)
-    where
-      never : (j : ℕ) → j < 0 → ⊥
-      never j k = omega arith
+  grown-at zero j k = absurd (none-below j k)
   grown-at (suc i) j k = ap (λ (ys : List ℤ). getD ys j (pos 0)) (more i) ∙ go (decLe i j) (grown-at i j)
     where
       go : Dec (i ≤ j) → (j < i → getD (l i) j (pos 0) ≡ v j) → getD (l i ++ (v i ∷ [])) j (pos 0) ≡ v j
@@ -127,11 +126,6 @@ module _ (l : ℕ → List ℤ) (v : ℕ → ℤ) (none : l 0 ≡ []) (more : (i
       go (no m) r = List·getD-append (l i) (v i ∷ []) (pos 0) j (omega (arith, grown-length i, lt-of-not-le m)) ∙ r (lt-of-not-le m)
 
 -- ---- what holds at each place
-
--- a history of 16-bit samples
-pub record FitHistory (h : History) : Type 0 where
-  pub newest-fits : SFits w16 (h .newest)
-  pub older-fits : SFits w16 (h .older)
 
 pub step-overflow-12 : (c0 c1 s0 s1 x : ℤ) → Bounded c0 c1 → SFits w16 s0 → SFits w16 s1 → SFits w16 x → codeSample c0 c1 s0 s1 x 12 .overflow ≤ 248
 unfolding codeSample
@@ -156,10 +150,7 @@ module _ (c0 c1 : ℤ) (h : History) (xs : List ℤ) (p : ℕ) where
   -- each step's overflow is at most the pass's
   pub overflow-upto : (i j : ℕ) → j < i → stepAt j .overflow ≤ upto c0 c1 h xs p i .overflow
   unfolding upto next
-  overflow-upto zero j l = absurd (never j l)
-    where
-      never : (j : ℕ) → j < 0 → ⊥
-      never j l = omega arith
+  overflow-upto zero j l = absurd (none-below j l)
   overflow-upto (suc i) j l = go (decLe i j) (overflow-upto i j)
     where
       same : j ≡ i → stepAt j .overflow ≤ max (upto c0 c1 h xs p i .overflow) (stepAt i .overflow)

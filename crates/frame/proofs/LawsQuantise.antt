@@ -18,6 +18,7 @@ use lib.Ieee.Nearest.{closest}
 use Rattle.whole.proofs.Values.{abs-neg}
 use Rattle.whole.proofs.Differences.{diff-of, diff-pos, diff-neg, diff-add, diff-sub, diff-eq, diff-lt, diff-abs, abs-diff, over, under}
 use Rattle.frame.specs.Quantise.{unit24, round24, scale, nearestDown, withSign, quantise, clamp4}
+use Rattle.frame.proofs.LawsOrder.{none-below}
 
 -- ---- `compare` from an order
 module _ (a b : ℕ) where
@@ -240,10 +241,7 @@ unfolding nearestDown
 down-zero s p = rw (zero-mod, zero-div) (go (ltb s (0 * 2)) refl)
   where
     go : (t : Bool) → ltb s (0 * 2) ≡ t → cond t (0 + 1) 0 ≡ 0
-    go true e = absurd (never (ltb-true s (0 * 2) e))
-      where
-        never : s < 0 * 2 → ⊥
-        never h = omega arith
+    go true e = absurd (none-below s (ltb-true s (0 * 2) e))
     go false e = refl
 
 pub down-le : (m s : ℕ) → nearestDown m s ≤ m + 1
@@ -252,10 +250,7 @@ down-le m s = pick-le (ltb s (m % s * 2)) (m / s + 1) (m / s) (m + 1) (omega (ar
 
 -- ---- the sign
 pub sign-neg : (z : ℤ) (n : ℕ) → ltZ z (pos 0) ≡ true → pos 0 -ℤ pos n ≡ withSign z n
-sign-neg (pos k) n e = absurd (never k (ltb-true k 0 e))
-  where
-    never : (k : ℕ) → k < 0 → ⊥
-    never k h = omega arith
+sign-neg (pos k) n e = absurd (none-below k (ltb-true k 0 e))
 sign-neg (negsuc k) n e = +ℤ-idl (negℤ (pos n))
 
 pub sign-pos : (z : ℤ) (n : ℕ) → ltZ z (pos 0) ≡ false → pos n ≡ withSign z n

@@ -17,10 +17,10 @@ use Rattle.frame.specs.declared.search.Candidate.{Candidate}
 use Rattle.frame.specs.Estimate.{firstExponent}
 use Rattle.frame.specs.Pass.{Bounded, runPass}
 use Rattle.frame.specs.Search.{raiseWithin, raise, isLast, finished, searchWithin, tryCoefficients}
-use Rattle.frame.specs.Lanes.{candidateOf}
-use Rattle.frame.proofs.LawsArrays.{Fit}
+use Rattle.frame.specs.inner.Lanes.{candidateOf}
+use Rattle.frame.specs.Fits.{Fit, FitHistory}
 use Rattle.frame.proofs.LawsEstimate.{first-le}
-use Rattle.frame.proofs.LawsPass.{FitHistory, overflow-le, overflow-12}
+use Rattle.frame.proofs.LawsPass.{overflow-le, overflow-12}
 
 -- ---- the raise
 pub raise-more : (k y p : ℕ) → 256 < y → raiseWithin (suc k) y p ≡ raiseWithin k (y / 2) (min (p + 1) 11)
@@ -175,6 +175,10 @@ pub record Found (c0 c1 : ℤ) (h : History) (xs : List ℤ) (c : Coded) : Type 
   pub is : c ≡ finished (runPass c0 c1 h xs (c .exponent)) (c .exponent) (c .passes)
   pub met : isLast (c .exponent) (runPass c0 c1 h xs (c .exponent) .overflow) ≡ true
 
+-- with no turn left an exponent is above 12
+no-turns : {p : ℕ} → p ≤ 12 → 12 < zero + p → ⊥
+no-turns l m = omega arith
+
 module _ (c0 c1 : ℤ) (h : History) (xs : List ℤ) (b : Bounded c0 c1) (f : FitHistory h) (x : Fit 14 xs) where
   found-more : (k p n q : ℕ) (t : Bool) → p ≤ 12 → q ≡ raise (runPass c0 c1 h xs p .overflow) p → isLast q (runPass c0 c1 h xs p .overflow) ≡ t → (p ≤ q → q ≤ 11 → Found c0 c1 h xs (searchWithin k c0 c1 h xs (q + 1) (n + 1)))
       → Found c0 c1 h xs (cond t (finished (runPass c0 c1 h xs p) q (n + 1)) (searchWithin k c0 c1 h xs (q + 1) (n + 1)))
@@ -189,10 +193,7 @@ module _ (c0 c1 : ℤ) (h : History) (xs : List ℤ) (b : Bounded c0 c1) (f : Fi
 
   pub search-found : (k p n : ℕ) → p ≤ 12 → 12 < k + p → Found c0 c1 h xs (searchWithin k c0 c1 h xs p n)
   unfolding searchWithin
-  search-found zero p n l m = absurd (never m)
-    where
-      never : 12 < zero + p → ⊥
-      never m = omega arith
+  search-found zero p n l m = absurd (no-turns l m)
   search-found (suc k) p n l m =
       let o = runPass c0 c1 h xs p .overflow in
       found-more k p n (raise o p) (isLast (raise o p) o) l refl refl (λ u v. search-found k (raise o p + 1) (n + 1) (omega arith) (omega arith))
@@ -205,10 +206,7 @@ module _ (c0 c1 : ℤ) (h : History) (xs : List ℤ) (b : Bounded c0 c1) (f : Fi
 
   pub search-bound : (j k p n : ℕ) → p ≤ 12 → 12 < k + p → searchWithin (k + j) c0 c1 h xs p n ≡ searchWithin k c0 c1 h xs p n
   unfolding searchWithin
-  search-bound j zero p n l m = absurd (never m)
-    where
-      never : 12 < zero + p → ⊥
-      never m = omega arith
+  search-bound j zero p n l m = absurd (no-turns l m)
   search-bound j (suc k) p n l m =
       let o = runPass c0 c1 h xs p .overflow in
       ap (λ (i : ℕ). searchWithin i c0 c1 h xs p n) (suc-add k j)

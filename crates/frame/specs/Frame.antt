@@ -10,17 +10,14 @@ use Rattle.frame.specs.declared.EncodedFrame.{EncodedFrame}
 use Rattle.frame.specs.declared.OneFrame.{OneFrame}
 use Rattle.frame.specs.declared.Refusal.{Refusal}
 use Rattle.frame.specs.declared.Refusal.the-variants.{CoefficientOutside}
+use Rattle.frame.specs.declared.Verdict.{Verdict}
 use Rattle.frame.specs.declared.Verdict.the-variants.{Encoded, Refused}
+use Rattle.whole.specs.Outcome.{Outcome, accepted, refused}
 use Rattle.frame.specs.Choice.{c0At, c1At, candidateAt, winner, passesOf}
 
 -- "Header = index × 16 + p"
 abbrev pub header : ℕ → ℕ → ℕ
 header i p = i * 16 + p
-
--- −8 ≤ z ≤ 7
-pub data InNibble : ℤ → Type 0 where
-  up : {n : ℕ} → n < 8 → InNibble (pos n)
-  down : {n : ℕ} → n < 8 → InNibble (negsuc n)
 
 -- a nibble's four bits: z mod 16
 unfoldable pub low4 : ℤ → ℕ
@@ -67,14 +64,30 @@ pairsOk cs (suc k) = pairsOk cs k && pairOk (c0At cs k) (c1At cs k)
 unfoldable pub coefficientsOk : List ℤ → Bool
 coefficientsOk cs = pairsOk cs 8
 
--- document 01's number
+-- document 01's number of a refusal
 abbrev pub code : Refusal → ℕ
 code CoefficientOutside = 7
 
+-- what a verdict says, by document 01's numbers
+abbrev pub outcome : Verdict → Outcome Unit
+outcome Encoded = accepted tt
+outcome (Refused r) = refused (code r)
+
+-- what the one-frame call answers: its outcome, and the bytes, passes and history that come with it
+pub record Effect : Type 0 where
+  pub outcome : Outcome Unit
+  pub bytes : List ℕ
+  pub passes : ℕ
+  pub history : History
+
+-- what an answer is, by document 01's numbers and values
+abbrev pub effect : OneFrame → Effect
+effect o = record { outcome = outcome (o .verdict); bytes = o .bytes; passes = o .passes; history = o .history }
+
 -- "answers the eight bytes, the passes and the new history"; a refusal answers no bytes, no passes and the history given
-unfoldable pub encodeOneFrame : History → List ℤ → List ℤ → OneFrame
+unfoldable pub encodeOneFrame : History → List ℤ → List ℤ → Effect
 encodeOneFrame h xs cs =
     let e = encodeFrame h xs cs in
     cond (coefficientsOk cs)
-    (record { verdict = Encoded; bytes = e .bytes; passes = e .passes; history = historyAfter h (e .samples) 14 })
-    (record { verdict = Refused CoefficientOutside; bytes = replicate 8 0; passes = 0; history = h })
+    (record { outcome = accepted tt; bytes = e .bytes; passes = e .passes; history = historyAfter h (e .samples) 14 })
+    (record { outcome = refused 7; bytes = replicate 8 0; passes = 0; history = h })

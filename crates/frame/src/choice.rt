@@ -1,8 +1,9 @@
 // The choice among the eight pairs of coefficients.
 ghost use mathlib.Core.Path.{_≡_};
 ghost use Prim.Native.Nat.{_<_, _≤_, _-_};
-ghost use Rattle.frame.specs.Choice.{AllBounded, candidateAt, choose};
-ghost use Rattle.frame.specs.Lanes.{Firsts, LanesTell, Shown, laneAt, figuresAt, candidateOf};
+ghost use Rattle.frame.specs.Choice.{AllBounded, candidateAt};
+ghost use Rattle.frame.specs.inner.Chosen.{choose};
+ghost use Rattle.frame.specs.inner.Lanes.{Firsts, LanesTell, Shown, laneAt, figuresAt, candidateOf};
 use crate::estimate::first_exponent;
 use crate::lanes::Lanes;
 use crate::lanes::fresh;

@@ -9,7 +9,7 @@ ghost use Rattle.whole.specs.Whole.{clamp16, floored};
 ghost use Rattle.frame.specs.Estimate.{weigh, maxZ};
 ghost use Rattle.frame.specs.Quantise.{clamp4};
 ghost use Rattle.frame.specs.Pass.{Bounded, squaredDifference};
-ghost use Rattle.frame.specs.Lanes.{PowerOfTwo, LaneRoom, finer, isBig, isNear, track, clampWithin, stepLane};
+ghost use Rattle.frame.specs.inner.Lanes.{PowerOfTwo, LaneRoom, finer, isBig, isNear, track, clampWithin, stepLane};
 
 // What a lane carries: the newest and next reconstructed samples, the largest magnitude before the clamp to a nibble, in units of
 // 1 / 2^p (2^30 where the rounding to 24 bits might show), and the sum of squared differences in two halves.

@@ -4,7 +4,7 @@ ghost use Prim.Native.Nat.{ℕ, _+_, _<_, _≤_, _^_};
 ghost use lib.IntN.{pos};
 ghost use lib.ListN.{getD};
 ghost use Rattle.frame.specs.Choice.{c0At, c1At};
-ghost use Rattle.frame.specs.Lanes.{Empty, LaneRoom, Ready, laneAt, laneStart, laneStep, laneAfter};
+ghost use Rattle.frame.specs.inner.Lanes.{Empty, LaneRoom, Ready, laneAt, laneStart, laneStep, laneAfter};
 use crate::lane::Lane;
 use crate::lane::step_lane;
 use whole::History;

@@ -3,7 +3,8 @@ ghost use mathlib.Core.Path.{_≡_};
 ghost use Prim.Native.Nat.{ℕ, _<_};
 ghost use lib.IntN.{pos};
 ghost use lib.ListN.{getD};
-ghost use Rattle.frame.specs.Frame.{low4, packFrame, InNibble};
+ghost use Rattle.frame.specs.Frame.{low4, packFrame};
+ghost use Rattle.frame.specs.inner.Nibbles.{InNibble};
 
 // The four bits of a nibble.
 fn low_4(n: i8) -> u8

@@ -4,7 +4,7 @@ ghost use Prim.Native.Nat.{_≤_, _<_, _+_};
 ghost use Rattle.frame.specs.Estimate.{firstExponent};
 ghost use Rattle.frame.specs.Pass.{Bounded, runPass};
 ghost use Rattle.frame.specs.Search.{raise, isLast, tryCoefficients};
-ghost use Rattle.frame.specs.Lanes.{Tells, figures, candidateOf};
+ghost use Rattle.frame.specs.inner.Lanes.{Tells, figures, candidateOf};
 use crate::pass::run_pass;
 use whole::History;
 

@@ -14,8 +14,7 @@ use Rattle.frame.specs.Frame as encoded
 use Rattle.frame.specs.Frame.{encodeFrame, historyAfter}
 use Rattle.whole.specs.declared.History.{History}
 use Rattle.frame.proofs.LawsEncoded.{history-step, frame-lengths, header-parts, index-le, frame-played}
-use Rattle.frame.proofs.LawsArrays.{Fit}
-use Rattle.frame.proofs.LawsPass.{FitHistory}
+use Rattle.frame.specs.Fits.{Fit, FitHistory}
 use Rattle.block.specs.declared.FrameContext.{FrameContext}
 use Rattle.block.specs.Context.{predictorOf, scaleOf, contextWith, pushSample}
 use Rattle.block.specs.Frame as played

@@ -8,7 +8,7 @@ use lib.IntN.{pos, negsuc}
 use lib.ListN.{length, drop, replicate}
 use Rattle.whole.specs.Frames.{frameAt, framesOf}
 use Rattle.frame.specs.Frame.{pairOk, pairsOk, coefficientsOk}
-use Rattle.frame.specs.Worked.{quotients, frames}
+use Rattle.frame.proofs.Worked.{quotients, frames}
 use Rattle.block.specs.Context.{predictorOf, scaleOf, pushSample, withHeader}
 use Rattle.block.specs.Frame.{nibbleAt, nextSample, takeNibble}
 use Rattle.block.specs.Play.{takeHeader, playFrom, play}

@@ -8,8 +8,10 @@ use lib.IntN.{ℤ, pos}
 use lib.ListN.{getD}
 use Rattle.frame.specs.declared.choice.Best.{Best}
 use Rattle.frame.specs.declared.EncodedFrame.{EncodedFrame}
-use Rattle.frame.specs.Choice.{candidateAt, winner, passesOf, choose}
-use Rattle.frame.specs.Frame.{InNibble, header, packFrame, encodeFrame}
+use Rattle.frame.specs.Choice.{candidateAt, winner, passesOf}
+use Rattle.frame.specs.inner.Chosen.{choose}
+use Rattle.frame.specs.Frame.{header, packFrame, encodeFrame}
+use Rattle.frame.specs.inner.Nibbles.{InNibble}
 use Rattle.frame.proofs.LawsSearch.{Shape}
 use Rattle.frame.proofs.LawsChoice.{winner-le, candidate-shape, candidate-nibble}
 use Rattle.frame.proofs.encode_frame.Statement.{statement}

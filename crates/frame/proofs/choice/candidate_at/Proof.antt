@@ -11,8 +11,8 @@ use mir.Facts.{toZ-ofZ}
 use Rattle.frame.specs.declared.search.Candidate.{Candidate}
 use Rattle.frame.specs.Pass.{Bounded}
 use Rattle.frame.specs.Choice.{c0At, c1At, candidateAt}
-use Rattle.frame.proofs.LawsArrays.{Fit, array-fits}
-use Rattle.frame.proofs.LawsPass.{FitHistory}
+use Rattle.frame.proofs.LawsArrays.{array-fits}
+use Rattle.frame.specs.Fits.{Fit, FitHistory}
 use Rattle.frame.proofs.LawsSearch.{Shape, again}
 use Rattle.frame.proofs.LawsChoice.{candidate-shape, candidate-found}
 use Rattle.frame.proofs.choice.candidate_at.Statement.{statement}

@@ -9,8 +9,9 @@ use Rattle.whole.specs.declared.History.{History}
 use Rattle.frame.specs.declared.search.Coded.{Coded}
 use Rattle.frame.specs.declared.search.Candidate.{Candidate}
 use Rattle.frame.specs.declared.choice.Best.{Best}
-use Rattle.frame.specs.Choice.{candidateAt, choose}
-use Rattle.frame.specs.Lanes.{candidateOf}
+use Rattle.frame.specs.Choice.{candidateAt}
+use Rattle.frame.specs.inner.Chosen.{choose}
+use Rattle.frame.specs.inner.Lanes.{candidateOf}
 use Rattle.frame.proofs.LawsSearch.{Shape}
 use Rattle.frame.proofs.LawsChoice.{candidate-shape, best-first, trial-taken, trial-left}
 use Rattle.frame.proofs.LawsChoice as Choice

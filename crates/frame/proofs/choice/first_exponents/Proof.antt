@@ -9,6 +9,7 @@ use mir.Val.{SFits}
 use mir.Facts.{toZ-ofZ}
 use Rattle.frame.specs.Estimate.{firstExponent}
 use Rattle.frame.specs.Choice.{c0At, c1At}
+use Rattle.frame.proofs.LawsOrder.{none-below}
 use Rattle.frame.proofs.LawsLanes.{filled-more}
 use Rattle.frame.proofs.choice.first_exponents.Statement.{statement}
 use Rattle.frame.proofs.choice.first_exponents.Tie as tie
@@ -19,11 +20,8 @@ Inv-loop history samples coefficients out₀ k₀ out k = (k ≤ 8) × (length o
 abbrev μ-loop : tie.MeasureT-loop
 μ-loop history samples coefficients out₀ k₀ out k = 8 - k
 
-never : (j : ℕ) → j < 0 → ⊥
-never j m = omega arith
-
 loop-holds : tie.Need-loop-holds Inv-loop μ-loop
-loop-holds c = (omega arith, refl, λ j m. absurd (never j m))
+loop-holds c = (omega arith, refl, λ j m. absurd (none-below j m))
 
 c0-fits : (c : tie.After-c0 Inv-loop μ-loop) → SFits w16 (c0At (c .before .before .before .args .t3) (c .before .before .loop .k))
 c0-fits c = record { sfits = c .c0 .given }

@@ -12,10 +12,10 @@ use Rattle.frame.specs.declared.lane.Lane.{Lane}
 use Rattle.frame.specs.Estimate.{firstExponent}
 use Rattle.frame.specs.Pass.{Bounded}
 use Rattle.frame.specs.Choice.{c0At, c1At}
-use Rattle.frame.specs.Lanes.{PowerOfTwo, Ready, Empty, Shown, Tells, laneAt, laneStart, laneFrom, figuresAt}
-use Rattle.frame.proofs.LawsArrays.{Fit, array-fits}
+use Rattle.frame.specs.inner.Lanes.{PowerOfTwo, Ready, Empty, Shown, Tells, laneAt, laneStart, laneFrom, figuresAt}
+use Rattle.frame.proofs.LawsArrays.{array-fits}
+use Rattle.frame.specs.Fits.{Fit, FitHistory}
 use Rattle.frame.proofs.LawsEstimate.{first-le}
-use Rattle.frame.proofs.LawsPass.{FitHistory}
 use Rattle.frame.proofs.LawsLanes.{shown-is, tells-is, from-same}
 use Rattle.frame.proofs.choice.lanes_at.Statement.{statement}
 use Rattle.frame.proofs.choice.lanes_at.Tie as tie

@@ -12,7 +12,7 @@ use mir.Facts.{toZ-ofZ}
 use Rattle.frame.specs.declared.search.Figures.{Figures}
 use Rattle.frame.specs.Estimate.{firstExponent}
 use Rattle.frame.specs.Choice.{c0At, c1At, candidateAt}
-use Rattle.frame.specs.Lanes.{Tells, laneAt, figuresAt, candidateOf}
+use Rattle.frame.specs.inner.Lanes.{Tells, laneAt, figuresAt, candidateOf}
 use Rattle.frame.proofs.LawsEstimate.{first-le}
 use Rattle.frame.proofs.LawsLanes.{tells-at}
 use Rattle.frame.proofs.choice.trial.Statement.{statement}

@@ -11,7 +11,7 @@ use lib.Signed.{nonNeg}
 use mir.Syntax.{w32}
 use mir.Val.{toZ, ofZ}
 use Rattle.whole.proofs.Values.{Is, is-sized, is-lit, is-nat, is-mul, chk-mul, is-add, chk-add, is-sub, chk-sub, is-eq, is-size, chk-cast-u, is-cast-u, sfits-abs}
-use Rattle.frame.specs.Lanes.{clampWithin}
+use Rattle.frame.specs.inner.Lanes.{clampWithin}
 use Rattle.frame.proofs.LawsLane.{unit-is, mask-is, most-is, held-le, part-of}
 use Rattle.frame.proofs.lane.nibble_part.Statement.{statement}
 use Rattle.frame.proofs.lane.nibble_part.Tie as tie

@@ -14,7 +14,7 @@ use Rattle.whole.proofs.Values.{Is, is-in, is-cast, chk-cast, is-lit, is-call, 
 use Rattle.frame.specs.Estimate.{weigh, maxZ}
 use Rattle.frame.specs.Quantise.{clamp4}
 use Rattle.frame.specs.Pass.{residual, squaredDifference}
-use Rattle.frame.specs.Lanes.{LaneRoom, finer, track, stepLane}
+use Rattle.frame.specs.inner.Lanes.{LaneRoom, finer, track, stepLane}
 use Rattle.frame.proofs.LawsLane.{weigh-le, finer-size, part-size, apart-16}
 use Rattle.frame.proofs.lane.step_lane.Statement.{statement}
 use Rattle.frame.proofs.lane.step_lane.Tie as tie

@@ -11,7 +11,7 @@ use mir.Syntax.{w32}
 use mir.Val.{toZ, ofZ}
 use mir.Facts.{toZ-ofZ}
 use Rattle.whole.proofs.Values.{is-call}
-use Rattle.frame.specs.Lanes.{isBig, isNear, track}
+use Rattle.frame.specs.inner.Lanes.{isBig, isNear, track}
 use Rattle.frame.proofs.LawsLane.{fits-call, mag-below, mag-above, mag-le}
 use Rattle.frame.proofs.lane.track.Statement.{statement}
 use Rattle.frame.proofs.lane.track.Tie as tie

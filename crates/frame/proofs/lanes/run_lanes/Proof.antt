@@ -11,8 +11,9 @@ use mir.Val.{SFits, toZ, ofZ}
 use mir.Facts.{toZ-ofZ}
 use Rattle.frame.specs.declared.lane.Lane.{Lane}
 use Rattle.frame.specs.declared.lanes.Lanes.{Lanes}
-use Rattle.frame.specs.Lanes.{LaneRoom, laneAt, laneAfter, laneFrom, stepLane}
-use Rattle.frame.proofs.LawsArrays.{Fit, array-fits}
+use Rattle.frame.specs.inner.Lanes.{LaneRoom, laneAt, laneAfter, laneFrom, stepLane}
+use Rattle.frame.proofs.LawsArrays.{array-fits}
+use Rattle.frame.specs.Fits.{Fit}
 use Rattle.frame.proofs.LawsLanes.{room-from, room-is, from-more}
 use Rattle.frame.proofs.lanes.run_lanes.Statement.{statement}
 use Rattle.frame.proofs.lanes.run_lanes.Tie as tie

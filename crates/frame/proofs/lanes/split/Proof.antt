@@ -8,6 +8,7 @@ use mir.Syntax.{w16, w32}
 use mir.Val.{SFits, toZ, ofZ}
 use Rattle.whole.proofs.Values.{is-in, is-cast, chk-cast}
 use Rattle.frame.specs.Choice.{c0At, c1At}
+use Rattle.frame.proofs.LawsOrder.{none-below}
 use Rattle.frame.proofs.LawsLanes.{filled-more}
 use Rattle.frame.proofs.lanes.split.Statement.{statement}
 use Rattle.frame.proofs.lanes.split.Tie as tie
@@ -23,11 +24,8 @@ Inv-loop coefficients c0₀ c1₀ k₀ c0 c1 k =
 abbrev μ-loop : tie.MeasureT-loop
 μ-loop coefficients c0₀ c1₀ k₀ c0 c1 k = 8 - k
 
-never : (j : ℕ) → j < 0 → ⊥
-never j m = omega arith
-
 loop-holds : tie.Need-loop-holds Inv-loop μ-loop
-loop-holds c = (omega arith, refl, refl, λ j m. absurd (never j m), λ j m. absurd (never j m))
+loop-holds c = (omega arith, refl, refl, λ j m. absurd (none-below j m), λ j m. absurd (none-below j m))
 
 a-fits : (c : tie.After-a Inv-loop μ-loop) → SFits w16 (c0At (c .before .before .before .args .t1) (c .before .before .loop .k))
 a-fits c = record { sfits = c .a .given }

@@ -9,7 +9,8 @@ use lib.ListN.{length, getD, set, length-set}
 use mir.Syntax.{w16, w32, w64}
 use mir.Val.{Fits, SFits, toZ, ofZ}
 use mir.Facts.{toZ-ofZ}
-use Rattle.frame.specs.Lanes.{LaneRoom, laneOf, stepLane}
+use Rattle.frame.specs.inner.Lanes.{LaneRoom, laneOf, stepLane}
+use Rattle.frame.proofs.LawsOrder.{none-below}
 use Rattle.frame.proofs.LawsLanes.{Mixed, mixed-more}
 use Rattle.frame.proofs.lanes.step_lanes.Statement.{statement}
 use Rattle.frame.proofs.lanes.step_lanes.Tie as tie
@@ -37,11 +38,8 @@ loop-holds c =
       length-unmapped ℤ (s .args .t .top) 8 (g .1 .1 .0 .1 .0 .1),
       length-unmapped ℕ (s .args .t .high) 8 (g .1 .1 .1 .0 .1 .0 .1),
       length-unmapped ℕ (s .args .t .low) 8 (g .1 .1 .1 .1 .0 .1 .0 .1),
-      record { done = λ j m. absurd (never j m); kept = λ j m. refl },
+      record { done = λ j m. absurd (none-below j m); kept = λ j m. refl },
     )
-  where
-    never : (j : ℕ) → j < 0 → ⊥
-    never j m = omega arith
 
 -- a turn's place in the loop
 abbrev turn : tie.After-struct-told3 Inv-loop μ-loop → tie.In-loop Inv-loop μ-loop

@@ -9,7 +9,8 @@ use lib.ListN.{length, getD, take, set, length-set}
 use mir.Syntax.{w8}
 use mir.Val.{SFits, toZ, ofZ}
 use mir.Facts.{toZ-ofZ}
-use Rattle.frame.specs.Frame.{low4, byteOf, packFrame, InNibble}
+use Rattle.frame.specs.Frame.{low4, byteOf, packFrame}
+use Rattle.frame.specs.inner.Nibbles.{InNibble}
 use Rattle.frame.proofs.LawsNibbles.{pack-more}
 use Rattle.frame.proofs.nibbles.pack_frame.Statement.{statement}
 use Rattle.frame.proofs.nibbles.pack_frame.Tie as tie

@@ -4,7 +4,7 @@ use Prim.Native.Nat.{ℕ}
 use native.Mathlib.Omega.{arith}
 use mir.Facts.{toZ-ofZ}
 use Rattle.frame.specs.Pass.{runPass}
-use Rattle.frame.specs.Lanes.{figures}
+use Rattle.frame.specs.inner.Lanes.{figures}
 use Rattle.frame.proofs.search.known_figures.Statement.{statement}
 use Rattle.frame.proofs.search.known_figures.Tie as tie
 

@@ -3,7 +3,7 @@ use borrow.Author.Needs.{needs}
 use mathlib.Core.Path.{_≡_, ap}
 use mir.Facts.{toZ-ofZ}
 use Rattle.frame.specs.declared.pass.Pass.{Pass}
-use Rattle.frame.specs.Lanes.{figures}
+use Rattle.frame.specs.inner.Lanes.{figures}
 use Rattle.frame.proofs.search.pass_figures.Statement.{statement}
 use Rattle.frame.proofs.search.pass_figures.Tie as tie
 

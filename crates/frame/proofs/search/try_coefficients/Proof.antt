@@ -14,10 +14,11 @@ use Rattle.frame.specs.declared.search.Candidate.{Candidate}
 use Rattle.frame.specs.Estimate.{firstExponent}
 use Rattle.frame.specs.Pass.{Bounded, runPass}
 use Rattle.frame.specs.Search.{raise, isLast, finished, searchWithin, tryCoefficients}
-use Rattle.frame.specs.Lanes.{candidateOf}
-use Rattle.frame.proofs.LawsArrays.{Fit, array-fits}
+use Rattle.frame.specs.inner.Lanes.{candidateOf}
+use Rattle.frame.proofs.LawsArrays.{array-fits}
+use Rattle.frame.specs.Fits.{Fit, FitHistory}
 use Rattle.frame.proofs.LawsEstimate.{first-le}
-use Rattle.frame.proofs.LawsPass.{FitHistory, overflow-le}
+use Rattle.frame.proofs.LawsPass.{overflow-le}
 use Rattle.frame.proofs.LawsSearch.{not-twelve, goes-on, search-more, search-last}
 use Rattle.frame.proofs.search.try_coefficients.Statement.{statement}
 use Rattle.frame.proofs.search.try_coefficients.Tie as tie
