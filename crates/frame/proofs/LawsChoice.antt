@@ -27,6 +27,7 @@ use Rattle.frame.proofs.LawsOrder.{none-below}
 use Rattle.frame.proofs.LawsPass.{pass-nibble}
 use Rattle.frame.proofs.LawsSearch.{Shape, try-shape, Found, try-found}
 
+-- a candidate with its index and the passes made
 abbrev pub best : Coded → ℕ → ℕ → Best
 best c i n = record { candidate = c; index = i; passes = n }
 
@@ -45,6 +46,7 @@ module _ (h : History) (xs : List ℤ) (cs : List ℤ) where
       let s = candidate-shape i in
       subst (λ (ns : List ℤ). InNibble (getD ns j (pos 0))) (sym (ap (λ (c : Coded). c .nibbles) (s .is))) (pass-nibble (c0At cs i) (c1At cs i) h xs (s .at) j l)
 
+  -- the distance of candidate i
   abbrev distanceAt : ℕ → ℕ
   distanceAt i = candidateAt h xs cs i .distance
 
@@ -70,7 +72,8 @@ module _ (h : History) (xs : List ℤ) (cs : List ℤ) where
       last : (k < j) → suc k ≡ j
       last m = omega arith
 
-      go : (t : Bool) → ltb (distanceAt (suc k)) (distanceAt (winner h xs cs k)) ≡ t → Dec (j ≤ k) → (j ≤ k → distanceAt (winner h xs cs k) ≤ distanceAt j) → ((i : ℕ) → i ≤ k → distanceAt (winner h xs cs k) ≤ distanceAt i) → distanceAt (cond t (suc k) (winner h xs cs k)) ≤ distanceAt j
+      go : (t : Bool) → ltb (distanceAt (suc k)) (distanceAt (winner h xs cs k)) ≡ t → Dec (j ≤ k) → (j ≤ k → distanceAt (winner h xs cs k) ≤ distanceAt j)
+          → ((i : ℕ) → i ≤ k → distanceAt (winner h xs cs k) ≤ distanceAt i) → distanceAt (cond t (suc k) (winner h xs cs k)) ≤ distanceAt j
       go true e (yes m) r s = let a = ltb-true (distanceAt (suc k)) (distanceAt (winner h xs cs k)) e in let b = r m in omega arith
       go true e (no m) r s = subst (λ (i : ℕ). distanceAt (suc k) ≤ distanceAt i) (last (lt-of-not-le m)) (le-refl (distanceAt (suc k)))
       go false e (yes m) r s = r m
@@ -82,7 +85,8 @@ module _ (h : History) (xs : List ℤ) (cs : List ℤ) where
   winner-first zero j l = absurd (none-below j l)
   winner-first (suc k) j l = go (ltb (distanceAt (suc k)) (distanceAt (winner h xs cs k))) refl l (winner-first k j)
     where
-      go : (t : Bool) → ltb (distanceAt (suc k)) (distanceAt (winner h xs cs k)) ≡ t → j < cond t (suc k) (winner h xs cs k) → (j < winner h xs cs k → distanceAt (winner h xs cs k) < distanceAt j) → distanceAt (cond t (suc k) (winner h xs cs k)) < distanceAt j
+      go : (t : Bool) → ltb (distanceAt (suc k)) (distanceAt (winner h xs cs k)) ≡ t → j < cond t (suc k) (winner h xs cs k)
+          → (j < winner h xs cs k → distanceAt (winner h xs cs k) < distanceAt j) → distanceAt (cond t (suc k) (winner h xs cs k)) < distanceAt j
       go true e m r = let a = ltb-true (distanceAt (suc k)) (distanceAt (winner h xs cs k)) e in let b = winner-least k j (omega arith) in omega arith
       go false e m r = r m
 
@@ -140,7 +144,8 @@ module _ (h : History) (xs : List ℤ) (cs : List ℤ) where
     best-left m = left (i - 1) b c j n e (f ∙ ap (candidateAt h xs cs) here) m ∙ ap (choose h xs cs) there
 
   -- the same of trials
-  module _ (i : ℕ) (t b : Candidate) (j n : ℕ) (l : 1 ≤ i) (f : t ≡ candidateOf (candidateAt h xs cs i)) (g : b ≡ candidateOf (candidateAt h xs cs j)) (e : best (candidateAt h xs cs j) j n ≡ choose h xs cs (i - 1)) where
+  module _ (i : ℕ) (t b : Candidate) (j n : ℕ) (l : 1 ≤ i) (f : t ≡ candidateOf (candidateAt h xs cs i)) (g : b ≡ candidateOf (candidateAt h xs cs j))
+      (e : best (candidateAt h xs cs j) j n ≡ choose h xs cs (i - 1)) where
     far : t .distance ≡ distanceAt i
     far = ap (λ (w : Candidate). w .distance) f
 

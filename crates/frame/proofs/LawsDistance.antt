@@ -142,7 +142,8 @@ floor-near a x n w h =
     let f = floored z 2048 in
     let law = floor-law z 2048 (omega arith) in
     let here : Diff z (over a + over n * (2048 * w) + 1024) (under a + under n * (2048 * w) + 0) = diff-add (diff-add (diff-of a) (diff-times (diff-of n) (2048 * w))) (diff-pos 1024) in
-    let there : Diff z (over f * 2048 + left z 2048) (under f * 2048 + 0) = subst (λ (v : ℤ). Diff v (over f * 2048 + left z 2048) (under f * 2048 + 0)) (sym (law .0)) (diff-add (diff-times (diff-of f) 2048) (diff-pos (left z 2048))) in
+    let there : Diff z (over f * 2048 + left z 2048) (under f * 2048 + 0) =
+    subst (λ (v : ℤ). Diff v (over f * 2048 + left z 2048) (under f * 2048 + 0)) (sym (law .0)) (diff-add (diff-times (diff-of f) 2048) (diff-pos (left z 2048))) in
     let x-times : Diff (pos 2048 *ℤ x) (over x * 2048) (under x * 2048) = subst (λ (v : ℤ). Diff v (over x * 2048) (under x * 2048)) (*ℤ-comm x (pos 2048)) (diff-times (diff-of x) 2048) in
     let e = diff-same here there in
     let d = diff-same (diff-of (pos 2048 *ℤ x -ℤ a)) (diff-sub x-times (diff-of a)) in

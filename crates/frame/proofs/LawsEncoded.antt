@@ -19,7 +19,7 @@ use Rattle.frame.specs.Quantise.{scale}
 use Rattle.frame.specs.Pass.{Bounded, reconstruct, codeSample, upto, runPass}
 use Rattle.frame.specs.Search.{finished, tryCoefficients}
 use Rattle.frame.specs.Choice.{c0At, c1At, AllBounded, candidateAt, winner, passesOf}
-use Rattle.frame.specs.Frame.{header, low4, nibbleAt, packFrame, preceded, historyAfter, encodeFrame}
+use Rattle.frame.specs.Frame.{header, lowFour, nibbleAt, packFrame, preceded, historyAfter, encodeFrame}
 use Rattle.frame.specs.inner.Nibbles.{InNibble}
 use Rattle.frame.specs.Fits.{Fit, FitHistory}
 use Rattle.frame.proofs.LawsPass.{reconstruct-played, stepAt, overflow-upto, upto-sample, pass-lengths, pass-sample, pass-fits}
@@ -45,10 +45,11 @@ history-fits h xs (suc (suc m)) l f x = record { newest-fits = x .at (suc m) (om
 
 -- ---- for any input
 module _ (h : History) (xs : List ℤ) (cs : List ℤ) where
-  -- the pair that was chosen, and what its search found
+  -- the pair that was chosen
   unfoldable pub index : ℕ
   index = winner h xs cs 7
 
+  -- what its search found
   unfoldable pub chosen : Coded
   chosen = candidateAt h xs cs index
 
@@ -73,8 +74,7 @@ module _ (h : History) (xs : List ℤ) (cs : List ℤ) where
   unfolding encodeFrame finished
   frame-lengths =
       let c = winner h xs cs 7 in
-      let s = candidate-shape h xs cs c in
-      (
+      let s = candidate-shape h xs cs c in (
         pack-length (header c (candidateAt h xs cs c .exponent)) (candidateAt h xs cs c .nibbles) 7,
         ap (λ (d : Coded). length (d .samples)) (s .is) ∙ pass-lengths (c0At cs c) (c1At cs c) h xs (s .at) .1,
       )
@@ -92,7 +92,7 @@ module _ (h : History) (xs : List ℤ) (cs : List ℤ) where
   header-parts = let e = frame-header in let i = index-le in let p = exponent-le in (omega arith, omega arith)
 
   -- the bits at each place are the chosen candidate's nibble
-  pub frame-nibble : (i : ℕ) → i < 14 → nibbleAt (encodeFrame h xs cs .bytes) i ≡ low4 (getD (chosen .nibbles) i (pos 0))
+  pub frame-nibble : (i : ℕ) → i < 14 → nibbleAt (encodeFrame h xs cs .bytes) i ≡ lowFour (getD (chosen .nibbles) i (pos 0))
   frame-nibble i l = ap (λ (e : EncodedFrame). nibbleAt (e .bytes) i) frame-is ∙ nibble-at (chosen .nibbles) chosen-nibble (header index (chosen .exponent)) i l
 
   pub frame-signed : (i : ℕ) → i < 14 → signedNibble (nibbleAt (encodeFrame h xs cs .bytes) i) ≡ getD (chosen .nibbles) i (pos 0)
@@ -108,16 +108,19 @@ module _ (h : History) (xs : List ℤ) (cs : List ℤ) where
 
 -- ---- where the coefficients are bounded and history and samples are of 16 bits
 module _ (h : History) (xs : List ℤ) (cs : List ℤ) (b : AllBounded cs) (f : FitHistory h) (x : Fit 14 xs) where
-  -- the chosen pair, its exponent and its pass
+  -- the chosen pair's first coefficient
   abbrev c0 : ℤ
   c0 = c0At cs (index h xs cs)
 
+  -- its second
   abbrev c1 : ℤ
   c1 = c1At cs (index h xs cs)
 
+  -- its exponent
   abbrev p : ℕ
   p = chosen h xs cs .exponent
 
+  -- its pass at that exponent
   abbrev pass : Pass
   pass = runPass c0 c1 h xs p
 

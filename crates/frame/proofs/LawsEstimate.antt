@@ -54,9 +54,11 @@ module _ (c0 c1 d p b : ℤ) (xs : List ℤ) (i : ℕ) (E : ℤ) (h : i < 14) (i
   one : 14 - i ≡ suc (14 - (i + 1))
   one = omega arith
 
-  pub look-more : isLowest (difference c0 c1 p b (getD xs i (pos 0))) ≡ false → look c0 c1 xs (14 - (i + 1)) (i + 1) (largerMagnitude d (difference c0 c1 p b (getD xs i (pos 0)))) (getD xs i (pos 0)) p ≡ E
+  pub look-more : isLowest (difference c0 c1 p b (getD xs i (pos 0))) ≡ false
+      → look c0 c1 xs (14 - (i + 1)) (i + 1) (largerMagnitude d (difference c0 c1 p b (getD xs i (pos 0)))) (getD xs i (pos 0)) p ≡ E
   unfolding look
-  look-more e = ap (λ (j : ℕ). look c0 c1 xs (14 - (i + 1)) j (largerMagnitude d (difference c0 c1 p b (getD xs i (pos 0)))) (getD xs i (pos 0)) p) (add-one i) ∙ sym (ap (λ (k : ℕ). look c0 c1 xs k i d p b) one ∙ rw e) ∙ inv
+  look-more e = ap (λ (j : ℕ). look c0 c1 xs (14 - (i + 1)) j (largerMagnitude d (difference c0 c1 p b (getD xs i (pos 0)))) (getD xs i (pos 0)) p) (add-one i)
+      ∙ sym (ap (λ (k : ℕ). look c0 c1 xs k i d p b) one ∙ rw e) ∙ inv
 
   pub look-low : isLowest (difference c0 c1 p b (getD xs i (pos 0))) ≡ true → difference c0 c1 p b (getD xs i (pos 0)) ≡ E
   unfolding look

@@ -2,7 +2,8 @@
 use mathlib.Core.Path.{_≡_, refl, sym, ap, ap₂, _∙_, subst}
 use mathlib.Core.Bool.{Bool, true, false, cond, _&&_, _||_}
 use Prim.Native.Nat.{ℕ, zero, suc, _+_, _-_, _*_, _/_, _%_, _^_, _≤_, _<_, max, compare}
-use native.Mathlib.Nat.{le-refl, le-trans, mul-comm, mul-le-mul, mul-le-mul-right, lt-of-not-le, lt-of-mul-lt-mul-right, le-of-mul-le-mul-right, div-add-mod', mod-lt, div-div-eq-div-mul, div-le-self, mul-add-mod-self-right, mod-eq-of-lt}
+use native.Mathlib.Nat.{le-refl, le-trans, mul-comm, mul-le-mul, mul-le-mul-right, lt-of-not-le, lt-of-mul-lt-mul-right}
+use native.Mathlib.Nat.{le-of-mul-le-mul-right, div-add-mod', mod-lt, div-div-eq-div-mul, div-le-self, mul-add-mod-self-right, mod-eq-of-lt}
 use native.Mathlib.Decide.{decLe}
 use native.Mathlib.Omega.{arith}
 use lib.Dec.{T, ltb}
@@ -15,21 +16,20 @@ use mir.Syntax.{Width, w16, w32}
 use mir.Val.{SFits, ofZ, hbits}
 use Rattle.whole.specs.Whole.{floored}
 use Rattle.whole.proofs.Values.{Is, is-sized, sfits-abs, abs-add, abs-sub, abs-mul, abs-shr, not-below-zero}
-use Rattle.whole.proofs.Differences.{Diff, diff-of, diff-pos, diff-neg, diff-add, diff-sub, diff-times, diff-move, diff-same, diff-eq, diff-lt, diff-le, lt-diff, le-diff, diff-abs, abs-diff, over, under, left, floor-law}
+use Rattle.whole.proofs.Differences.{Diff, diff-of, diff-pos, diff-neg, diff-add, diff-sub, diff-times, diff-move, diff-same, diff-eq}
+use Rattle.whole.proofs.Differences.{diff-lt, diff-le, lt-diff, le-diff, diff-abs, abs-diff, over, under, left, floor-law}
 use Rattle.frame.specs.Quantise.{unit24, round24, scale, nearestDown, withSign, quantise, clamp4}
 use Rattle.frame.specs.Estimate.{weigh}
 use Rattle.frame.specs.Pass.{Bounded}
 use Rattle.frame.specs.inner.Lanes.{PowerOfTwo, finer, isBig, isNear, track, clampWithin}
 use Rattle.frame.proofs.LawsOrder.{none-below}
-use Rattle.frame.proofs.LawsQuantise.{unit-le, unit-pos as unit-above, round24-le, round-same, down-pos, down-neg, sign-twice, sign-size, clamp4-size, clamp4-low, clamp4-high, clamp4-mid, excess-low, excess-high, excess-none}
+use Rattle.frame.proofs.LawsQuantise.{unit-le, unit-pos as unit-above, round24-le, round-same, down-pos, down-neg, sign-twice}
+use Rattle.frame.proofs.LawsQuantise.{sign-size, clamp4-size, clamp4-low, clamp4-high, clamp4-mid, excess-low, excess-high, excess-none}
 
 -- ---- a unit
 
 pub unit-size : (u : ℤ) → PowerOfTwo u → natAbs u ≤ 4096
 unit-size u h = subst (λ (z : ℤ). natAbs z ≤ 4096) (sym (h .is)) (pow-mono (h .most))
-
-pub unit-at-least : (u : ℤ) → PowerOfTwo u → 1 ≤ natAbs u
-unit-at-least u h = subst (λ (z : ℤ). 1 ≤ natAbs z) (sym (h .is)) (pow-pos (h .p))
 
 pub unit-pos : (u : ℤ) → PowerOfTwo u → u ≡ pos (natAbs u)
 unit-pos u h = h .is ∙ ap (λ (z : ℤ). pos (natAbs z)) (sym (h .is))
@@ -97,25 +97,27 @@ mag-floor (negsuc n) s = refl
 
 -- ---- the nibble's part
 
--- (t less its lower bits) − 8 u is the clamped quotient times u, for t = v + 8 u held in 0 .. 16 u − 1
+-- (t less its lower bits) − 8 u is the clamped quotient times u, for t = v + 8 u clamped to 0 .. 16 u − 1
 module _ (v : ℤ) (s : ℕ) (p : 0 < s) where
+  -- v moved up by 8 u
   abbrev sum : ℤ
   sum = v +ℤ pos (8 * s)
 
-  abbrev hold : ℕ
-  hold = clampWithin sum (pos (16 * s - 1))
+  -- the same, clamped
+  abbrev clamped : ℕ
+  clamped = clampWithin sum (pos (16 * s - 1))
 
   times-neg : (k : ℕ) → Diff (negsuc k *ℤ pos s) 0 (suc k * s)
   times-neg k = diff-move (diff-times (diff-of (negsuc k)) s) (omega arith)
 
-  part-low : ltZ sum (pos 0) ≡ true → pos (hold - hold % s) -ℤ pos (8 * s) ≡ clamp4 (shrZ v s) *ℤ pos s
+  part-low : ltZ sum (pos 0) ≡ true → pos (clamped - clamped % s) -ℤ pos (8 * s) ≡ clamp4 (shrZ v s) *ℤ pos s
   unfolding clampWithin
   part-low e =
       let l = diff-lt (diff-add (diff-of v) (diff-pos (8 * s))) (diff-pos 0) e in
       let c : clamp4 (shrZ v s) ≡ negsuc 7 = clamp4-low (shrZ v s) (floor-low v s p (omega arith)) in
       rw (e, c) (diff-eq (diff-sub (diff-pos (0 - 0 % s)) (diff-pos (8 * s))) (times-neg 7) (omega arith))
 
-  part-high : ltZ sum (pos 0) ≡ false → ltZ (pos (16 * s - 1)) sum ≡ true → pos (hold - hold % s) -ℤ pos (8 * s) ≡ clamp4 (shrZ v s) *ℤ pos s
+  part-high : ltZ sum (pos 0) ≡ false → ltZ (pos (16 * s - 1)) sum ≡ true → pos (clamped - clamped % s) -ℤ pos (8 * s) ≡ clamp4 (shrZ v s) *ℤ pos s
   unfolding clampWithin
   part-high e f =
       let l = diff-lt (diff-pos (16 * s - 1)) (diff-add (diff-of v) (diff-pos (8 * s))) f in
@@ -125,7 +127,7 @@ module _ (v : ℤ) (s : ℕ) (p : 0 < s) where
       let r : (16 * s - 1) % s ≡ s - 1 = ap (λ (n : ℕ). n % s) m ∙ mul-add-mod-self-right 15 s (s - 1) ∙ mod-eq-of-lt (omega arith) in
       rw (e, f, c) (diff-eq (diff-sub (diff-pos ((16 * s - 1) - (16 * s - 1) % s)) (diff-pos (8 * s))) (diff-pos (7 * s)) (omega (arith, r)))
 
-  part-mid : ltZ sum (pos 0) ≡ false → ltZ (pos (16 * s - 1)) sum ≡ false → pos (hold - hold % s) -ℤ pos (8 * s) ≡ clamp4 (shrZ v s) *ℤ pos s
+  part-mid : ltZ sum (pos 0) ≡ false → ltZ (pos (16 * s - 1)) sum ≡ false → pos (clamped - clamped % s) -ℤ pos (8 * s) ≡ clamp4 (shrZ v s) *ℤ pos s
   unfolding clampWithin
   part-mid e f =
       let t = natAbs sum in
@@ -144,10 +146,10 @@ module _ (v : ℤ) (s : ℕ) (p : 0 < s) where
       let c : clamp4 (shrZ v s) ≡ n = clamp4-mid (shrZ v s) (rw u (le-diff nd (diff-of (negsuc 7)) (omega arith))) (rw u (le-diff (diff-pos 7) nd (omega arith))) ∙ u in
       rw (e, f, c) (diff-eq (diff-sub (diff-pos (t - t % s)) (diff-pos (8 * s))) ns (omega arith))
 
-  pub part-is : pos (hold - hold % s) -ℤ pos (8 * s) ≡ clamp4 (shrZ v s) *ℤ pos s
+  pub part-is : pos (clamped - clamped % s) -ℤ pos (8 * s) ≡ clamp4 (shrZ v s) *ℤ pos s
   part-is = go (ltZ sum (pos 0)) (ltZ (pos (16 * s - 1)) sum) refl refl
     where
-      go : (a b : Bool) → ltZ sum (pos 0) ≡ a → ltZ (pos (16 * s - 1)) sum ≡ b → pos (hold - hold % s) -ℤ pos (8 * s) ≡ clamp4 (shrZ v s) *ℤ pos s
+      go : (a b : Bool) → ltZ sum (pos 0) ≡ a → ltZ (pos (16 * s - 1)) sum ≡ b → pos (clamped - clamped % s) -ℤ pos (8 * s) ≡ clamp4 (shrZ v s) *ℤ pos s
       go true b e f = part-low e
       go false true e f = part-high e f
       go false false e f = part-mid e f
@@ -283,7 +285,8 @@ raw-close : (d : ℤ) (s m : ℕ) → 256 < natAbs d → natAbs d ≤ m + 256 �
 raw-close (pos k) s m p g h =
     let a : ltZ (pos 0) (pos k) ≡ true = lt-ltb 0 k (omega arith) in
     let b : ltZ (pos 0) (pos m) ≡ true = lt-ltb 0 m (omega arith) in
-    rw (a, b) (abs-diff (diff-sub (diff-sub (diff-add (diff-pos m) (diff-pos (1024 * s))) (diff-pos 1)) (diff-sub (diff-add (diff-pos k) (diff-pos (1024 * s))) (diff-pos 1))) 256 (omega arith) (omega arith))
+    rw (a, b) (abs-diff (diff-sub (diff-sub (diff-add (diff-pos m) (diff-pos (1024 * s))) (diff-pos 1)) (diff-sub (diff-add (diff-pos k) (diff-pos (1024 * s))) (diff-pos 1))) 256
+    (omega arith) (omega arith))
 raw-close (negsuc k) s m p g h =
     let b : ltZ (pos 0) (negℤ (pos m)) ≡ false = le-diff (diff-pos 0) (diff-neg (diff-pos m)) (omega arith) in
     rw b (abs-diff (diff-sub (diff-add (diff-neg (diff-pos m)) (diff-pos (1024 * s))) (diff-add (diff-of (negsuc k)) (diff-pos (1024 * s)))) 256 (omega arith) (omega arith))
@@ -304,7 +307,8 @@ module _ (d : ℤ) (p : ℕ) (h : p ≤ 12) (l : natAbs d ≤ 2080374784) where
       let m = round24 (natAbs d) in
       let s = 2 ^ p in
       let r = withSign d m in
-      let c : natAbs (finer r (pos s) -ℤ finer d (pos s)) ≤ 1 = rw (finer-raw r s, finer-raw d s) (shr-close (raw r s) (raw d s) (raw-close d s m b (round24-ge (natAbs d) (omega arith)) (round24-le (natAbs d) (omega arith)))) in
+      let c : natAbs (finer r (pos s) -ℤ finer d (pos s)) ≤ 1 =
+      rw (finer-raw r s, finer-raw d s) (shr-close (raw r s) (raw d s) (raw-close d s m b (round24-ge (natAbs d) (omega arith)) (round24-le (natAbs d) (omega arith)))) in
       sym (sign-twice d m (2048 * s) (omega (arith, pow-pos p)))
       ∙ ap (λ (n : ℕ). withSign r (nearestDown n (2048 * s))) (sym (sign-size d m))
       ∙ sym (finer-down r s (pow-pos p))
@@ -368,9 +372,9 @@ weigh-le c0 c1 s0 s1 l f g =
 pub lifted : (v : ℤ) → natAbs v ≤ 2097152 → v +ℤ pos 2097153 ≡ pos (natAbs (v +ℤ pos 2097153))
 lifted v l = let b = diff-abs (diff-of v) in not-below-zero (v +ℤ pos 2097153) (le-diff (diff-add (diff-of v) (diff-pos 2097153)) (diff-pos 0) (omega arith))
 
-pub held-le : (x : ℤ) (m : ℕ) → clampWithin x (pos m) ≤ m
+pub clamp-within-le : (x : ℤ) (m : ℕ) → clampWithin x (pos m) ≤ m
 unfolding clampWithin
-held-le x m = go (ltZ x (pos 0)) (ltZ (pos m) x) refl refl
+clamp-within-le x m = go (ltZ x (pos 0)) (ltZ (pos m) x) refl refl
   where
     go : (a b : Bool) → ltZ x (pos 0) ≡ a → ltZ (pos m) x ≡ b → cond a 0 (cond b m (natAbs x)) ≤ m
     go true b e f = omega arith
@@ -390,7 +394,8 @@ pub part-of : (v u : ℤ) (h : PowerOfTwo u) (t l : ℕ) → t ≡ clampWithin (
 part-of v u h t l e f =
     let s = 2 ^ (h .p) in
     let g : t ≡ clampWithin (v +ℤ pos (8 * s)) (pos (16 * s - 1)) = e ∙ ap₂ clampWithin (ap (λ (z : ℤ). v +ℤ pos 8 *ℤ z) (h .is)) (most-is u h) in
-    let r : pos (t - l) -ℤ pos (8 * s) ≡ clamp4 (floored v s) *ℤ pos s = ap (λ (n : ℕ). pos (t - n) -ℤ pos (8 * s)) f ∙ ap (λ (n : ℕ). pos (n - n % s) -ℤ pos (8 * s)) g ∙ part-is v s (pow-pos (h .p)) in
+    let r : pos (t - l) -ℤ pos (8 * s) ≡ clamp4 (floored v s) *ℤ pos s = ap (λ (n : ℕ). pos (t - n) -ℤ pos (8 * s)) f ∙ ap (λ (n : ℕ). pos (n - n % s) -ℤ pos (8 * s)) g
+    ∙ part-is v s (pow-pos (h .p)) in
     ap (λ (z : ℤ). pos (t - l) -ℤ pos 8 *ℤ z) (h .is) ∙ r ∙ ap (λ (z : ℤ). clamp4 (floored v (natAbs z)) *ℤ z) (sym (h .is))
 
 -- the nibble's part is small

@@ -53,10 +53,12 @@ module _ (c0 c1 us : List ℤ) (x : ℤ) (was now : ℕ → Lane) where
     pub done : (j : ℕ) → j < k → now j ≡ stepLane (getD c0 j (pos 0)) (getD c1 j (pos 0)) (getD us j (pos 0)) (was j) x
     pub kept : (j : ℕ) → k ≤ j → now j ≡ was j
 
+-- a lane by its fields
 abbrev pub lane : ℤ → ℤ → ℤ → ℕ → ℕ → Lane
 lane a b t h l = record { s0 = a; s1 = b; top = t; high = h; low = l }
 
 module _ (s0 s1 top : List ℤ) (high low : List ℕ) (k : ℕ) (a b t : ℤ) (h l : ℕ) where
+  -- lane j after lane k was stored
   abbrev after : ℕ → Lane
   after j = laneOf (set s0 k a) (set s1 k b) (set top k t) (set high k h) (set low k l) j
 
@@ -148,9 +150,11 @@ module _ (c0 c1 : ℤ) (p : ℕ) (b : Bounded c0 c1) (l : p ≤ 12) where
     pub top-is : t .top ≡ pos most
     pub told : most < 1073741824 → (t .s0 ≡ r .s0) × (t .s1 ≡ r .s1) × (r .overflow ≡ most / 2 ^ p - 7) × (r .distance ≡ t .high * 65536 + t .low)
 
+  -- the rounding to 24 bits might show at this sample
   abbrev unsure : ℤ → ℤ → ℤ → Bool
   unsure s0 s1 x = isBig (residual c0 c1 s0 s1 x) && isNear (finer (residual c0 c1 s0 s1 x) (pos (2 ^ p))) (pos (2 ^ p))
 
+  -- what the lane tracks of this sample
   abbrev mark : ℤ → ℤ → ℤ → ℕ
   mark s0 s1 x = cond (unsure s0 s1 x) 1073741824 (mag (finer (residual c0 c1 s0 s1 x) (pos (2 ^ p))))
 
@@ -165,7 +169,8 @@ module _ (c0 c1 : ℤ) (p : ℕ) (b : Bounded c0 c1) (l : p ≤ 12) where
   sure-of : (s0 s1 x : ℤ) → mark s0 s1 x < 1073741824 → (unsure s0 s1 x ≡ false) × (mark s0 s1 x ≡ mag (finer (residual c0 c1 s0 s1 x) (pos (2 ^ p))))
   sure-of s0 s1 x h = go (unsure s0 s1 x) refl h
     where
-      go : (t : Bool) → unsure s0 s1 x ≡ t → cond t 1073741824 (mag (finer (residual c0 c1 s0 s1 x) (pos (2 ^ p)))) < 1073741824 → (unsure s0 s1 x ≡ false) × (cond (unsure s0 s1 x) 1073741824 (mag (finer (residual c0 c1 s0 s1 x) (pos (2 ^ p)))) ≡ mag (finer (residual c0 c1 s0 s1 x) (pos (2 ^ p))))
+      go : (t : Bool) → unsure s0 s1 x ≡ t → cond t 1073741824 (mag (finer (residual c0 c1 s0 s1 x) (pos (2 ^ p)))) < 1073741824 → (unsure s0 s1 x ≡ false)
+          × (cond (unsure s0 s1 x) 1073741824 (mag (finer (residual c0 c1 s0 s1 x) (pos (2 ^ p)))) ≡ mag (finer (residual c0 c1 s0 s1 x) (pos (2 ^ p))))
       go true e h = absurd (never h)
         where
           never : 1073741824 < 1073741824 → ⊥
@@ -182,7 +187,8 @@ module _ (c0 c1 : ℤ) (p : ℕ) (b : Bounded c0 c1) (l : p ≤ 12) where
 
     overflow-same : codeSample c0 c1 s0 s1 x p .overflow ≡ mag (finer (residual c0 c1 s0 s1 x) (pos (2 ^ p))) / 2 ^ p - 7
     unfolding codeSample
-    overflow-same = ap (λ (z : ℤ). natAbs (z -ℤ clamp4 z)) whole ∙ excess-is (shrZ (finer (residual c0 c1 s0 s1 x) (pos (2 ^ p))) (2 ^ p)) ∙ ap (λ (n : ℕ). n - 7) (mag-floor (finer (residual c0 c1 s0 s1 x) (pos (2 ^ p))) (2 ^ p))
+    overflow-same = ap (λ (z : ℤ). natAbs (z -ℤ clamp4 z)) whole ∙ excess-is (shrZ (finer (residual c0 c1 s0 s1 x) (pos (2 ^ p))) (2 ^ p))
+        ∙ ap (λ (n : ℕ). n - 7) (mag-floor (finer (residual c0 c1 s0 s1 x) (pos (2 ^ p))) (2 ^ p))
 
   sees-more : (t : Lane) (r : Carried) (x : ℤ) → SFits w16 (r .s0) → SFits w16 (r .s1) → SFits w16 x → Sees t r → Sees (stepLane c0 c1 (pos (2 ^ p)) t x) (next c0 c1 p r x)
   unfolding stepLane next
@@ -197,7 +203,8 @@ module _ (c0 c1 : ℤ) (p : ℕ) (b : Bounded c0 c1) (l : p ≤ 12) where
 
       go : (t .s0 ≡ r .s0) × (t .s1 ≡ r .s1) × (r .overflow ≡ s .most / 2 ^ p - 7) × (r .distance ≡ t .high * 65536 + t .low)
           → (unsure (t .s0) (t .s1) x ≡ false) × (mark (t .s0) (t .s1) x ≡ mag (finer (residual c0 c1 (t .s0) (t .s1) x) (pos (2 ^ p))))
-          → (clamp16 (floored (weigh c0 c1 (t .s0) (t .s1) +ℤ pos 1024) 2048 +ℤ clamp4 (floored (finer (residual c0 c1 (t .s0) (t .s1) x) (pos (2 ^ p))) (2 ^ p)) *ℤ pos (2 ^ p)) ≡ codeSample c0 c1 (r .s0) (r .s1) x p .sample)
+          → (clamp16 (floored (weigh c0 c1 (t .s0) (t .s1) +ℤ pos 1024) 2048 +ℤ clamp4 (floored (finer (residual c0 c1 (t .s0) (t .s1) x) (pos (2 ^ p))) (2 ^ p)) *ℤ pos (2 ^ p))
+          ≡ codeSample c0 c1 (r .s0) (r .s1) x p .sample)
           × (t .s0 ≡ r .s0)
           × (max (r .overflow) (codeSample c0 c1 (r .s0) (r .s1) x p .overflow) ≡ max (s .most) (mark (t .s0) (t .s1) x) / 2 ^ p - 7)
           × (r .distance + squaredDifference x (codeSample c0 c1 (r .s0) (r .s1) x p .sample) ≡ (t .high + squaredDifference x made / 65536) * 65536 + (t .low + squaredDifference x made % 65536))
@@ -205,7 +212,8 @@ module _ (c0 c1 : ℤ) (p : ℕ) (b : Bounded c0 c1) (l : p ≤ 12) where
           let fs : SFits w16 (t .s0) = subst (λ (z : ℤ). SFits w16 z) (sym e0) f in
           let gs : SFits w16 (t .s1) = subst (λ (z : ℤ). SFits w16 z) (sym e1) g in
           let same : made ≡ codeSample c0 c1 (r .s0) (r .s1) x p .sample = sample-same (t .s0) (t .s1) x fs gs h ns ∙ ap₂ (λ (y z : ℤ). codeSample c0 c1 y z x p .sample) e0 e1 in
-          let over : codeSample c0 c1 (r .s0) (r .s1) x p .overflow ≡ mark (t .s0) (t .s1) x / 2 ^ p - 7 = ap₂ (λ (y z : ℤ). codeSample c0 c1 y z x p .overflow) (sym e0) (sym e1) ∙ overflow-same (t .s0) (t .s1) x fs gs h ns ∙ ap (λ (n : ℕ). n / 2 ^ p - 7) (sym mk) in
+          let over : codeSample c0 c1 (r .s0) (r .s1) x p .overflow ≡ mark (t .s0) (t .s1) x / 2 ^ p - 7 = ap₂ (λ (y z : ℤ). codeSample c0 c1 y z x p .overflow) (sym e0) (sym e1)
+          ∙ overflow-same (t .s0) (t .s1) x fs gs h ns ∙ ap (λ (n : ℕ). n / 2 ^ p - 7) (sym mk) in
           let sq : squaredDifference x made ≡ squaredDifference x (codeSample c0 c1 (r .s0) (r .s1) x p .sample) = ap (squaredDifference x) same in (
             same,
             e0,
@@ -221,7 +229,8 @@ module _ (c0 c1 : ℤ) (p : ℕ) (b : Bounded c0 c1) (l : p ≤ 12) where
       sees-more (laneFrom c0 c1 (pos (2 ^ p)) (laneStart h) xs i) (upto c0 c1 h xs p i) (getD xs i (pos 0)) (u .0) (u .1) (x .at i (omega arith)) (sees-from h xs f x i (omega arith))
 
   -- what the lane tells of the pass, where it is sure
-  pub figures-is : (h : History) (xs : List ℤ) → FitHistory h → Fit 14 xs → (t : Lane) → t ≡ laneFrom c0 c1 (pos (2 ^ p)) (laneStart h) xs 14 → figuresAt t p .sure ≡ true → figuresAt t p ≡ figures (runPass c0 c1 h xs p)
+  pub figures-is : (h : History) (xs : List ℤ) → FitHistory h → Fit 14 xs → (t : Lane) → t ≡ laneFrom c0 c1 (pos (2 ^ p)) (laneStart h) xs 14 → figuresAt t p .sure ≡ true
+      → figuresAt t p ≡ figures (runPass c0 c1 h xs p)
   unfolding figuresAt runPass
   figures-is h xs f x t e k =
       let s : Sees t (upto c0 c1 h xs p 14) = subst (λ (w : Lane). Sees w (upto c0 c1 h xs p 14)) (sym e) (sees-from h xs f x 14 (omega arith)) in
@@ -237,7 +246,8 @@ module _ (c0 c1 : ℤ) (p : ℕ) (b : Bounded c0 c1) (l : p ≤ 12) where
   pub shown-is : (h : History) (xs : List ℤ) → FitHistory h → Fit 14 xs → (t : Lane) → t ≡ laneFrom c0 c1 (pos (2 ^ p)) (laneStart h) xs 14 → Shown t
   shown-is h xs f x t e =
       let s = sees-from h xs f x 14 (omega arith) in
-      let r = room-is 14 _ (omega arith) (room-from c0 c1 (pos (2 ^ p)) (laneStart h) xs 14 (omega arith) x (record { s0-le = abs-sfits (f .newest-fits); s1-le = abs-sfits (f .older-fits); high-none = refl; low-none = refl })) in
+      let r = room-is 14 _ (omega arith) (room-from c0 c1 (pos (2 ^ p)) (laneStart h) xs 14 (omega arith) x
+      (record { s0-le = abs-sfits (f .newest-fits); s1-le = abs-sfits (f .older-fits); high-none = refl; low-none = refl })) in
       subst Shown (sym e) (record { most = s .most; top-is = s .top-is; high-le = r .high-le; low-le = r .low-le })
 
 -- ---- the loops' steps

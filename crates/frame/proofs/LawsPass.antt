@@ -77,9 +77,13 @@ shift-apart a n w =
     let ly = floor-law y 2048 (omega arith) in
     let lz = floor-law z 2048 (omega arith) in
     let y1 : Diff y (over a + over n * (2048 * w) + 1024) (under a + under n * (2048 * w) + 0) = diff-add (diff-add (diff-of a) (diff-times (diff-of n) (2048 * w))) (diff-pos 1024) in
-    let y2 : Diff y (over (floored y 2048) * 2048 + left y 2048) (under (floored y 2048) * 2048 + 0) = subst (λ (v : ℤ). Diff v (over (floored y 2048) * 2048 + left y 2048) (under (floored y 2048) * 2048 + 0)) (sym (ly .0)) (diff-add (diff-times (diff-of (floored y 2048)) 2048) (diff-pos (left y 2048))) in
+    let y2 : Diff y (over (floored y 2048) * 2048 + left y 2048) (under (floored y 2048) * 2048 + 0) =
+    subst (λ (v : ℤ). Diff v (over (floored y 2048) * 2048 + left y 2048) (under (floored y 2048) * 2048 + 0)) (sym (ly .0))
+    (diff-add (diff-times (diff-of (floored y 2048)) 2048) (diff-pos (left y 2048))) in
     let z1 : Diff z (over a + 1024) (under a + 0) = diff-add (diff-of a) (diff-pos 1024) in
-    let z2 : Diff z (over (floored z 2048) * 2048 + left z 2048) (under (floored z 2048) * 2048 + 0) = subst (λ (v : ℤ). Diff v (over (floored z 2048) * 2048 + left z 2048) (under (floored z 2048) * 2048 + 0)) (sym (lz .0)) (diff-add (diff-times (diff-of (floored z 2048)) 2048) (diff-pos (left z 2048))) in
+    let z2 : Diff z (over (floored z 2048) * 2048 + left z 2048) (under (floored z 2048) * 2048 + 0) =
+    subst (λ (v : ℤ). Diff v (over (floored z 2048) * 2048 + left z 2048) (under (floored z 2048) * 2048 + 0)) (sym (lz .0))
+    (diff-add (diff-times (diff-of (floored z 2048)) 2048) (diff-pos (left z 2048))) in
     let ey = diff-same y1 y2 in
     let ez = diff-same z1 z2 in
     let ry = ly .1 in
@@ -93,16 +97,20 @@ reconstruct-played c0 c1 s0 s1 n p = ap clamp16 (shift-apart (weigh c0 c1 s0 s1)
 
 -- ---- the loop's step
 
+-- what is carried, by its fields
 abbrev pub carried : ℤ → ℤ → List ℤ → List ℤ → ℕ → ℕ → Carried
 carried a b ns ss o d = record { s0 = a; s1 = b; nibbles = ns; samples = ss; overflow = o; distance = d }
 
-pub carried-more : (c0 c1 : ℤ) (h : History) (xs : List ℤ) (p i : ℕ) (a b : ℤ) (ns ss : List ℤ) (o d : ℕ) (t : Step) → i < length ns → i < length ss → upto c0 c1 h xs p i ≡ carried a b (take i ns) (take i ss) o d → t ≡ codeSample c0 c1 a b (getD xs i (pos 0)) p
-    → upto c0 c1 h xs p (i + 1) ≡ carried (t .sample) a (take (i + 1) (set ns i (t .nibble))) (take (i + 1) (set ss i (t .sample))) (max o (t .overflow)) (d + squaredDifference (getD xs i (pos 0)) (t .sample))
+pub carried-more : (c0 c1 : ℤ) (h : History) (xs : List ℤ) (p i : ℕ) (a b : ℤ) (ns ss : List ℤ) (o d : ℕ) (t : Step) → i < length ns → i < length ss
+    → upto c0 c1 h xs p i ≡ carried a b (take i ns) (take i ss) o d → t ≡ codeSample c0 c1 a b (getD xs i (pos 0)) p
+    → upto c0 c1 h xs p (i + 1) ≡ carried (t .sample) a (take (i + 1) (set ns i (t .nibble))) (take (i + 1) (set ss i (t .sample))) (max o (t .overflow))
+    (d + squaredDifference (getD xs i (pos 0)) (t .sample))
 unfolding upto next
 carried-more c0 c1 h xs p i a b ns ss o d t hn hs e s =
     rw (add-one, take-suc-set ns i, take-suc-set ss i) (ap (λ (u : Carried). next c0 c1 p u (getD xs i (pos 0))) e ∙ rw (← s))
 
-pub carried-done : (c0 c1 : ℤ) (h : History) (xs : List ℤ) (p i : ℕ) (a b : ℤ) (ns ss : List ℤ) (o d : ℕ) → i ≡ 14 → length ns ≡ 14 → length ss ≡ 14 → upto c0 c1 h xs p i ≡ carried a b (take i ns) (take i ss) o d
+pub carried-done : (c0 c1 : ℤ) (h : History) (xs : List ℤ) (p i : ℕ) (a b : ℤ) (ns ss : List ℤ) (o d : ℕ) → i ≡ 14 → length ns ≡ 14 → length ss ≡ 14
+    → upto c0 c1 h xs p i ≡ carried a b (take i ns) (take i ss) o d
     → _≡_ {A = Pass} (record { nibbles = ns; samples = ss; overflow = o; distance = d }) (runPass c0 c1 h xs p)
 unfolding runPass
 carried-done c0 c1 h xs p i a b ns ss o d e ln ls inv =
@@ -214,7 +222,9 @@ module _ (c0 c1 : ℤ) (h : History) (xs : List ℤ) (p : ℕ) where
   pass-nibble i l = subst InNibble (sym (upto-nibble c0 c1 h xs p 14 i l)) (clamp4-nibble _)
 
   -- what is reconstructed at each place, from the nibble there and the two samples before it
-  pub pass-sample : (i : ℕ) → i < 14 → getD (runPass c0 c1 h xs p .samples) i (pos 0) ≡ reconstruct c0 c1 (getD (preceded h (runPass c0 c1 h xs p .samples)) (suc i) (pos 0)) (getD (preceded h (runPass c0 c1 h xs p .samples)) i (pos 0)) (getD (runPass c0 c1 h xs p .nibbles) i (pos 0)) p
+  pub pass-sample : (i : ℕ) → i < 14 → getD (runPass c0 c1 h xs p .samples) i (pos 0)
+      ≡ reconstruct c0 c1 (getD (preceded h (runPass c0 c1 h xs p .samples)) (suc i) (pos 0)) (getD (preceded h (runPass c0 c1 h xs p .samples)) i (pos 0))
+      (getD (runPass c0 c1 h xs p .nibbles) i (pos 0)) p
   unfolding runPass codeSample
   pass-sample i l =
       rw (upto-newest c0 c1 h xs p 14 i (omega arith), upto-older c0 c1 h xs p 14 i (omega arith), upto-nibble c0 c1 h xs p 14 i l)

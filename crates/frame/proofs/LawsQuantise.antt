@@ -2,7 +2,8 @@
 use mathlib.Core.Path.{_≡_, refl, sym, ap, ap₂, _∙_, subst}
 use mathlib.Core.Bool.{Bool, true, false, not, cond}
 use Prim.Native.Nat.{ℕ, zero, suc, _+_, _-_, _*_, _/_, _%_, _^_, _≤_, _<_, compare, Ordering, Ordering·lt, Ordering·eq, Ordering·gt}
-use native.Mathlib.Nat.{le-trans, le-refl, lt-of-le-of-lt, lt-of-lt-of-le, suc-mul, mul-le-mul-right, div-mul-le-self, div-le-self, pow-suc, mul-comm, one-mul, mod-eq-of-lt, mod-lt, mod-one, div-one, mul-one, div-add-mod', div-eq-of-lt-le, div-eq-of-lt, add-div-right, zero-mod, zero-div, lt-of-not-le, le-of-eq}
+use native.Mathlib.Nat.{le-trans, le-refl, lt-of-le-of-lt, lt-of-lt-of-le, suc-mul, mul-le-mul-right, div-mul-le-self, div-le-self, pow-suc, mul-comm, one-mul, mod-eq-of-lt}
+use native.Mathlib.Nat.{mod-lt, mod-one, div-one, mul-one, div-add-mod', div-eq-of-lt-le, div-eq-of-lt, add-div-right, zero-mod, zero-div, lt-of-not-le, le-of-eq}
 use native.Mathlib.Decide.{decLe}
 use native.Mathlib.Omega.{arith}
 use lib.Dec.{T, isLe, isEq, eqb, leb→le, nleb→lt, eqb→eq, eqb-refl, ltb, lit<}
@@ -308,7 +309,8 @@ pub excess-low : (z : ℤ) → ltZ z (negsuc 7) ≡ true → negsuc 7 -ℤ z ≡
 excess-low z e =
     let l = diff-lt (diff-of z) (diff-neg (diff-pos 8)) e in
     let d = diff-sub (diff-of z) (diff-neg (diff-pos 8)) in
-    rw (clamp4-low z e) (diff-eq (diff-sub (diff-neg (diff-pos 8)) (diff-of z)) (diff-pos (natAbs (z -ℤ negsuc 7))) (omega (arith, diff-abs d, abs-diff d (under z - (over z + 8)) (omega arith) (omega arith))))
+    rw (clamp4-low z e) (diff-eq (diff-sub (diff-neg (diff-pos 8)) (diff-of z)) (diff-pos (natAbs (z -ℤ negsuc 7)))
+    (omega (arith, diff-abs d, abs-diff d (under z - (over z + 8)) (omega arith) (omega arith))))
 
 pub excess-high : (z : ℤ) → ltZ z (negsuc 7) ≡ false → ltZ (pos 7) z ≡ true → z -ℤ pos 7 ≡ pos (natAbs (z -ℤ clamp4 z))
 excess-high z e f =
@@ -346,7 +348,12 @@ pub quantise-12 : (d : ℤ) → natAbs d ≤ 2080374784 → natAbs (quantise d 1
 unfolding quantise nearestDown
 quantise-12 d h =
     let b : round24 (natAbs d) ≤ natAbs d + 256 = round24-le (natAbs d) (omega arith) in
-    omega (arith, sign-size d (cond (ltb 8388608 (round24 (natAbs d) % 8388608 * 2)) (round24 (natAbs d) / 8388608 + 1) (round24 (natAbs d) / 8388608)), go (ltb 8388608 (round24 (natAbs d) % 8388608 * 2)) (round24 (natAbs d)) refl (omega arith))
+    omega (
+      arith,
+      sign-size d (cond (ltb 8388608 (round24 (natAbs d) % 8388608 * 2)) (round24 (natAbs d) / 8388608 + 1) (round24 (natAbs d) / 8388608)),
+      go
+          (ltb 8388608 (round24 (natAbs d) % 8388608 * 2)) (round24 (natAbs d)) refl (omega arith),
+    )
   where
     go : (t : Bool) (m : ℕ) → ltb 8388608 (m % 8388608 * 2) ≡ t → m ≤ 2080375040 → cond t (m / 8388608 + 1) (m / 8388608) ≤ 248
     go true m e h = let l = ltb-true 8388608 (m % 8388608 * 2) e in omega arith

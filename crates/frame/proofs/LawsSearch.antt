@@ -5,9 +5,9 @@ use mathlib.Core.List.{List}
 use mathlib.Core.Logic.{_⊎_, inl, inr, ⊎-elim}
 use Prim.Native.Nat.{ℕ, zero, suc, _+_, _-_, _*_, _/_, _^_, _≤_, _<_, min}
 use native.Mathlib.Omega.{arith}
-use native.Mathlib.Nat.{pow-suc, lt-of-not-le, zero-add, suc-add}
+use native.Mathlib.Nat.{le-trans, pow-suc, lt-of-not-le, zero-add, suc-add}
 use native.Mathlib.Decide.{decLe}
-use lib.Dec.{eqb, leb, ltb}
+use lib.Dec.{eqb, leb, ltb, lit≤}
 use lib.IntN.{ℤ}
 use borrow.Author.Tests.{eqb-true, eqb-false, leb-true, lt-ltb, le-ltb}
 use Rattle.whole.specs.declared.History.{History}
@@ -57,7 +57,8 @@ unfolding raiseWithin
 raise-within-11 zero y p h = (omega arith, h)
 raise-within-11 (suc k) y p h = go (ltb 256 y) (raise-within-11 k (y / 2) (min (p + 1) 11) (omega arith))
   where
-    go : (t : Bool) → (min (p + 1) 11 ≤ raiseWithin k (y / 2) (min (p + 1) 11)) × (raiseWithin k (y / 2) (min (p + 1) 11) ≤ 11) → (p ≤ cond t (raiseWithin k (y / 2) (min (p + 1) 11)) p) × (cond t (raiseWithin k (y / 2) (min (p + 1) 11)) p ≤ 11)
+    go : (t : Bool) → (min (p + 1) 11 ≤ raiseWithin k (y / 2) (min (p + 1) 11)) × (raiseWithin k (y / 2) (min (p + 1) 11) ≤ 11) → (p ≤ cond t (raiseWithin k (y / 2) (min (p + 1) 11)) p)
+        × (cond t (raiseWithin k (y / 2) (min (p + 1) 11)) p ≤ 11)
     go true i = (omega arith, i .1)
     go false i = (omega arith, h)
 
@@ -166,7 +167,7 @@ module _ (c0 c1 : ℤ) (h : History) (xs : List ℤ) where
 
   pub try-shape : Shape c0 c1 h xs 0 13 (tryCoefficients c0 c1 h xs)
   unfolding tryCoefficients
-  try-shape = search-shape 13 (firstExponent c0 c1 h xs) 0 (omega (arith, first-le c0 c1 h xs))
+  try-shape = search-shape 13 _ 0 (le-trans (first-le _ _ _ _) (lit≤ tt))
 
 -- ---- what ends the search, where the coefficients are bounded and the samples are of 16 bits
 
@@ -180,7 +181,8 @@ no-turns : {p : ℕ} → p ≤ 12 → 12 < zero + p → ⊥
 no-turns l m = omega arith
 
 module _ (c0 c1 : ℤ) (h : History) (xs : List ℤ) (b : Bounded c0 c1) (f : FitHistory h) (x : Fit 14 xs) where
-  found-more : (k p n q : ℕ) (t : Bool) → p ≤ 12 → q ≡ raise (runPass c0 c1 h xs p .overflow) p → isLast q (runPass c0 c1 h xs p .overflow) ≡ t → (p ≤ q → q ≤ 11 → Found c0 c1 h xs (searchWithin k c0 c1 h xs (q + 1) (n + 1)))
+  found-more : (k p n q : ℕ) (t : Bool) → p ≤ 12 → q ≡ raise (runPass c0 c1 h xs p .overflow) p → isLast q (runPass c0 c1 h xs p .overflow) ≡ t
+      → (p ≤ q → q ≤ 11 → Found c0 c1 h xs (searchWithin k c0 c1 h xs (q + 1) (n + 1)))
       → Found c0 c1 h xs (cond t (finished (runPass c0 c1 h xs p) q (n + 1)) (searchWithin k c0 c1 h xs (q + 1) (n + 1)))
   unfolding finished
   found-more k p n q true l e t r =
@@ -199,8 +201,10 @@ module _ (c0 c1 : ℤ) (h : History) (xs : List ℤ) (b : Bounded c0 c1) (f : Fi
       found-more k p n (raise o p) (isLast (raise o p) o) l refl refl (λ u v. search-found k (raise o p + 1) (n + 1) (omega arith) (omega arith))
 
   -- a larger bound changes nothing: the bound is never what ends the search
-  same-more : (j k p n q : ℕ) (t : Bool) → p ≤ 12 → q ≡ raise (runPass c0 c1 h xs p .overflow) p → isLast q (runPass c0 c1 h xs p .overflow) ≡ t → (p ≤ q → q ≤ 11 → searchWithin (k + j) c0 c1 h xs (q + 1) (n + 1) ≡ searchWithin k c0 c1 h xs (q + 1) (n + 1))
-      → cond t (finished (runPass c0 c1 h xs p) q (n + 1)) (searchWithin (k + j) c0 c1 h xs (q + 1) (n + 1)) ≡ cond t (finished (runPass c0 c1 h xs p) q (n + 1)) (searchWithin k c0 c1 h xs (q + 1) (n + 1))
+  same-more : (j k p n q : ℕ) (t : Bool) → p ≤ 12 → q ≡ raise (runPass c0 c1 h xs p .overflow) p → isLast q (runPass c0 c1 h xs p .overflow) ≡ t
+      → (p ≤ q → q ≤ 11 → searchWithin (k + j) c0 c1 h xs (q + 1) (n + 1) ≡ searchWithin k c0 c1 h xs (q + 1) (n + 1))
+      → cond t (finished (runPass c0 c1 h xs p) q (n + 1)) (searchWithin (k + j) c0 c1 h xs (q + 1) (n + 1))
+      ≡ cond t (finished (runPass c0 c1 h xs p) q (n + 1)) (searchWithin k c0 c1 h xs (q + 1) (n + 1))
   same-more j k p n q true l e t r = refl
   same-more j k p n q false l e t r = let g = goes-on c0 c1 h xs b f x p q l e (not-twelve q (runPass c0 c1 h xs p .overflow) t) in r (g .0) (g .1)
 
@@ -214,20 +218,23 @@ module _ (c0 c1 : ℤ) (h : History) (xs : List ℤ) (b : Bounded c0 c1) (f : Fi
 
   pub try-found : Found c0 c1 h xs (tryCoefficients c0 c1 h xs)
   unfolding tryCoefficients
-  try-found = search-found 13 (firstExponent c0 c1 h xs) 0 (omega (arith, first-le c0 c1 h xs)) (omega arith)
+  try-found = search-found 13 _ 0 (le-trans (first-le _ _ _ _) (lit≤ tt)) (omega arith)
 
   pub try-bound : (j : ℕ) → searchWithin (13 + j) c0 c1 h xs (firstExponent c0 c1 h xs) 0 ≡ tryCoefficients c0 c1 h xs
   unfolding tryCoefficients
-  try-bound j = search-bound j 13 (firstExponent c0 c1 h xs) 0 (omega (arith, first-le c0 c1 h xs)) (omega arith)
+  try-bound j = search-bound j 13 (firstExponent c0 c1 h xs) 0 (le-trans (first-le _ _ _ _) (lit≤ tt)) (omega arith)
 
 -- ---- a candidate from its trial and one more pass
 
-pub again : (c0 c1 : ℤ) (h : History) (xs : List ℤ) (c : Coded) → Found c0 c1 h xs c → (t : Pass) (b : Candidate) → b ≡ candidateOf c → t ≡ runPass c0 c1 h xs (b .exponent) → _≡_ {A = Coded} (record { nibbles = t .nibbles; samples = t .samples; distance = b .distance; exponent = b .exponent; passes = b .passes }) c
+pub again : (c0 c1 : ℤ) (h : History) (xs : List ℤ) (c : Coded) → Found c0 c1 h xs c → (t : Pass) (b : Candidate) → b ≡ candidateOf c → t ≡ runPass c0 c1 h xs (b .exponent)
+    → _≡_ {A = Coded} (record { nibbles = t .nibbles; samples = t .samples; distance = b .distance; exponent = b .exponent; passes = b .passes }) c
 unfolding finished
 again c0 c1 h xs c f t b e g =
     let p = runPass c0 c1 h xs (c .exponent) in
     let k : t ≡ p = g ∙ ap (λ (w : Candidate). runPass c0 c1 h xs (w .exponent)) e in
-    ap (λ (w : Pass). made w b) k ∙ ap (made p) e ∙ ap (λ (d : ℕ). finished (record { nibbles = p .nibbles; samples = p .samples; overflow = p .overflow; distance = d }) (c .exponent) (c .passes)) (ap (λ (w : Coded). w .distance) (f .is)) ∙ sym (f .is)
+    ap (λ (w : Pass). made w b) k ∙ ap (made p) e
+    ∙ ap (λ (d : ℕ). finished (record { nibbles = p .nibbles; samples = p .samples; overflow = p .overflow; distance = d }) (c .exponent) (c .passes))
+    (ap (λ (w : Coded). w .distance) (f .is)) ∙ sym (f .is)
   where
     made : Pass → Candidate → Coded
     made w v = record { nibbles = w .nibbles; samples = w .samples; distance = v .distance; exponent = v .exponent; passes = v .passes }

@@ -55,9 +55,9 @@ scale-at : (p : ℕ) → p ≤ 12 → HasValue (asF32 (pos (2 ^ p * 2048))) fals
 unfolding ofInt
 scale-at p h = round-whole binary32 false (2 ^ p * 2048) (omega (arith, pow-mono h))
 
-held24 : (s : Bool) (a p : ℕ) → a ≤ 2147483648 → p ≤ 12 → HasValue (round binary32 s (round24 a) (2 ^ (p + 11))) s (round24 a) (2 ^ (p + 11))
+quotient-exact : (s : Bool) (a p : ℕ) → a ≤ 2147483648 → p ≤ 12 → HasValue (round binary32 s (round24 a) (2 ^ (p + 11))) s (round24 a) (2 ^ (p + 11))
 unfolding round24 unit24
-held24 s a p h l =
+quotient-exact s a p h l =
     let k = size a - 24 in
     let digits : closest a (2 ^ k) ≤ 16777216 = le-trans (nearest-le (a / 2 ^ k) (compare (a % 2 ^ k * 2) (2 ^ k))) (kept-lt 24 a) in
     let z : size a ≤ 32 = size-le a 32 (omega arith) in
@@ -72,7 +72,7 @@ quotient-at d p h l =
     div-at binary32 (asF32 d) (asF32 (pos s)) (signOf d) false r 1 s 1 (lit< tt) (mul-pos (pow-pos p) (lit< tt)) (cast-at d h) (scale-at p l)
     ∙ rw (plus (signOf d), mul-one r, mul-one s) in
     subst (λ (x : Float). HasValue x (signOf d) r s) (sym is)
-    (subst (λ (n : ℕ). HasValue (round binary32 (signOf d) r n) (signOf d) r n) (pow-add 2 p 11) (held24 (signOf d) (natAbs d) p h l))
+    (subst (λ (n : ℕ). HasValue (round binary32 (signOf d) r n) (signOf d) r n) (pow-add 2 p 11) (quotient-exact (signOf d) (natAbs d) p h l))
 
 -- `as f64` of it: an f64 holds it
 pub quotient-fits : (d s : ℤ) → T (fits binary64 (quotient d s))
@@ -80,8 +80,8 @@ unfolding quotient
 quotient-fits d s = fits-widens (div binary32 (asF32 d) (asF32 s)) (div-fits binary32 (asF32 d) (asF32 s))
 
 -- ---- with nearly a half added in f64, of the quotient's sign, and cut towards zero: to the nearest, halves towards zero
-held : (n : ℕ) → n ≤ 9007199254740992 → HasValue (round binary64 false n 67108864) false n 67108864
-held n h = subst (λ (m : ℕ). HasValue (round binary64 false m 67108864) false m 67108864) (mul-one n) (few-digits binary64 false n 0 26 h (lit≤ tt) (lit≤ tt))
+parts-exact : (n : ℕ) → n ≤ 9007199254740992 → HasValue (round binary64 false n 67108864) false n 67108864
+parts-exact n h = subst (λ (m : ℕ). HasValue (round binary64 false m 67108864) false m 67108864) (mul-one n) (few-digits binary64 false n 0 26 h (lit≤ tt) (lit≤ tt))
 
 cut : (n g l : ℕ) → 0 < l → (n * 67108864 + 1) * l ≤ g * 67108864 → g * 67108864 ≤ (n * 67108864 + 67108863) * l → g / l ≡ n
 cut n g l L h k = div-eq-of-lt-le l (omega arith) (omega arith)
@@ -97,7 +97,7 @@ sum-at x y s t r k h a c even k-ge k-le r-le near o u v =
     let g = grid binary64 (r * c + a * k) (k * c) in
     let is : add binary64 x y ≡ z = add-at binary64 x y s t r k a c K C (near .some) o u v in
     let b = round-between binary64 t (r * c + a * k) (k * c) (n * 67108864 + 1) 67108864 (n * 67108864 + 67108863) 67108864 (mul-pos K C) (lit< tt) (lit< tt) (omega arith) (omega arith)
-    (held (n * 67108864 + 1) (omega arith)) (held (n * 67108864 + 67108863) (omega arith)) (sum-above r k h a c near even k-le) (sum-below r k h a c near K) in
+    (parts-exact (n * 67108864 + 1) (omega arith)) (parts-exact (n * 67108864 + 67108863) (omega arith)) (sum-above r k h a c near even k-le) (sum-below r k h a c near K) in
     let whole : g / 2 ^ low binary64 ≡ n = cut n g (2 ^ low binary64) (pow-pos (low binary64)) (b .1) (b .2) in
     ap (toSigned 31) is
     ∙ toSigned-at 31 z t g (2 ^ low binary64) (pow-pos (low binary64)) (b .0) (lt-of-le-of-lt (le-of-eq whole) (omega arith))

@@ -10,10 +10,11 @@ use Rattle.frame.specs.declared.search.Coded.{Coded}
 use Rattle.frame.specs.Pass.{Bounded}
 use Rattle.frame.specs.Search.{tryCoefficients}
 
--- "c0 even, c1 odd in each of eight pairs"
+-- "c0 even, c1 odd in each of eight pairs": the even coefficient of pair i
 abbrev pub c0At : List ℤ → ℕ → ℤ
 c0At cs i = getD cs (2 * i) (pos 0)
 
+-- the odd coefficient of pair i
 abbrev pub c1At : List ℤ → ℕ → ℤ
 c1At cs i = getD cs (2 * i + 1) (pos 0)
 

@@ -46,7 +46,7 @@ unfoldable pub halvingsWithin : ℕ → ℤ → ℕ
 halvingsWithin zero z = zero
 halvingsWithin (suc k) z = cond (isSmall z) zero (suc (halvingsWithin k (towardsZero z 2)))
 
--- the bound of 13 is the Rust's, and never what ends the halving (`halvings-end`)
+-- the halvings of z; the bound of 13 is the Rust's, and never what ends them (`halvings-end`)
 unfoldable pub halvings : ℤ → ℕ
 halvings z = halvingsWithin 13 z
 
@@ -58,5 +58,6 @@ maxZ a b = cond (ltZ a b) b a
 unfoldable pub exponentOf : ℕ → ℕ
 exponentOf h = natAbs (maxZ (pos h -ℤ pos 2) (negsuc 0) +ℤ pos 1)
 
+-- the exponent of the first pass, from the estimate
 unfoldable pub firstExponent : ℤ → ℤ → History → List ℤ → ℕ
 firstExponent c0 c1 h xs = exponentOf (halvings (largestDifference c0 c1 h xs))

@@ -20,13 +20,13 @@ abbrev pub header : ℕ → ℕ → ℕ
 header i p = i * 16 + p
 
 -- a nibble's four bits: z mod 16
-unfoldable pub low4 : ℤ → ℕ
-low4 (pos n) = n
-low4 (negsuc n) = 15 - n
+unfoldable pub lowFour : ℤ → ℕ
+lowFour (pos n) = n
+lowFour (negsuc n) = 15 - n
 
 -- "two nibbles a byte, high nibble first"
 unfoldable pub byteOf : List ℤ → ℕ → ℕ
-byteOf ns k = low4 (getD ns (2 * k) (pos 0)) * 16 + low4 (getD ns (2 * k + 1) (pos 0))
+byteOf ns k = lowFour (getD ns (2 * k) (pos 0)) * 16 + lowFour (getD ns (2 * k + 1) (pos 0))
 
 -- "a header byte, then two nibbles a byte": the header and k bytes
 unfoldable pub packFrame : ℕ → List ℤ → ℕ → List ℕ
@@ -61,6 +61,7 @@ unfoldable pub pairsOk : List ℤ → ℕ → Bool
 pairsOk cs zero = true
 pairsOk cs (suc k) = pairsOk cs k && pairOk (c0At cs k) (c1At cs k)
 
+-- all eight pairs are within the limits
 unfoldable pub coefficientsOk : List ℤ → Bool
 coefficientsOk cs = pairsOk cs 8
 

@@ -3,14 +3,14 @@ ghost use mathlib.Core.Path.{_≡_};
 ghost use Prim.Native.Nat.{ℕ, _<_};
 ghost use lib.IntN.{pos};
 ghost use lib.ListN.{getD};
-ghost use Rattle.frame.specs.Frame.{low4, packFrame};
+ghost use Rattle.frame.specs.Frame.{lowFour, packFrame};
 ghost use Rattle.frame.specs.inner.Nibbles.{InNibble};
 
 // The four bits of a nibble.
-fn low_4(n: i8) -> u8
+fn low_four(n: i8) -> u8
     requires { ⌜ InNibble n ⌝ }
-    ensures { λ r. ⌜ r ≡ low4 n ⌝ }
-    ensures { λ r. ⌜ r < 16 ⌝ }
+    ensures bits { λ r. ⌜ r ≡ lowFour n ⌝ }
+    ensures small { λ r. ⌜ r < 16 ⌝ }
 {
     if n < 0 {
         return (n as i64 + 16) as u8;
@@ -29,8 +29,8 @@ pub(crate) fn pack_frame(header: u8, nibbles: [i8; 14]) -> [u8; 8]
     while k < 7 {
         let a = nibbles[2 * k];
         let b = nibbles[2 * k + 1];
-        let hi = low_4(a);
-        let lo = low_4(b);
+        let hi = low_four(a);
+        let lo = low_four(b);
         out[k + 1] = hi * 16 + lo;
         k = k + 1;
     }

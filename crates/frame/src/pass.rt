@@ -59,6 +59,7 @@ fn squared_difference(x: i16, y: i16) -> u64
     (d * d) as u64
 }
 
+// The larger one.
 fn max_of(x: u64, y: u64) -> u64
     ensures { λ r. ⌜ r ≡ max x y ⌝ }
 {

@@ -44,6 +44,7 @@ fn number(line: &[u8; 135], at: usize) -> i16
     signed(high * 256 + low)
 }
 
+// The fourteen samples.
 fn samples_of(line: &[u8; 135]) -> [i16; 14] {
     let mut xs = [0i16; 14];
     let mut i: usize = 0;
@@ -55,6 +56,7 @@ fn samples_of(line: &[u8; 135]) -> [i16; 14] {
     xs
 }
 
+// The sixteen coefficients.
 fn coefficients_of(line: &[u8; 135]) -> [i16; 16] {
     let mut cs = [0i16; 16];
     let mut i: usize = 0;
@@ -66,6 +68,7 @@ fn coefficients_of(line: &[u8; 135]) -> [i16; 16] {
     cs
 }
 
+// Two digits for each of the eight bytes.
 fn print_bytes(bytes: [u8; 8]) {
     let mut i: usize = 0;
     while i < 8 {
@@ -140,6 +143,7 @@ fn replay() -> bool {
     answer(history, samples, coefficients, count(&line))
 }
 
+// Replays line after line.
 fn main() {
     let mut turns: u32 = 1_000_000;
     while turns > 0 && replay() {

@@ -50,7 +50,8 @@ array-copy-out-c1 c = omega arith
 pair-ok-requires : tie.Need-pair-ok-requires Inv-loop μ-loop
 pair-ok-requires c κs = tt
 
-pair-is : (c : tie.After-pair-ok Inv-loop μ-loop) → c .pair-ok .result ≡ pairOk (c0At (c .before .before .before .before .before .args .t1) (c .before .before .before .before .loop .i)) (c1At (c .before .before .before .before .before .args .t1) (c .before .before .before .before .loop .i))
+pair-is : (c : tie.After-pair-ok Inv-loop μ-loop) → let s = c .before .before .before .before .before in let l = c .before .before .before .before in
+    c .pair-ok .result ≡ pairOk (c0At (s .args .t1) (l .loop .i)) (c1At (s .args .t1) (l .loop .i))
 pair-is c =
     let cs = c .before .before .before .before .before .args .t1 in
     let i = c .before .before .before .before .loop .i in

@@ -29,7 +29,12 @@ exponent-le : (c : tie.After-choose) → c .choose .result .candidate .exponent 
 unfolding choose
 exponent-le c =
     let s = c .before .args in
-    omega (arith, ap (λ (b : Best). b .candidate .exponent) (c .choose .ensures), candidate-shape (s .history) (s .samples) (s .coefficients) (winner (s .history) (s .samples) (s .coefficients) 7) .exponent-le)
+    omega (
+      arith,
+      ap (λ (b : Best). b .candidate .exponent) (c .choose .ensures),
+      candidate-shape (s .history) (s .samples) (s .coefficients)
+          (winner (s .history) (s .samples) (s .coefficients) 7) .exponent-le,
+    )
 
 choose-requires : tie.Need-choose-requires
 choose-requires c κs = search needs

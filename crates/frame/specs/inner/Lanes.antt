@@ -66,17 +66,19 @@ laneFrom c0 c1 u t xs (suc i) = stepLane c0 c1 u (laneFrom c0 c1 u t xs i) (getD
 abbrev pub laneStart : History → Lane
 laneStart h = record { s0 = h .newest; s1 = h .older; top = pos 0; high = 0; low = 0 }
 
--- lane k of the eight
+-- lane k of eight, whose fields are lists
 abbrev pub laneOf : List ℤ → List ℤ → List ℤ → List ℕ → List ℕ → ℕ → Lane
 laneOf s0 s1 top high low k = record { s0 = getD s0 k (pos 0); s1 = getD s1 k (pos 0); top = getD top k (pos 0); high = getD high k 0; low = getD low k 0 }
 
+-- lane k of t
 abbrev pub laneAt : Lanes → ℕ → Lane
 laneAt t k = laneOf (t .s0) (t .s1) (t .top) (t .high) (t .low) k
 
--- lane k of ts is lane k of t, one sample or i samples on
+-- lane k of t, i samples on
 abbrev pub laneAfter : Pairs → List ℤ → Lanes → List ℤ → ℕ → ℕ → Lane
 laneAfter cs us t xs i k = laneFrom (getD (cs .c0) k (pos 0)) (getD (cs .c1) k (pos 0)) (getD us k (pos 0)) (laneAt t k) xs i
 
+-- lane k of t, one sample on
 abbrev pub laneStep : Pairs → List ℤ → Lanes → ℤ → ℕ → Lane
 laneStep cs us t x k = stepLane (getD (cs .c0) k (pos 0)) (getD (cs .c1) k (pos 0)) (getD us k (pos 0)) (laneAt t k) x
 

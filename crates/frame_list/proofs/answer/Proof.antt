@@ -1,3 +1,4 @@
+-- `answer` is safe: coefficients that are not refused are bounded.
 use borrow.Author.Needs.{needs}
 use borrow.Author.Tests.{not-false}
 use mathlib.Core.Path.{_≡_, sym, _∙_}

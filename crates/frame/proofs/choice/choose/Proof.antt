@@ -54,7 +54,8 @@ loop-holds c =
       omega arith,
       omega (arith, few (s .history) (s .samples) (s .coefficients) (c .trial .result) 0 e),
       e,
-      ap (λ (n : ℕ). Choice.best (candidateAt (s .history) (s .samples) (s .coefficients) 0) 0 n) (ap (λ (w : Candidate). w .passes) e) ∙ best-first (s .history) (s .samples) (s .coefficients) (candidateAt (s .history) (s .samples) (s .coefficients) 0) refl,
+      ap (λ (n : ℕ). Choice.best (candidateAt (s .history) (s .samples) (s .coefficients) 0) 0 n) (ap (λ (w : Candidate). w .passes) e)
+          ∙ best-first (s .history) (s .samples) (s .coefficients) (candidateAt (s .history) (s .samples) (s .coefficients) 0) refl,
     )
 
 trial-requires-2 : tie.Need-trial-requires-2 Inv-loop μ-loop
@@ -86,10 +87,17 @@ loop-again c =
     let i = l .loop .i in
     let less : i < 8 = a .before .loop-test .taken in
     let e = a .trial2 .ensures in
-    let step : (c .if1 .index < i + 1) × (c .if1 .best ≡ candidateOf (candidateAt (s .history) (s .samples) (s .coefficients) (c .if1 .index))) × (Choice.best (candidateAt (s .history) (s .samples) (s .coefficients) (c .if1 .index)) (c .if1 .index) (l .loop .passes + new .passes) ≡ choose (s .history) (s .samples) (s .coefficients) ((i + 1) - 1)) =
+    let step : (c .if1 .index < i + 1) × (c .if1 .best ≡ candidateOf (candidateAt (s .history) (s .samples) (s .coefficients) (c .if1 .index)))
+    × (Choice.best (candidateAt (s .history) (s .samples) (s .coefficients) (c .if1 .index)) (c .if1 .index) (l .loop .passes + new .passes)
+    ≡ choose (s .history) (s .samples) (s .coefficients) ((i + 1) - 1)) =
     ⊎-elim
     (λ w. rw (w .1, w .2) (omega arith, e, trial-taken (s .history) (s .samples) (s .coefficients) i new (l .loop .best) (l .loop .index) (l .loop .passes) (inv .0) e (inv .4) (inv .5) (w .0 .taken)))
-    (λ w. rw (w .1, w .2) (omega (arith, inv .2), inv .4, trial-left (s .history) (s .samples) (s .coefficients) i new (l .loop .best) (l .loop .index) (l .loop .passes) (inv .0) e (inv .4) (inv .5) (w .0 .left)))
+    (λ w. rw (w .1, w .2) (
+      omega (arith, inv .2),
+      inv .4,
+      trial-left (s .history) (s .samples) (s .coefficients) i new (l .loop .best) (l .loop .index) (l .loop .passes) (inv .0) e
+          (inv .4) (inv .5) (w .0 .left),
+    ))
     (c .if1 .came) in (
       omega (arith, inv .0),
       omega (arith, less),

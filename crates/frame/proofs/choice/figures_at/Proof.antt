@@ -20,7 +20,8 @@ top-fits : (c : tie.After-top) → SFits w32 (getD (c .before .before .before .b
 top-fits c = record { sfits = c .top .given }
 
 -- the shifted top
-shifted : (c : tie.After-top) → toZ w32 (ofZ w32 (shrZ (toZ w32 (ofZ w32 (getD (c .before .before .before .before .args .t .top) (c .before .before .before .before .args .k) (pos 0)))) (2 ^ c .before .before .before .before .args .p))) ≡ pos (c .before .before .before .before .pre .1 .1 .most / 2 ^ c .before .before .before .before .args .p)
+shifted : (c : tie.After-top) → let s = c .before .before .before .before in
+    toZ w32 (ofZ w32 (shrZ (toZ w32 (ofZ w32 (getD (s .args .t .top) (s .args .k) (pos 0)))) (2 ^ s .args .p))) ≡ pos (s .pre .1 .1 .most / 2 ^ s .args .p)
 shifted c =
     let s = c .before .before .before .before in
     rw (toZ-ofZ (top-fits c)) (toZ-ofZ (shr-fits (2 ^ s .args .p) (top-fits c)) ∙ ap (λ (z : ℤ). shrZ z (2 ^ s .args .p)) (s .pre .1 .1 .top-is))

@@ -70,7 +70,8 @@ loop-again c =
     let inv = l .loop .inv in (
       omega arith,
       simp length-set (inv .1),
-      filled-more (λ (j : ℕ). firstExponent (c0At (s .t3) j) (c1At (s .t3) j) (s .history) (s .samples)) 0 (l .loop .out) (l .loop .k) _ (omega arith) (rw (toZ-ofZ (c0-fits (a .before)), toZ-ofZ (c1-fits a)) at (c .first-exponent .ensures)) (inv .2),
+      filled-more (λ (j : ℕ). firstExponent (c0At (s .t3) j) (c1At (s .t3) j) (s .history) (s .samples)) 0 (l .loop .out) (l .loop .k) _ (omega arith)
+          (rw (toZ-ofZ (c0-fits (a .before)), toZ-ofZ (c1-fits a)) at (c .first-exponent .ensures)) (inv .2),
     )
 
 returns : tie.Need-returns Inv-loop μ-loop

@@ -56,7 +56,8 @@ run-lanes-requires c κs =
       λ k m. subst Empty (sym (c .before .before .fresh .ensures k m)) (record { s0-le = abs-sfits (f .newest-fits); s1-le = abs-sfits (f .older-fits); high-none = refl; low-none = refl }),
     )
 
-lane-is : (c : tie.After-run-lanes) (k : ℕ) → k < 8 → laneAt (c .run-lanes .result) k ≡ laneFrom (c0At (c .before .before .before .before .args .coefficients) k) (c1At (c .before .before .before .before .args .coefficients) k) (pos (2 ^ (first (c .before .before .before .before) k + c .before .before .before .before .args .more))) (laneStart (c .before .before .before .before .args .history)) (c .before .before .before .before .args .samples) 14
+lane-is : (c : tie.After-run-lanes) (k : ℕ) → k < 8 → let s = c .before .before .before .before in laneAt (c .run-lanes .result) k
+    ≡ laneFrom (c0At (s .args .coefficients) k) (c1At (s .args .coefficients) k) (pos (2 ^ (first s k + s .args .more))) (laneStart (s .args .history)) (s .args .samples) 14
 lane-is c k m =
     let u = c .before in
     let e = u .before .split .ensures k m in
@@ -66,8 +67,10 @@ returns : tie.Need-returns
 returns c =
     let s = c .before .before .before .before in
     record {
-      shown = λ k m. shown-is (c0At (s .args .coefficients) k) (c1At (s .args .coefficients) k) _ (s .pre .0 .pair k m) (first-small s k) (s .args .history) (s .args .samples) (fit-history s) (fit-samples s) _ (lane-is c k m);
-      tells = λ k m. tells-is (c0At (s .args .coefficients) k) (c1At (s .args .coefficients) k) _ (s .pre .0 .pair k m) (first-small s k) (s .args .history) (s .args .samples) (fit-history s) (fit-samples s) _ (lane-is c k m);
+      shown = λ k m. shown-is (c0At (s .args .coefficients) k) (c1At (s .args .coefficients) k) _ (s .pre .0 .pair k m) (first-small s k) (s .args .history) (s .args .samples)
+          (fit-history s) (fit-samples s) _ (lane-is c k m);
+      tells = λ k m. tells-is (c0At (s .args .coefficients) k) (c1At (s .args .coefficients) k) _ (s .pre .0 .pair k m) (first-small s k) (s .args .history) (s .args .samples)
+          (fit-history s) (fit-samples s) _ (lane-is c k m);
     }
 
 pub lanes-at-spec : {M : Type 1} → statement M

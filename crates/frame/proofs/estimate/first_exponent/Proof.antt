@@ -9,7 +9,7 @@ use Rattle.frame.proofs.LawsEstimate.{exponent-is}
 use Rattle.frame.proofs.estimate.first_exponent.Statement.{statement}
 use Rattle.frame.proofs.estimate.first_exponent.Tie as tie
 
-count : (c : tie.After-halvings) → c .halvings .result ≡ halvings (largestDifference (c .before .before .args .c0) (c .before .before .args .c1) (c .before .before .args .history) (c .before .before .args .samples))
+count : (c : tie.After-halvings) → let s = c .before .before in c .halvings .result ≡ halvings (largestDifference (s .args .c0) (s .args .c1) (s .args .history) (s .args .samples))
 count c =
     let f = c .before .before .fits in
     c .halvings .ensures

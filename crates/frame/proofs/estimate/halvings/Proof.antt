@@ -1,3 +1,4 @@
+-- `halvings` meets its contract. The invariant: the halvings made and those left are those of d.
 use mathlib.Core.Path.{_≡_, refl, sym, ap, _∙_}
 use Prim.Native.Nat.{ℕ, _-_, _+_, _≤_}
 use native.Mathlib.Omega.{arith}

@@ -16,7 +16,8 @@ abbrev Inv-loop : tie.InvT-loop
 Inv-loop c0 c1 samples largest₀ previous₀ before₀ i₀ largest previous before i =
     (i ≤ 14)
     × SFits w16 (toZ w16 largest)
-    × (look (toZ w16 c0) (toZ w16 c1) samples (14 - i) i (toZ w16 largest) (toZ w16 previous) (toZ w16 before) ≡ look (toZ w16 c0) (toZ w16 c1) samples 14 0 (pos 0) (toZ w16 previous₀) (toZ w16 before₀))
+    × (look (toZ w16 c0) (toZ w16 c1) samples (14 - i) i (toZ w16 largest) (toZ w16 previous) (toZ w16 before)
+    ≡ look (toZ w16 c0) (toZ w16 c1) samples 14 0 (pos 0) (toZ w16 previous₀) (toZ w16 before₀))
 
 abbrev μ-loop : tie.MeasureT-loop
 μ-loop c0 c1 samples largest₀ previous₀ before₀ i₀ largest previous before i = 14 - i
@@ -37,14 +38,17 @@ x-fits : (c : tie.After-x Inv-loop μ-loop) → SFits w16 (getD (c .before .befo
 x-fits c = record { sfits = c .x .given }
 
 -- the difference at the place reached, as the definition has it
-d-is : (c : tie.After-difference Inv-loop μ-loop) → c .difference .result ≡ difference (toZ w16 (ofZ w16 (c .before .before .before .before .before .before .args .c0))) (toZ w16 (ofZ w16 (c .before .before .before .before .before .before .args .c1))) (toZ w16 (c .before .before .before .loop .previous)) (toZ w16 (c .before .before .before .loop .before)) (getD (c .before .before .before .before .before .before .args .t4) (c .before .before .before .loop .i) (pos 0))
+d-is : (c : tie.After-difference Inv-loop μ-loop) → let s = c .before .before .before .before .before .before in let l = c .before .before .before in c .difference .result
+    ≡ difference (toZ w16 (ofZ w16 (s .args .c0))) (toZ w16 (ofZ w16 (s .args .c1))) (toZ w16 (l .loop .previous)) (toZ w16 (l .loop .before)) (getD (s .args .t4) (l .loop .i) (pos 0))
 d-is c = rw (toZ-ofZ (x-fits (c .before))) at (c .difference .ensures)
 
 d-fits : (c : tie.After-difference Inv-loop μ-loop) → SFits w16 (c .difference .result)
 d-fits c = record { sfits = c .difference .ok }
 
 -- what the definition gives, of the parameters' own values
-whole-is : (c : tie.After-struct-told2 Inv-loop μ-loop) → let s = c .before .before .args in look (toZ w16 (ofZ w16 (s .c0))) (toZ w16 (ofZ w16 (s .c1))) (s .t4) 14 0 (pos 0) (toZ w16 (ofZ w16 (s .history .newest))) (toZ w16 (ofZ w16 (s .history .older))) ≡ largestDifference (s .c0) (s .c1) (s .history) (s .t4)
+whole-is : (c : tie.After-struct-told2 Inv-loop μ-loop) → let s = c .before .before .args in
+    look (toZ w16 (ofZ w16 (s .c0))) (toZ w16 (ofZ w16 (s .c1))) (s .t4) 14 0 (pos 0) (toZ w16 (ofZ w16 (s .history .newest)))
+    (toZ w16 (ofZ w16 (s .history .older))) ≡ largestDifference (s .c0) (s .c1) (s .history) (s .t4)
 unfolding largestDifference
 whole-is c =
     let f = c .before .before .fits in

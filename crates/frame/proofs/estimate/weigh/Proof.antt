@@ -1,3 +1,4 @@
+-- `weigh` meets its contract: no product overflows.
 use mir.Syntax.{w64}
 use Rattle.whole.proofs.Values.{Is, is-16, is-in, is-mul, chk-mul, is-add, chk-add, chk-cast}
 use Rattle.frame.specs.Estimate.{weigh}

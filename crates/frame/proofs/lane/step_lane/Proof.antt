@@ -42,9 +42,11 @@ q-is : (c : tie.After-weigh-32) → Is w32 (ofZ w32 (c .weigh-32 .result)) (sum 
 q-is c =
     let s = c .before .before .before in
     let f = s .fits in
-    is-call (rw (toZ-ofZ (f .c0), toZ-ofZ (f .c1), toZ-ofZ (s0-fits s), toZ-ofZ (s1-fits s)) at (c .weigh-32 .ensures)) (weigh-le (s .args .c0) (s .args .c1) (s .args .lane .s0) (s .args .lane .s1) (s .pre .0) (s .pre .1 .1 .s0-le) (s .pre .1 .1 .s1-le)) tt
+    is-call (rw (toZ-ofZ (f .c0), toZ-ofZ (f .c1), toZ-ofZ (s0-fits s), toZ-ofZ (s1-fits s)) at (c .weigh-32 .ensures))
+    (weigh-le (s .args .c0) (s .args .c1) (s .args .lane .s0) (s .args .lane .s1) (s .pre .0) (s .pre .1 .1 .s0-le) (s .pre .1 .1 .s1-le)) tt
 
-d-is : (c : tie.After-weigh-32) → Is w32 (ofZ w32 (toZ w32 (ofZ w32 (pos 2048 *ℤ toZ w32 (ofZ w32 (toZ w16 (ofZ w16 (c .before .before .before .args .x)))))) -ℤ toZ w32 (ofZ w32 (c .weigh-32 .result)))) (whole (c .before .before .before)) 2080374784
+d-is : (c : tie.After-weigh-32) → let s = c .before .before .before in
+    Is w32 (ofZ w32 (toZ w32 (ofZ w32 (pos 2048 *ℤ toZ w32 (ofZ w32 (toZ w16 (ofZ w16 (s .args .x)))))) -ℤ toZ w32 (ofZ w32 (c .weigh-32 .result)))) (whole s) 2080374784
 unfolding residual
 d-is c = is-sub (is-mul (is-lit w32 2048 tt) (x-is (c .before .before .before)) tt) (q-is c) tt
 
@@ -54,12 +56,15 @@ v-is c =
     let d = d-is (c .before) in
     is-call (c .finer .ensures ∙ ap₂ finer (d .is) (toZ-ofZ (s .fits .u))) (finer-size (whole s) (s .args .u) (s .pre .1 .0) (d .size)) tt
 
-part : (c : tie.After-nibble-part) → Is w32 (ofZ w32 (c .nibble-part .result)) (clamp4 (floored (finer (whole (c .before .before .before .before .before)) (c .before .before .before .before .before .args .u)) (natAbs (c .before .before .before .before .before .args .u))) *ℤ c .before .before .before .before .before .args .u) 32768
+part : (c : tie.After-nibble-part) → let s = c .before .before .before .before .before in
+    Is w32 (ofZ w32 (c .nibble-part .result)) (clamp4 (floored (finer (whole s) (s .args .u)) (natAbs (s .args .u))) *ℤ s .args .u) 32768
 part c =
     let s = c .before .before .before .before .before in
-    is-call (c .nibble-part .ensures ∙ ap₂ (λ (a b : ℤ). clamp4 (floored a (natAbs b)) *ℤ b) (v-is (c .before) .is) (toZ-ofZ (s .fits .u))) (part-size (finer (whole s) (s .args .u)) (s .args .u) (s .pre .1 .0)) tt
+    is-call (c .nibble-part .ensures ∙ ap₂ (λ (a b : ℤ). clamp4 (floored a (natAbs b)) *ℤ b) (v-is (c .before) .is) (toZ-ofZ (s .fits .u)))
+    (part-size (finer (whole s) (s .args .u)) (s .args .u) (s .pre .1 .0)) tt
 
-base : (c : tie.After-weigh-32) → Is w32 (ofZ w32 (shrZ (toZ w32 (ofZ w32 (toZ w32 (ofZ w32 (c .weigh-32 .result)) +ℤ pos 1024))) 2048)) (floored (sum (c .before .before .before) +ℤ pos 1024) 2048) 2013266944
+base : (c : tie.After-weigh-32) → Is w32 (ofZ w32 (shrZ (toZ w32 (ofZ w32 (toZ w32 (ofZ w32 (c .weigh-32 .result)) +ℤ pos 1024))) 2048))
+    (floored (sum (c .before .before .before) +ℤ pos 1024) 2048) 2013266944
 base c = is-shr (is-add (q-is c) (is-lit w32 1024 tt) tt) 2048 tt
 
 sample : (c : tie.After-clamp-32) → c .clamp-32 .result ≡ made (c .before .before .before .before .before .before)
@@ -114,15 +119,16 @@ add-t18 c = search needs
 add-t20 : tie.Need-add-t20
 add-t20 c = search needs
 
-square-is : (c : tie.After-square-32) → c .square-32 .result ≡ squaredDifference (c .before .before .before .before .before .before .before .args .x) (made (c .before .before .before .before .before .before .before))
+square-is : (c : tie.After-square-32) → let s = c .before .before .before .before .before .before .before in c .square-32 .result ≡ squaredDifference (s .args .x) (made s)
 square-is c = c .square-32 .ensures ∙ ap₂ squaredDifference (x-is (c .before .before .before .before .before .before .before) .is) (sample-is (c .before))
 
-track-is : (c : tie.After-track) → c .track .result ≡ track (whole (c .before .before .before .before .before .before .before .before)) (finer (whole (c .before .before .before .before .before .before .before .before)) (c .before .before .before .before .before .before .before .before .args .u)) (c .before .before .before .before .before .before .before .before .args .u)
+track-is : (c : tie.After-track) → let s = c .before .before .before .before .before .before .before .before in c .track .result ≡ track (whole s) (finer (whole s) (s .args .u)) (s .args .u)
 track-is c =
     let f = c .before .before .before .before in
     rw (d-is (f .before) .is, v-is f .is, toZ-ofZ (f .before .before .before .before .fits .u)) at (c .track .ensures)
 
-top-is : (c : tie.After-larger-32) → toZ w32 (ofZ w32 (c .larger-32 .result)) ≡ maxZ (c .before .before .before .before .before .before .before .before .before .before .args .lane .top) (track (whole (c .before .before .before .before .before .before .before .before .before .before)) (finer (whole (c .before .before .before .before .before .before .before .before .before .before)) (c .before .before .before .before .before .before .before .before .before .before .args .u)) (c .before .before .before .before .before .before .before .before .before .before .args .u))
+top-is : (c : tie.After-larger-32) → let s = c .before .before .before .before .before .before .before .before .before .before in
+    toZ w32 (ofZ w32 (c .larger-32 .result)) ≡ maxZ (s .args .lane .top) (track (whole s) (finer (whole s) (s .args .u)) (s .args .u))
 top-is c =
     toZ-ofZ (record { sfits = c .larger-32 .ok })
     ∙ c .larger-32 .ensures

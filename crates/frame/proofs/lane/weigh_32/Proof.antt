@@ -36,7 +36,8 @@ mul-result c = chk-mul (c0-is c) (s0-is c) tt
 mul-result-2 : tie.Need-mul-result-2
 mul-result-2 c = chk-mul (c1-is c) (s1-is c) tt
 
-sum-is : (c : tie.Start) → toZ w32 (ofZ w32 (toZ w32 (ofZ w32 (c .args .c0)) *ℤ toZ w32 (ofZ w32 (c .args .s0)))) +ℤ toZ w32 (ofZ w32 (toZ w32 (ofZ w32 (c .args .c1)) *ℤ toZ w32 (ofZ w32 (c .args .s1)))) ≡ weigh (c .args .c0) (c .args .c1) (c .args .s0) (c .args .s1)
+sum-is : (c : tie.Start) → toZ w32 (ofZ w32 (toZ w32 (ofZ w32 (c .args .c0)) *ℤ toZ w32 (ofZ w32 (c .args .s0)))) +ℤ toZ w32
+    (ofZ w32 (toZ w32 (ofZ w32 (c .args .c1)) *ℤ toZ w32 (ofZ w32 (c .args .s1)))) ≡ weigh (c .args .c0) (c .args .c1) (c .args .s0) (c .args .s1)
 unfolding weigh
 sum-is c = ap₂ _+ℤ_ (left-is c .is) (right-is c .is)
 

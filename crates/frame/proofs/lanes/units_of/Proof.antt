@@ -56,7 +56,8 @@ loop-again c =
     let inv = l .loop .inv in (
       omega arith,
       simp length-set (inv .1),
-      filled-more (λ (j : ℕ). pos (2 ^ (getD (s .t1) j 0 + s .more))) (pos 0) (l .loop .u) (l .loop .k) _ (omega arith) (is-one-shl w32 (getD (s .t1) (l .loop .k) 0 + s .more) 12 (most c) tt .is) (inv .2),
+      filled-more (λ (j : ℕ). pos (2 ^ (getD (s .t1) j 0 + s .more))) (pos 0) (l .loop .u) (l .loop .k) _ (omega arith)
+          (is-one-shl w32 (getD (s .t1) (l .loop .k) 0 + s .more) 12 (most c) tt .is) (inv .2),
     )
 
 returns : tie.Need-returns Inv-loop μ-loop

@@ -9,7 +9,7 @@ use lib.ListN.{length, getD, take, set, length-set}
 use mir.Syntax.{w8}
 use mir.Val.{SFits, toZ, ofZ}
 use mir.Facts.{toZ-ofZ}
-use Rattle.frame.specs.Frame.{low4, byteOf, packFrame}
+use Rattle.frame.specs.Frame.{lowFour, byteOf, packFrame}
 use Rattle.frame.specs.inner.Nibbles.{InNibble}
 use Rattle.frame.proofs.LawsNibbles.{pack-more}
 use Rattle.frame.proofs.nibbles.pack_frame.Statement.{statement}
@@ -49,11 +49,11 @@ a-fits c = record { sfits = c .a .given }
 b-fits : (c : tie.After-b Inv-loop μ-loop) → SFits w8 (getD (c .before .before .before .before .args .t2) (2 * c .before .before .before .loop .k + 1) (pos 0))
 b-fits c = record { sfits = c .b .given }
 
-low-4-requires : tie.Need-low-4-requires Inv-loop μ-loop
-low-4-requires c κs = rw (toZ-ofZ (a-fits (c .before))) (c .before .before .before .before .pre (2 * c .before .before .before .loop .k) (omega arith))
+low-four-requires : tie.Need-low-four-requires Inv-loop μ-loop
+low-four-requires c κs = rw (toZ-ofZ (a-fits (c .before))) (c .before .before .before .before .pre (2 * c .before .before .before .loop .k) (omega arith))
 
-low-4-requires-2 : tie.Need-low-4-requires-2 Inv-loop μ-loop
-low-4-requires-2 c κs = rw (toZ-ofZ (b-fits (c .before))) (c .before .before .before .before .before .pre (2 * c .before .before .before .before .loop .k + 1) (omega arith))
+low-four-requires-2 : tie.Need-low-four-requires-2 Inv-loop μ-loop
+low-four-requires-2 c κs = rw (toZ-ofZ (b-fits (c .before))) (c .before .before .before .before .before .pre (2 * c .before .before .before .before .loop .k + 1) (omega arith))
 
 mul-out : tie.Need-mul-out Inv-loop μ-loop
 mul-out c = omega arith
@@ -77,8 +77,8 @@ loop-again : tie.Need-loop-again Inv-loop μ-loop
 unfolding byteOf
 loop-again c =
     let l = c .before .before .before .before .before in
-    let hi = rw (toZ-ofZ (a-fits (c .before .before .before))) at (c .before .low-4 .ensures .0) in
-    let lo = rw (toZ-ofZ (b-fits (c .before .before))) at (c .low-42 .ensures .0) in (
+    let hi = rw (toZ-ofZ (a-fits (c .before .before .before))) at (c .before .low-four .ensures .0) in
+    let lo = rw (toZ-ofZ (b-fits (c .before .before))) at (c .low-four2 .ensures .0) in (
       omega arith,
       simp length-set (l .loop .inv .1),
       pack-more (l .before .args .header) (l .before .args .t2) (l .loop .k) (l .loop .out) _ (omega arith) (l .loop .inv .2) (ap₂ (λ (x y : ℕ). x * 16 + y) hi lo),
@@ -104,8 +104,8 @@ pack-frame-spec =
     mul-b
     add-b
     array-copy-out-b
-    low-4-requires
-    low-4-requires-2
+    low-four-requires
+    low-four-requires-2
     mul-out
     add-out
     add-out-2

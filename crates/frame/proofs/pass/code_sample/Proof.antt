@@ -40,7 +40,8 @@ d-is c = is-sub (is-mul (is-lit w64 2048 tt) (is-16 (c .before .fits .x)) tt) (q
 u-is : (c : tie.After-quantise) → Is w64 (ofZ w64 (c .quantise .result)) (quantise (whole (c .before .before)) (c .before .before .args .p)) 2080375041
 u-is c =
     let d = d-is (c .before) in
-    is-call (c .quantise .ensures ∙ ap (λ (z : ℤ). quantise z (c .before .before .args .p)) (d .is)) (omega (arith, quantise-size (whole (c .before .before)) (c .before .before .args .p) (omega (arith, d .size)), d .size)) tt
+    is-call (c .quantise .ensures ∙ ap (λ (z : ℤ). quantise z (c .before .before .args .p)) (d .is))
+    (omega (arith, quantise-size (whole (c .before .before)) (c .before .before .args .p) (omega (arith, d .size)), d .size)) tt
 
 n-is : (c : tie.After-clamp-4) → Is w64 (ofZ w64 (c .clamp-4 .result)) (clamp4 (quantise (whole (c .before .before .before)) (c .before .before .before .args .p))) 8
 n-is c = is-call (c .clamp-4 .ensures ∙ ap clamp4 (u-is (c .before) .is)) (clamp4-size _) tt
@@ -51,7 +52,8 @@ w-is c =
     is-call (c .power-of .ensures) l tt
 
 -- the prediction, rounded down
-p-is : (c : tie.After-excess) → Is w64 (ofZ w64 (shrZ (toZ w64 (ofZ w64 (toZ w64 (ofZ w64 (c .before .before .before .weigh .result)) +ℤ pos 1024))) 2048)) (floored (sum (c .before .before .before .before) +ℤ pos 1024) 2048) 2013266944
+p-is : (c : tie.After-excess) → Is w64 (ofZ w64 (shrZ (toZ w64 (ofZ w64 (toZ w64 (ofZ w64 (c .before .before .before .weigh .result)) +ℤ pos 1024))) 2048))
+    (floored (sum (c .before .before .before .before) +ℤ pos 1024) 2048) 2013266944
 p-is c = is-shr (is-add (q-is (c .before .before .before)) (is-lit w64 1024 tt) tt) 2048 tt
 
 weigh-requires : tie.Need-weigh-requires

@@ -1,4 +1,4 @@
--- `run_pass` meets its contract. The invariant: what is held after i samples is what the definition has after i.
+-- `run_pass` meets its contract. The invariant: what is carried after i samples is what the definition has after i.
 use mathlib.Core.Path.{_≡_, refl, sym, ap, _∙_}
 use Prim.Native.Nat.{ℕ, _+_, _-_, _*_, _<_, _≤_}
 use native.Mathlib.Omega.{arith}
@@ -68,7 +68,9 @@ nibble-fits c = record { sfits = c .struct-told3 .given .0 .1 }
 sample-fits : (c : tie.After-struct-told3 Inv-loop μ-loop) → SFits w16 (c .before .code-sample .result .sample)
 sample-fits c = record { sfits = c .struct-told3 .given .1 .0 .1 }
 
-square-is : (c : tie.After-squared-difference Inv-loop μ-loop) → c .squared-difference .result ≡ squaredDifference (getD (c .before .before .before .before .before .before .before .before .before .before .args .t4) (c .before .before .before .before .before .before .before .loop .i) (pos 0)) (c .before .before .before .before .code-sample .result .sample)
+square-is : (c : tie.After-squared-difference Inv-loop μ-loop) → let s = c .before .before .before .before .before .before .before .before .before .before in let l = c .before .before .before .before .before .before .before in
+    c .squared-difference .result
+    ≡ squaredDifference (getD (s .args .t4) (l .loop .i) (pos 0)) (c .before .before .before .before .code-sample .result .sample)
 square-is c = rw (toZ-ofZ (x-fits (c .before .before .before .before .before)), toZ-ofZ (sample-fits (c .before .before .before))) at (c .squared-difference .ensures)
 
 square-small : (c : tie.After-squared-difference Inv-loop μ-loop) → c .squared-difference .result ≤ 4294967296
@@ -98,7 +100,7 @@ loop-again c =
     )
 
 -- the history that the loop began with is the parameter
-began : (c : tie.After-struct-told2 Inv-loop μ-loop) → history (ofZ w16 (c .before .before .args .history .newest)) (ofZ w16 (c .before .before .args .history .older)) ≡ c .before .before .args .history
+began : (c : tie.After-struct-told2 Inv-loop μ-loop) → let s = c .before .before in history (ofZ w16 (s .args .history .newest)) (ofZ w16 (s .args .history .older)) ≡ s .args .history
 began c =
     let h = c .before .before .args .history in
     let n : SFits w16 (h .newest) = record { sfits = c .struct-told2 .given .0 .1 } in

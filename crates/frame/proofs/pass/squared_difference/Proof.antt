@@ -1,3 +1,4 @@
+-- `squared_difference` meets its contract.
 use mathlib.Core.Path.{_≡_, refl}
 use lib.IntN.{ℤ, pos, natAbs, _-ℤ_, _*ℤ_}
 use mir.Syntax.{w16, w64}

@@ -1,3 +1,4 @@
+-- `is_last` meets its contract.
 use mathlib.Core.Path.{_≡_, refl}
 use borrow.Author.Tests.{eq-eqb, ne-eqb}
 use Rattle.frame.specs.Search.{isLast}

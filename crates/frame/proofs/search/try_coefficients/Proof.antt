@@ -88,7 +88,8 @@ test-is c = c .is-last .ensures ∙ ap (λ (o : ℕ). isLast (c .before .raise .
 rises : (c : tie.Else1 Inv-loop μ-loop) → (c .before .before .before .before .loop .p ≤ c .before .before .raise .result) × (c .before .before .raise .result ≤ 11)
 rises c =
     let l = c .before .before .before .before in
-    goes-on (a0 l) (a1 l) _ _ (bounded l) (fit-history l) (fit-samples l) (l .loop .p) (c .before .before .raise .result) (l .loop .inv .0) (raise-is (c .before .before)) (not-twelve _ _ (sym (test-is (c .before)) ∙ c .if1 .left))
+    goes-on (a0 l) (a1 l) _ _ (bounded l) (fit-history l) (fit-samples l) (l .loop .p) (c .before .before .raise .result) (l .loop .inv .0) (raise-is (c .before .before))
+    (not-twelve _ _ (sym (test-is (c .before)) ∙ c .if1 .left))
 
 add-p : tie.Need-add-p Inv-loop μ-loop
 add-p c = omega (arith, rises c)
@@ -102,7 +103,8 @@ loop-again c =
     let r = rises c in (
       omega arith,
       omega arith,
-      search-more (a0 l) (a1 l) _ _ (l .loop .p) (l .loop .passes) (c .before .before .raise .result) _ (omega arith) (raise-is (c .before .before)) (l .loop .inv .2) (sym (test-is (c .before)) ∙ c .if1 .left),
+      search-more (a0 l) (a1 l) _ _ (l .loop .p) (l .loop .passes) (c .before .before .raise .result) _ (omega arith) (raise-is (c .before .before)) (l .loop .inv .2)
+          (sym (test-is (c .before)) ∙ c .if1 .left),
     )
 
 returns : tie.Need-returns Inv-loop μ-loop
