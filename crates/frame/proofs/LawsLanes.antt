@@ -14,8 +14,9 @@ use lib.ListN.{getD, set, length, replicate, getD-replicate}
 use lib.Seq.{getD-set-same, getD-set-other}
 use lib.Signed.{ltZ, shrZ, mag}
 use borrow.Author.Tests.{ltb-true, ltb-false, lt-ltb, le-ltb}
-use mir.Syntax.{w16}
-use mir.Val.{SFits}
+use mir.Syntax.{w16, w32}
+use mir.Val.{SFits, toZ, ofZ}
+use mir.Facts.{toZ-ofZ}
 use Rattle.whole.specs.Whole.{clamp16, floored}
 use Rattle.whole.proofs.Values.{abs-sfits}
 use Rattle.whole.proofs.Laws.{clamp-fits}
@@ -89,6 +90,24 @@ module _ (s0 s1 top : List ℤ) (high low : List ℕ) (k : ℕ) (a b t : ℤ) (h
       here : (j : ℕ) → j < k + 1 → Dec (k ≤ j) → after j ≡ stepLane (getD c0 j (pos 0)) (getD c1 j (pos 0)) (getD us j (pos 0)) (was j) x
       here j m (yes n) = let q : k ≡ j = omega arith in subst (λ (i : ℕ). after i ≡ stepLane (getD c0 i (pos 0)) (getD c1 i (pos 0)) (getD us i (pos 0)) (was i) x) q same
       here j m (no n) = let q = lt-of-not-le n in set-other j (below j q) ∙ r .done j q
+
+-- ---- a lane whose numbers come back from 32 bits
+
+-- a number as 32 bits hold it
+abbrev back : ℤ → ℤ
+back z = toZ w32 (ofZ w32 z)
+
+module _ {a b u s0 s1 t : ℤ} (fa : SFits w32 a) (fb : SFits w32 b) (fu : SFits w32 u) (f0 : SFits w32 s0) (f1 : SFits w32 s1) (ft : SFits w32 t) (h l : ℕ) where
+  pub back-ready : Bounded a b × (PowerOfTwo u × LaneRoom (lane s0 s1 t h l)) → Bounded (back a) (back b) × (PowerOfTwo (back u) × LaneRoom (lane (back s0) (back s1) (back t) h l))
+  back-ready p = rw (toZ-ofZ fa, toZ-ofZ fb, toZ-ofZ fu, toZ-ofZ f0, toZ-ofZ f1, toZ-ofZ ft) p
+
+  pub back-step : (x : ℤ) {r : Lane} → r ≡ stepLane (back a) (back b) (back u) (lane (back s0) (back s1) (back t) h l) x → r ≡ stepLane a b u (lane s0 s1 t h l) x
+  back-step x e = rw (toZ-ofZ fa, toZ-ofZ fb, toZ-ofZ fu, toZ-ofZ f0, toZ-ofZ f1, toZ-ofZ ft) at e
+
+module _ {a b t : ℤ} (f0 : SFits w32 a) (f1 : SFits w32 b) (f2 : SFits w32 t) (s0 s1 top : List ℤ) (high low : List ℕ) (k h l : ℕ) where
+  pub back-mixed : {c0 c1 us : List ℤ} {x : ℤ} {was : ℕ → Lane} {m : ℕ} → Mixed c0 c1 us x was (laneOf (set s0 k a) (set s1 k b) (set top k t) (set high k h) (set low k l)) m
+      → Mixed c0 c1 us x was (laneOf (set s0 k (back a)) (set s1 k (back b)) (set top k (back t)) (set high k h) (set low k l)) m
+  back-mixed p = rw (toZ-ofZ f0, toZ-ofZ f1, toZ-ofZ f2) p
 
 -- equal numbers in every place
 pub fresh-lane : (a b : ℤ) (k : ℕ) → k < 8 → laneOf (replicate 8 a) (replicate 8 b) (replicate 8 (pos 0)) (replicate 8 0) (replicate 8 0) k ≡ lane a b (pos 0) 0 0

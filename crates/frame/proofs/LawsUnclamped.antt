@@ -11,7 +11,7 @@ use mir.Val.{SFits}
 use lib.Dec.{T, ltb, lit<, lit≤}
 use lib.Pow.{pow-add, pow-pos, pow-mono}
 use lib.IntN.{ℤ, pos, negsuc, negℤ, natAbs, _-ℤ_}
-use lib.Ieee.{Float, binary32, binary64, low, size, unlike, round, neg, fits, toBits, add, sub, div, ofInt, toSigned}
+use lib.Ieee.{Float, binary32, binary64, low, size, unlike, round, neg, fits, add, sub, div, ofInt, toSigned}
 use lib.Ieee.Back.{round-whole}
 use lib.Ieee.Digits.{size-le}
 use lib.Ieee.Exact.{HasValue}
@@ -114,11 +114,6 @@ near-half-at = (refl, refl)
 
 near-half-neg : HasValue (neg nearHalf) true (num nearHalf) (den nearHalf)
 near-half-neg = neg-at nearHalf false (num nearHalf) (den nearHalf) near-half-at
-
--- its bits, as the Rust has them
-pub near-half-bits : toBits binary64 nearHalf ≡ 0x3fdf_ffff_94a0_3595
-unfolding nearHalf round toBits
-near-half-bits = refl
 
 -- ---- the expression
 -- with y, 0.4999999 of the sign t: the sign of d, or either where d is 0

@@ -11,7 +11,7 @@ use mir.Val.{Fits, SFits, toZ, ofZ}
 use mir.Facts.{toZ-ofZ}
 use Rattle.frame.specs.inner.Lanes.{LaneRoom, laneOf, stepLane}
 use Rattle.frame.proofs.LawsOrder.{none-below}
-use Rattle.frame.proofs.LawsLanes.{Mixed, mixed-more}
+use Rattle.frame.proofs.LawsLanes.{Mixed, mixed-more, back-ready, back-step, back-mixed}
 use Rattle.frame.proofs.lanes.step_lanes.Statement.{statement}
 use Rattle.frame.proofs.lanes.step_lanes.Tie as tie
 
@@ -182,15 +182,8 @@ step-lane-requires c κs =
     let s = start l in
     let k = l .loop .k in
     let top = c .before .before .before in
-    let m : k < 8 = top .before .before .before .loop-test .taken in
-    rw (
-      toZ-ofZ (a-fits (c .before .before)),
-      toZ-ofZ (b-fits (c .before)),
-      toZ-ofZ (u-fits c),
-      toZ-ofZ (most-fits top),
-      toZ-ofZ (older-fits (top .before)),
-      toZ-ofZ (newest-fits (top .before .before)),
-    )
+    let m : k < 8 = k-lt (top .before .before .before) in
+    back-ready (a-fits (c .before .before)) (b-fits (c .before)) (u-fits c) (newest-fits (top .before .before)) (older-fits (top .before)) (most-fits top) _ _
     (s .pre .0 .pair k m, (s .pre .0 .unit k m, subst LaneRoom (sym (l .loop .inv .6 .kept k (le-refl k))) (s .pre .1 k m)))
 
 loop-again : tie.Need-loop-again Inv-loop μ-loop
@@ -208,21 +201,14 @@ loop-again c =
     let f0 : SFits w32 (new .s0) = record { sfits = c .struct-told3 .given .0 .1 } in
     let f1 : SFits w32 (new .s1) = record { sfits = c .struct-told3 .given .1 .0 .1 } in
     let f2 : SFits w32 (new .top) = record { sfits = c .struct-told3 .given .1 .1 .0 .1 } in
-    let e = rw (
-      toZ-ofZ (a-fits (u .before .before)),
-      toZ-ofZ (b-fits (u .before)),
-      toZ-ofZ (u-fits u),
-      toZ-ofZ (most-fits top),
-      toZ-ofZ (older-fits (top .before)),
-      toZ-ofZ (newest-fits (top .before .before)),
-    ) at (a .step-lane .ensures) in (
+    let e = back-step (a-fits (u .before .before)) (b-fits (u .before)) (u-fits u) (newest-fits (top .before .before)) (older-fits (top .before)) (most-fits top) _ _ _ (a .step-lane .ensures) in (
       up-to m,
       simp length-set (inv .1),
       simp length-set (inv .2),
       simp length-set (inv .3),
       simp length-set (inv .4),
       simp length-set (inv .5),
-      rw (toZ-ofZ f0, toZ-ofZ f1, toZ-ofZ f2)
+      back-mixed f0 f1 f2 (now .s0) (now .s1) (now .top) (now .high) (now .low) k (new .high) (new .low)
           (mixed-more (now .s0) (now .s1) (now .top) (now .high) (now .low) k (new .s0) (new .s1) (new .top) (new .high) (new .low) (s .args .pairs .c0) (s .args .pairs .c1) (s .args .t3) _ _
           (in-list m (inv .1)) (in-list m (inv .2)) (in-list m (inv .3)) (in-list m (inv .4)) (in-list m (inv .5)) e (inv .6)),
     )
