@@ -7,7 +7,7 @@ use native.Mathlib.Omega.{arith}
 use borrow.Author.Tests.{leb-true, ltb-false, eqb-false}
 use lib.Dec.{leb, ltb, eqb}
 use lib.IntN.{ℤ}
-use Rattle.frame.specs.Frame.{withinLimits}
+use Rattle.frame.specs.Frame.{coefficientsOk}
 use Rattle.whole.specs.Outcome.{accepted, refused}
 use Rattle.whole.proofs.Outcomes.{passed, failed}
 use Rattle.clip.specs.declared.starting.Start.{Start}
@@ -26,7 +26,7 @@ use Rattle.clip.proofs.ValidState.{sound}
 pub record Started (g : Start) (len : ℕ) : Type 0 where
   pub some : g .rate ≡ 0 → ⊥
   pub limits : Limits (startShape (cut g))
-  pub within : withinLimits (g .coefficients) ≡ true
+  pub within : coefficientsOk (g .coefficients) ≡ true
   pub size : imageSize (startShape (cut g)) ≤ len
 
 pub start-accepted : (g : Start) (len : ℕ) → startAnswer g len ≡ accepted tt → Started g len
@@ -39,7 +39,7 @@ start-accepted g len p =
     let b = failed (eqb (g .rate) 0) 5 _ (a .1) in
     let d = passed (blockOk size) 6 _ (b .1) in
     let w = both-true (leb 8 size) (leb size 65536) (d .0) in
-    let e = passed (withinLimits (g .coefficients)) 7 _ (d .1) in
+    let e = passed (coefficientsOk (g .coefficients)) 7 _ (d .1) in
     let f = failed (ltb len (imageSize (startShape (cut g)))) 8 (accepted tt) (e .1) in
     let lo = leb-true 8 size (w .0) in
     let hi = leb-true size 65536 (w .1) in

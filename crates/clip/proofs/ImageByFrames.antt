@@ -12,7 +12,7 @@ use lib.IntN.{ℤ}
 use lib.ListN.{length, take, replicate, getD, length-append, length-replicate}
 use lib.Seq.{sets, take-append-le, take-append-add, take-all, length-take-le}
 use Rattle.whole.proofs.Stores.{sets-right-at, sets-left, fill, fill-set}
-use Rattle.frame.specs.Frame.{withinLimits}
+use Rattle.frame.specs.Frame.{coefficientsOk}
 use Rattle.layout.specs.Sizes.{blockCount, bodyBytes, imageSize}
 use Rattle.whole.specs.Frames.{framesOf}
 use Rattle.layout.specs.Fields.{mark, noMark}
@@ -34,7 +34,7 @@ pub record Fine (g : Start) : Type 0 where
   pub limits : Limits (startShape g)
   pub some : g .rate ≢ 0
   pub sixteen : length (g .coefficients) ≡ 16
-  pub within : withinLimits (g .coefficients) ≡ true
+  pub within : coefficientsOk (g .coefficients) ≡ true
 
 abbrev pub headed : Start → List ℕ → List ℕ
 headed g first = headBytes first g

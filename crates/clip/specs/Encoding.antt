@@ -12,7 +12,7 @@ use Rattle.layout.specs.declared.Shape.{Shape}
 use Rattle.layout.specs.Fields.{mark}
 use Rattle.layout.specs.Limits.{totalOk, blockOk, numbersOk}
 use Rattle.layout.specs.Sizes.{shape, imageSize, framePlace, contextPlace}
-use Rattle.frame.specs.Frame.{encodeFrame, historyAfter, withinLimits}
+use Rattle.frame.specs.Frame.{encodeFrame, historyAfter, coefficientsOk}
 use Rattle.frame.specs.declared.EncodedFrame.{EncodedFrame}
 use Rattle.whole.specs.declared.History.{History}
 use Rattle.clip.specs.declared.Answer.{Answer}
@@ -76,7 +76,7 @@ countsOk n total closed passes = not (closed && ltb n total) && leb passes (104 
 -- a state with none of these, nor "a coefficient outside 7"
 unfoldable pub valid : Encoder → Bool
 valid e =
-    numbersOk (e .fed) (e .total) (e .block) (e .rate) && (withinLimits (e .coefficients) && countsOk (e .fed) (e .total) (e .closed) (e .passes))
+    numbersOk (e .fed) (e .total) (e .block) (e .rate) && (coefficientsOk (e .coefficients) && countsOk (e .fed) (e .total) (e .closed) (e .passes))
 
 -- ---- a frame is stored
 
@@ -204,7 +204,7 @@ startAnswer g size =
     cond (not (totalOk (g .total))) (refused 4)
     (cond (eqb (g .rate) 0) (refused 5)
     (cond (not (blockOk (g .block))) (refused 6)
-    (cond (not (withinLimits (g .coefficients))) (refused 7)
+    (cond (not (coefficientsOk (g .coefficients))) (refused 7)
     (cond (ltb size (imageSize (startShape (cut g)))) (refused 8)
     (accepted tt)))))
 

@@ -2,7 +2,7 @@
 ghost use mathlib.Core.Path.{_≡_};
 ghost use mathlib.Core.Bool.{true};
 ghost use lib.ListN.{length, take};
-ghost use Rattle.frame.specs.Frame.{encodeFrame, historyAfter, withinLimits};
+ghost use Rattle.frame.specs.Frame.{encodeFrame, historyAfter, coefficientsOk};
 ghost use Rattle.clip.specs.Encoding.{left, store, feedAll};
 ghost use Rattle.clip.specs.inner.Asked.{Room, Going};
 use crate::Encoder;
@@ -50,7 +50,7 @@ fn encode_full(
     history: History,
     frame: [i16; 14],
 ) -> Encoded
-    requires { ⌜ Room shape q 8 (length (now image)) × (withinLimits coefficients ≡ true) ⌝ }
+    requires { ⌜ Room shape q 8 (length (now image)) × (coefficientsOk coefficients ≡ true) ⌝ }
     ensures after { λ r. ⌜ r .history ≡ historyAfter history (encodeFrame history frame coefficients .samples) 14 ⌝ }
     ensures passes { λ r. ⌜ r .passes ≡ encodeFrame history frame coefficients .passes ⌝ }
     ensures stored { λ r. ⌜ now (image .exit) ≡ store shape q (encodeFrame history frame coefficients .bytes) history (now (image .entry)) ⌝ }

@@ -22,7 +22,7 @@ measuring-refused OfMeasuring.InvalidState = omega arith
 measuring-refused OfMeasuring.TooManySamples = omega arith
 measuring-refused OfMeasuring.StoreTooShort = omega arith
 
-pub frame-refused : (r : Frame.Refusal) → 0 < FrameNumbers.numberOf r
+pub frame-refused : (r : Frame.Refusal) → 0 < FrameNumbers.code r
 frame-refused OfFrame.CoefficientOutside = omega arith
 
 pub clip-refused : (r : Clip.Refusal) → 0 < ClipNumbers.numberOf r

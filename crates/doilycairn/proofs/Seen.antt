@@ -17,6 +17,7 @@ use Rattle.whole.specs.Outcome as Answered
 use Rattle.coefficients.specs.declared.CoefficientCalculator.{CoefficientCalculator}
 use Rattle.coefficients.specs.Measure.{ProcessEffect, processEffect, measuring, FinishEffect, finishEffect}
 use Rattle.frame.specs.declared.OneFrame.{OneFrame}
+use Rattle.frame.specs.Frame as OneFrames
 use Rattle.image.specs.declared.Answer.the-variants.{Accepted, Refused}
 use Rattle.image.specs.declared.Opening as Image
 use Rattle.image.specs.declared.PlayAnswer.{PlayAnswer}
@@ -51,8 +52,8 @@ finish-seen a cs d t p q = ap (λ (k : ℕ). finishing (record { code = k; coeff
 
 -- ---- a frame, a clip
 
-pub frame-seen : (f : OneFrame) {o : OneFrame} {k : ℕ}
-    → k ≡ frameCode (f .verdict) → f ≡ o → _≡_ {A = Frame} (record { code = k; bytes = f .bytes; passes = f .passes; history = f .history }) (frameSeen o)
+pub frame-seen : (f : OneFrame) {o : OneFrames.Effect} {k : ℕ}
+    → k ≡ frameCode (f .verdict) → OneFrames.effect f ≡ o → _≡_ {A = Frame} (record { code = k; bytes = f .bytes; passes = f .passes; history = f .history }) (frameSeen o)
 frame-seen f p q = ap (λ (k : ℕ). record { code = k; bytes = f .bytes; passes = f .passes; history = f .history }) p ∙ ap frameSeen q
 
 pub clip-seen : (a : Clip.Answer) (e : Encoder) (l : List ℕ) {o : Out} {k : ℕ}

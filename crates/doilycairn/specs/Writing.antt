@@ -7,23 +7,25 @@ use Rattle.clip.specs.declared.Answer.the-variants.{Accepted, Refused}
 use Rattle.clip.specs.declared.Encoder.{Encoder}
 use Rattle.clip.specs.Encoding.{Out, numberOf, startOf, feedOf, closeOf}
 use Rattle.whole.specs.declared.History.{History}
-use Rattle.frame.specs.declared.OneFrame.{OneFrame}
+use Rattle.whole.specs.Outcome.{Outcome, accepted, refused}
 use Rattle.frame.specs.declared.Verdict.{Verdict}
-use Rattle.frame.specs.declared.Verdict.the-variants as Frames
-use Rattle.frame.specs.Frame as OneFrames
-use Rattle.frame.specs.Frame.{encodeOneFrame}
+use Rattle.frame.specs.Frame.{Effect, outcome, encodeOneFrame}
 use Rattle.doilycairn.specs.declared.writing.Frame.{Frame}
 use Rattle.doilycairn.specs.declared.writing.Encoding.{Encoding}
 
 -- ---- one frame
 
--- 0 where the frame is encoded, else document 01's number
-abbrev pub frameCode : Verdict → ℕ
-frameCode Frames.Encoded = 0
-frameCode (Frames.Refused r) = OneFrames.numberOf r
+-- 0 where a call is accepted, else document 01's number
+abbrev pub outcomeCode : Outcome Unit → ℕ
+outcomeCode (accepted a) = 0
+outcomeCode (refused n) = n
 
-abbrev pub frameSeen : OneFrame → Frame
-frameSeen o = record { code = frameCode (o .verdict); bytes = o .bytes; passes = o .passes; history = o .history }
+-- the number of a frame's verdict
+abbrev pub frameCode : Verdict → ℕ
+frameCode v = outcomeCode (outcome v)
+
+abbrev pub frameSeen : Effect → Frame
+frameSeen o = record { code = outcomeCode (o .outcome); bytes = o .bytes; passes = o .passes; history = o .history }
 
 unfoldable pub frameInC : History → List ℤ → List ℤ → Frame
 frameInC h xs cs = frameSeen (encodeOneFrame h xs cs)

@@ -24,13 +24,13 @@ unfoldable pub nearestDown : ℕ → ℕ → ℕ
 nearestDown m s = cond (ltb s (m % s * 2)) (m / s + 1) (m / s)
 
 -- n with the sign of z
-abbrev pub signed : ℤ → ℕ → ℤ
-signed (pos k) n = pos n
-signed (negsuc k) n = negℤ (pos n)
+abbrev pub withSign : ℤ → ℕ → ℤ
+withSign (pos k) n = pos n
+withSign (negsuc k) n = negℤ (pos n)
 
 -- "D is rounded to 24 significant bits, .. divided by S' and rounded to nearest, halves towards zero"
-unfoldable pub quantised : ℤ → ℕ → ℤ
-quantised d p = signed d (nearestDown (round24 (natAbs d)) (scale p))
+unfoldable pub quantise : ℤ → ℕ → ℤ
+quantise d p = withSign d (nearestDown (round24 (natAbs d)) (scale p))
 
 -- "Clamp to −8..7"
 unfoldable pub clamp4 : ℤ → ℤ

@@ -44,6 +44,7 @@ fn number(line: &[u8; 135], at: usize) -> i16
     signed(high * 256 + low)
 }
 
+// The fourteen samples.
 fn samples_of(line: &[u8; 135]) -> [i16; 14] {
     let mut xs = [0i16; 14];
     let mut i: usize = 0;
@@ -55,6 +56,7 @@ fn samples_of(line: &[u8; 135]) -> [i16; 14] {
     xs
 }
 
+// The sixteen coefficients.
 fn coefficients_of(line: &[u8; 135]) -> [i16; 16] {
     let mut cs = [0i16; 16];
     let mut i: usize = 0;
@@ -66,6 +68,7 @@ fn coefficients_of(line: &[u8; 135]) -> [i16; 16] {
     cs
 }
 
+// Two digits for each of the eight bytes.
 fn print_bytes(bytes: [u8; 8]) {
     let mut i: usize = 0;
     while i < 8 {
@@ -90,32 +93,32 @@ fn print_sample(x: i16) {
 fn history_after(
     history: whole::History,
     samples: [i16; 14],
-    coefs: [i16; 16],
+    coefficients: [i16; 16],
     m: usize,
 ) -> whole::History
-    requires { ⌜ AllBounded coefs ⌝ }
+    requires { ⌜ AllBounded coefficients ⌝ }
     requires { ⌜ m ≤ 14 ⌝ }
 {
-    let e = frame::encode_frame(history, samples, coefs);
+    let e = frame::encode_frame(history, samples, coefficients);
     let kept = e.samples;
     frame::history_after(history, kept, m)
 }
 
 // Encodes one frame and writes its answer.
-fn answer(history: whole::History, samples: [i16; 14], coefs: [i16; 16], m: usize) -> bool
+fn answer(history: whole::History, samples: [i16; 14], coefficients: [i16; 16], m: usize) -> bool
     requires { ⌜ m ≤ 14 ⌝ }
 {
-    if !frame::coefficients_ok(coefs) {
+    if !frame::coefficients_ok(coefficients) {
         return io::write_all(1, b"refused 7\n");
     }
-    let one = frame::encode_one_frame(history, samples, coefs);
+    let one = frame::encode_one_frame(history, samples, coefficients);
     let bytes = one.bytes;
     print_bytes(bytes);
     io::write_all(1, b" ");
     io::print_hex(1, one.passes as u64, 2);
     let mut after = one.history;
     if m < 14 {
-        after = history_after(history, samples, coefs, m);
+        after = history_after(history, samples, coefficients, m);
     }
     print_sample(after.newest);
     print_sample(after.older);
@@ -136,10 +139,11 @@ fn replay() -> bool {
         older: older,
     };
     let samples = samples_of(&line);
-    let coefs = coefficients_of(&line);
-    answer(history, samples, coefs, count(&line))
+    let coefficients = coefficients_of(&line);
+    answer(history, samples, coefficients, count(&line))
 }
 
+// Replays line after line.
 fn main() {
     let mut turns: u32 = 1_000_000;
     while turns > 0 && replay() {

@@ -10,7 +10,7 @@ use lib.Seq.{take-suc, take-all}
 use mir.Syntax.{w16}
 use mir.Val.{ofZ, toZ}
 use mir.ValLaws.{toZ-ofZ}
-use Rattle.frame.specs.Frame.{within}
+use Rattle.frame.specs.Frame.{pairsOk}
 use Rattle.frame.proofs.LawsFrame.{limits-fit}
 use Rattle.layout.specs.Fields.{at16, at32, mark}
 use Rattle.clip.specs.Image.{headOf}

@@ -9,13 +9,12 @@ use lib.ListN.{getD, take}
 use lib.Seq.{take-suc}
 use Rattle.whole.specs.Whole.{clamp16, floored, signedNibble}
 use Rattle.frame.specs.Choice.{AllBounded, c0At, c1At}
-use Rattle.frame.specs.Estimate.{weighted}
+use Rattle.frame.specs.Estimate.{weigh}
 use Rattle.frame.specs.Frame as encoded
 use Rattle.frame.specs.Frame.{encodeFrame, historyAfter}
 use Rattle.whole.specs.declared.History.{History}
 use Rattle.frame.proofs.LawsEncoded.{history-step, frame-lengths, header-parts, index-le, frame-played}
-use Rattle.frame.proofs.LawsArrays.{Fit}
-use Rattle.frame.proofs.LawsPass.{FitHistory}
+use Rattle.frame.specs.Fits.{Fit, FitHistory}
 use Rattle.block.specs.declared.FrameContext.{FrameContext}
 use Rattle.block.specs.Context.{predictorOf, scaleOf, contextWith, pushSample}
 use Rattle.block.specs.Frame as played
@@ -33,8 +32,8 @@ nibble-same bytes i =
 module _ (cs : List ℤ) (header : ℕ) (h : History) (n : ℕ) where
   -- the sample that a header's pair and scale give
   named : header / 16 ≤ 7
-      → nextSample cs (contextWith header h) n ≡ clamp16 (floored (weighted (c0At cs (header / 16)) (c1At cs (header / 16)) (h .newest) (h .older) +ℤ pos 1024) 2048 +ℤ signedNibble n *ℤ pos (2 ^ (header % 16)))
-  unfolding nextSample sample.sampleOf predictorOf scaleOf weighted
+      → nextSample cs (contextWith header h) n ≡ clamp16 (floored (weigh (c0At cs (header / 16)) (c1At cs (header / 16)) (h .newest) (h .older) +ℤ pos 1024) 2048 +ℤ signedNibble n *ℤ pos (2 ^ (header % 16)))
+  unfolding nextSample sample.sampleOf predictorOf scaleOf weigh
   named l =
       let e : header / 16 % 8 ≡ header / 16 = omega arith in
       rw e

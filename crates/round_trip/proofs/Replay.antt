@@ -14,9 +14,8 @@ use Rattle.whole.proofs.Framing.{frame-at}
 use Rattle.frame.specs.Choice.{AllBounded}
 use Rattle.frame.specs.Frame.{encodeFrame, historyAfter, preceded}
 use Rattle.whole.specs.declared.History.{History}
-use Rattle.frame.proofs.LawsArrays.{Fit}
+use Rattle.frame.specs.Fits.{Fit, FitHistory}
 use Rattle.frame.proofs.LawsEncoded.{history-fits, frame-lengths, frame-fits, frame-distance}
-use Rattle.frame.proofs.LawsPass.{FitHistory}
 use Rattle.block.specs.declared.FrameContext.{FrameContext}
 use Rattle.block.specs.Context.{contextWith, withHeader}
 use Rattle.block.specs.Frame.{Playing, playing, nibbleAt, nibblesFrom, takeNibble, playFrame}

@@ -7,8 +7,8 @@ use borrow.Author.Tests.{le-ltb}
 use lib.IntN.{pos, negsuc}
 use lib.ListN.{length, drop, replicate}
 use Rattle.whole.specs.Frames.{frameAt, framesOf}
-use Rattle.frame.specs.Frame.{pairWithin, within, withinLimits}
-use Rattle.frame.specs.Worked.{quotients, frames}
+use Rattle.frame.specs.Frame.{pairOk, pairsOk, coefficientsOk}
+use Rattle.frame.proofs.Worked.{quotients, frames}
 use Rattle.block.specs.Context.{predictorOf, scaleOf, pushSample, withHeader}
 use Rattle.block.specs.Frame.{nibbleAt, nextSample, takeNibble}
 use Rattle.block.specs.Play.{takeHeader, playFrom, play}
@@ -36,7 +36,7 @@ abbrev start : Start
 start = startWith 1 32000 15 0 (replicate 16 (pos 0)) silence
 
 accepted : (l : List ℕ) → 74 ≤ length l → startOf 1 32000 15 0 (replicate 16 (pos 0)) silence l .answer ≡ Accepted
-unfolding startOf startAnswer withinLimits within pairWithin sizeOf bodyOf blocksOf lastOf framesOf cutDown
+unfolding startOf startAnswer coefficientsOk pairsOk pairOk sizeOf bodyOf blocksOf lastOf framesOf cutDown
 accepted l h = rw (le-ltb (length l) 74 h)
 
 image-is : imageOf start (pos 9 ∷ []) true ≡ nine

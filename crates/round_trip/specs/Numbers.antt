@@ -5,7 +5,7 @@ use Prim.Native.Nat.{ℕ, _≤_}
 use lib.IntN.{ℤ, pos, negsuc}
 use lib.ListN.{length, drop, replicate}
 use Rattle.whole.specs.declared.History.{History}
-use Rattle.frame.specs.Quantise.{quantised}
+use Rattle.frame.specs.Quantise.{quantise}
 use Rattle.frame.specs.Worked.{alone, frame}
 use Rattle.block.specs.Address.{addressToSample, sampleToAddress}
 use Rattle.block.specs.Context.{predictorOf, scaleOf, contextWith}
@@ -38,7 +38,7 @@ pub record WorkedNumbers : Type 0 where
   -- "Header 9C: predictor 1, scale 4096. Nibbles 7, 8, 15: 7, −8, −1"
   pub headers : (predictorOf 0x9c ≡ 1) × (scaleOf 0x9c ≡ 4096) × (signedNibble 7 ≡ pos 7) × (signedNibble 8 ≡ negsuc 7) × (signedNibble 15 ≡ negsuc 0)
   -- "p = 0, D = 1024, 1025, −1024, −1025 → 0, 1, 0, −1. p = 12, D = 20,971,521 → 2"
-  pub quantising : (quantised (pos 1024) 0 ≡ pos 0) × (quantised (pos 1025) 0 ≡ pos 1) × (quantised (negsuc 1023) 0 ≡ pos 0) × (quantised (negsuc 1024) 0 ≡ negsuc 0) × (quantised (pos 20971521) 12 ≡ pos 2)
+  pub quantising : (quantise (pos 1024) 0 ≡ pos 0) × (quantise (pos 1025) 0 ≡ pos 1) × (quantise (negsuc 1023) 0 ≡ pos 0) × (quantise (negsuc 1024) 0 ≡ negsuc 0) × (quantise (pos 20971521) 12 ≡ pos 2)
   -- "Zero coefficients and history, one sample: 7 → 00 70; 8 → 00 70; −9 → 00 80 (played −8), 8 passes each; 9 → 01 40 (played 8), 16 passes"
   pub encoding : (alone (pos 7) ≡ frame 0x00 0x70 8 (pos 7)) × (alone (pos 8) ≡ frame 0x00 0x70 8 (pos 7)) × (alone (negsuc 8) ≡ frame 0x00 0x80 8 (negsuc 7)) × (alone (pos 9) ≡ frame 0x01 0x40 16 (pos 8))
   -- "(played −8)", "(played 8)"

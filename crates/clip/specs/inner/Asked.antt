@@ -4,7 +4,7 @@ use Rattle.layout.specs.Limits.{Limits}
 use Prim.Native.Nat.{ℕ, _+_, _*_, _/_, _%_, _≤_, _<_}
 use mathlib.Core.Path.{_≡_}
 use mathlib.Core.Bool.{true}
-use Rattle.frame.specs.Frame.{withinLimits}
+use Rattle.frame.specs.Frame.{coefficientsOk}
 use Rattle.clip.specs.declared.Encoder.{Encoder}
 use Rattle.layout.specs.Sizes.{bodyBytes, imageSize}
 use Rattle.whole.specs.Frames.{most, framesOf}
@@ -22,7 +22,7 @@ pub record Room (s : Shape) (q k len : ℕ) : Type 0 where
 -- of m samples i are in: the others fit the clip, and the image is large enough
 pub record Going (e : Encoder) (i m len : ℕ) : Type 0 where
   pub limits : Limits (encoderShape e)
-  pub within : withinLimits (e .coefficients) ≡ true
+  pub within : coefficientsOk (e .coefficients) ≡ true
   pub rest : e .fed + m ≤ e .total + i
   pub count : e .passes ≤ 104 * (e .fed / 14)
   pub size : imageSize (encoderShape e) ≤ len
@@ -30,7 +30,7 @@ pub record Going (e : Encoder) (i m len : ℕ) : Type 0 where
 -- all samples are in
 pub record Whole (e : Encoder) (len : ℕ) : Type 0 where
   pub limits : Limits (encoderShape e)
-  pub within : withinLimits (e .coefficients) ≡ true
+  pub within : coefficientsOk (e .coefficients) ≡ true
   pub all : e .fed ≡ e .total
   pub count : e .passes ≤ 104 * (e .fed / 14)
   pub size : imageSize (encoderShape e) ≤ len

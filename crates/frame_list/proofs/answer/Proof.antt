@@ -1,7 +1,8 @@
+-- `answer` is safe: coefficients that are not refused are bounded.
 use borrow.Author.Needs.{needs}
 use borrow.Author.Tests.{not-false}
 use mathlib.Core.Path.{_≡_, sym, _∙_}
-use Rattle.frame.specs.Frame.{withinLimits}
+use Rattle.frame.specs.Frame.{coefficientsOk}
 use Rattle.frame.proofs.LawsFrame.{limits-bounded}
 use Rattle.frame_list.proofs.answer.Statement.{statement}
 use Rattle.frame_list.proofs.answer.Tie as tie
@@ -40,7 +41,7 @@ history-after-requires : tie.Need-history-after-requires
 history-after-requires c κs =
     let e = c .before .before .before .before .before .before .before .before .before in
     let s = e .before .before in
-    (limits-bounded (s .args .coefs) (sym (e .before .coefficients-ok .ensures) ∙ not-false _ (e .if1 .left)), s .pre)
+    (limits-bounded (s .args .coefficients) (sym (e .before .coefficients-ok .ensures) ∙ not-false _ (e .if1 .left)), s .pre)
 
 print-sample-requires : tie.Need-print-sample-requires
 print-sample-requires c κs = search needs

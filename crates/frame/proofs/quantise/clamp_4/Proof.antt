@@ -1,3 +1,4 @@
+-- `clamp_4` meets its contract.
 use mathlib.Core.Path.{_≡_, sym}
 use mir.Facts.{toZ-ofZ}
 use Rattle.frame.proofs.LawsQuantise.{clamp4-low, clamp4-high, clamp4-mid}

@@ -1,4 +1,4 @@
--- `finish` meets its contract: one more pass at the exponent that was found.
+-- `candidate_at` meets its contract: one more pass at the exponent that was found.
 use borrow.Author.Needs.{needs}
 use mathlib.Core.Path.{_≡_, sym, ap, _∙_}
 use Prim.Native.Nat.{ℕ, _+_, _*_, _≤_}
@@ -11,12 +11,12 @@ use mir.Facts.{toZ-ofZ}
 use Rattle.frame.specs.declared.search.Candidate.{Candidate}
 use Rattle.frame.specs.Pass.{Bounded}
 use Rattle.frame.specs.Choice.{c0At, c1At, candidateAt}
-use Rattle.frame.proofs.LawsArrays.{Fit, array-fits}
-use Rattle.frame.proofs.LawsPass.{FitHistory}
+use Rattle.frame.proofs.LawsArrays.{array-fits}
+use Rattle.frame.specs.Fits.{Fit, FitHistory}
 use Rattle.frame.proofs.LawsSearch.{Shape, again}
 use Rattle.frame.proofs.LawsChoice.{candidate-shape, candidate-found}
-use Rattle.frame.proofs.choice.finish.Statement.{statement}
-use Rattle.frame.proofs.choice.finish.Tie as tie
+use Rattle.frame.proofs.choice.candidate_at.Statement.{statement}
+use Rattle.frame.proofs.choice.candidate_at.Tie as tie
 
 c0-fits : (c : tie.After-c0) → SFits w16 (c0At (c .before .args .t3) (c .before .args .k))
 c0-fits c = record { sfits = c .c0 .given }
@@ -71,8 +71,8 @@ returns c =
     (s .pre .1 .1)
     (rw (toZ-ofZ (c0-fits (a .before .before)), toZ-ofZ (c1-fits (a .before))) at (a .run-pass .ensures))
 
-pub finish-spec : {M : Type 1} → statement M
-finish-spec =
+pub candidate-at-spec : {M : Type 1} → statement M
+candidate-at-spec =
     tie.close
     (tie.spec
     mul-c0

@@ -1,12 +1,13 @@
+-- `squared_difference` meets its contract.
 use mathlib.Core.Path.{_≡_, refl}
 use lib.IntN.{ℤ, pos, natAbs, _-ℤ_, _*ℤ_}
 use mir.Syntax.{w16, w64}
 use mir.Val.{SFits, toZ, ofZ}
 use Prim.Native.Nat.{ℕ}
 use Rattle.whole.proofs.Values.{Is, is-16, is-in, is-sub, chk-sub, is-mul, chk-mul, chk-cast, chk-cast-u, is-cast-u, is-eq, mul-self}
-use Rattle.frame.specs.Pass.{squareOf}
-use Rattle.frame.proofs.pass.square.Statement.{statement}
-use Rattle.frame.proofs.pass.square.Tie as tie
+use Rattle.frame.specs.Pass.{squaredDifference}
+use Rattle.frame.proofs.pass.squared_difference.Statement.{statement}
+use Rattle.frame.proofs.pass.squared_difference.Tie as tie
 
 abbrev up : ℤ → ℕ
 up z = ofZ w64 (toZ w16 (ofZ w16 z))
@@ -30,8 +31,8 @@ cast-result : tie.Need-cast-result
 cast-result c = chk-cast-u (is-eq (is-mul (d-is c) (d-is c) tt) (mul-self (c .args .x -ℤ c .args .y))) tt
 
 returns : tie.Need-returns
-unfolding squareOf
+unfolding squaredDifference
 returns c = is-cast-u (is-eq (is-mul (d-is c) (d-is c) tt) (mul-self (c .args .x -ℤ c .args .y)))
 
-pub square-spec : {M : Type 1} → statement M
-square-spec = tie.close (tie.spec cast-d cast-d-2 sub-d mul-result cast-result returns)
+pub squared-difference-spec : {M : Type 1} → statement M
+squared-difference-spec = tie.close (tie.spec cast-d cast-d-2 sub-d mul-result cast-result returns)

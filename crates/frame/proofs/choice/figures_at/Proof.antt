@@ -1,4 +1,4 @@
--- `seen` meets its contract.
+-- `figures_at` meets its contract.
 use borrow.Author.Needs.{needs}
 use mathlib.Core.Path.{_≡_, sym, ap, _∙_, subst}
 use Prim.Native.Nat.{ℕ, _-_, _/_, _^_, _≤_, _<_}
@@ -12,15 +12,16 @@ use mir.Syntax.{w32, w64}
 use mir.Val.{Fits, SFits, toZ, ofZ}
 use mir.Facts.{toZ-ofZ}
 use Rattle.whole.proofs.Values.{shr-fits}
-use Rattle.frame.specs.Lanes.{Shown, seenOf}
-use Rattle.frame.proofs.choice.seen.Statement.{statement}
-use Rattle.frame.proofs.choice.seen.Tie as tie
+use Rattle.frame.specs.inner.Lanes.{Shown, figuresAt}
+use Rattle.frame.proofs.choice.figures_at.Statement.{statement}
+use Rattle.frame.proofs.choice.figures_at.Tie as tie
 
 top-fits : (c : tie.After-top) → SFits w32 (getD (c .before .before .before .before .args .t .top) (c .before .before .before .before .args .k) (pos 0))
 top-fits c = record { sfits = c .top .given }
 
 -- the shifted top
-shifted : (c : tie.After-top) → toZ w32 (ofZ w32 (shrZ (toZ w32 (ofZ w32 (getD (c .before .before .before .before .args .t .top) (c .before .before .before .before .args .k) (pos 0)))) (2 ^ c .before .before .before .before .args .p))) ≡ pos (c .before .before .before .before .pre .1 .1 .most / 2 ^ c .before .before .before .before .args .p)
+shifted : (c : tie.After-top) → let s = c .before .before .before .before in
+    toZ w32 (ofZ w32 (shrZ (toZ w32 (ofZ w32 (getD (s .args .t .top) (s .args .k) (pos 0)))) (2 ^ s .args .p))) ≡ pos (s .pre .1 .1 .most / 2 ^ s .args .p)
 shifted c =
     let s = c .before .before .before .before in
     rw (toZ-ofZ (top-fits c)) (toZ-ofZ (shr-fits (2 ^ s .args .p) (top-fits c)) ∙ ap (λ (z : ℤ). shrZ z (2 ^ s .args .p)) (s .pre .1 .1 .top-is))
@@ -73,14 +74,14 @@ add-t25 : tie.Need-add-t25
 add-t25 c = let r = c .before .before .before .before .before .pre .1 .1 in omega (arith, r .high-le, r .low-le)
 
 returns : tie.Need-returns
-unfolding seenOf
+unfolding figuresAt
 returns c =
     let s = c .before .before .before .before .before in
     let o = c .above-seven .ensures ∙ ap (λ (z : ℤ). natAbs z - 7) (shifted (c .before)) ∙ ap (λ (z : ℤ). natAbs z / 2 ^ s .args .p - 7) (sym (s .pre .1 .1 .top-is)) in
     rw (o, toZ-ofZ (top-fits (c .before)))
 
-pub seen-spec : {M : Type 1} → statement M
-seen-spec =
+pub figures-at-spec : {M : Type 1} → statement M
+figures-at-spec =
     tie.close
     (tie.spec
     mul-top

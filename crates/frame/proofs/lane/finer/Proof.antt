@@ -1,4 +1,4 @@
--- `finer_of` meets its contract: each value of the code with its number and its size.
+-- `finer` meets its contract: each value of the code with its number and its size.
 use mathlib.Core.Path.{_≡_, sym, _∙_}
 use Prim.Native.Nat.{ℕ}
 use lib.IntN.{ℤ, pos, _+ℤ_, _-ℤ_, _*ℤ_}
@@ -6,10 +6,10 @@ use mir.Syntax.{w32}
 use mir.Val.{toZ, ofZ}
 use mir.Facts.{toZ-ofZ}
 use Rattle.whole.proofs.Values.{Is, is-sized, is-lit, is-mul, chk-mul, is-add, chk-add, is-sub, chk-sub, is-shr}
-use Rattle.frame.specs.Lanes.{finer}
+use Rattle.frame.specs.inner.Lanes.{finer}
 use Rattle.frame.proofs.LawsLane.{unit-is}
-use Rattle.frame.proofs.lane.finer_of.Statement.{statement}
-use Rattle.frame.proofs.lane.finer_of.Tie as tie
+use Rattle.frame.proofs.lane.finer.Statement.{statement}
+use Rattle.frame.proofs.lane.finer.Tie as tie
 
 d-is : (c : tie.Start) → Is w32 (ofZ w32 (c .args .d)) (c .args .d) 2080374784
 d-is c = is-sized (c .args .d) (c .pre .0) tt
@@ -46,7 +46,7 @@ returns-2 c =
     let t = rw (toZ-ofZ (s .fits .d)) at (c .if1 .left) in
     rw t (is-shr (is-add (d-is s) (half-is s) tt) 2048 tt .is)
 
-pub finer-of-spec : {M : Type 1} → statement M
-finer-of-spec =
+pub finer-spec : {M : Type 1} → statement M
+finer-spec =
     tie.close
     (tie.spec mul-result add-result sub-result returns mul-result-2 add-result-2 returns-2)

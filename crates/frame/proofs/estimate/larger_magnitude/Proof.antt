@@ -1,12 +1,12 @@
--- `larger_of` meets its contract: it compares the magnitudes.
+-- `larger_magnitude` meets its contract: it compares the magnitudes.
 use mathlib.Core.Path.{_≡_, ap, _∙_}
 use native.Mathlib.Omega.{arith}
 use lib.IntN.{natAbs}
 use mir.Facts.{toZ-ofZ}
 use Rattle.whole.proofs.Values.{is-16, is-in, is-size, chk-cast}
-use Rattle.frame.proofs.LawsEstimate.{larger-yes, larger-no}
-use Rattle.frame.proofs.estimate.larger_of.Statement.{statement}
-use Rattle.frame.proofs.estimate.larger_of.Tie as tie
+use Rattle.frame.proofs.LawsEstimate.{larger-magnitude-yes, larger-magnitude-no}
+use Rattle.frame.proofs.estimate.larger_magnitude.Statement.{statement}
+use Rattle.frame.proofs.estimate.larger_magnitude.Tie as tie
 
 first : (c : tie.After-magnitude) → c .magnitude .result ≡ natAbs (c .before .args .d)
 first c = c .magnitude .ensures ∙ ap natAbs (is-16 (c .before .fits .d) .is)
@@ -27,13 +27,13 @@ magnitude-requires-2 : tie.Need-magnitude-requires-2
 magnitude-requires-2 c κs = omega (arith, is-size (is-16 (c .before .fits .e)))
 
 returns : tie.Need-returns
-returns c = rw (toZ-ofZ (c .before .before .before .fits .e)) (larger-yes _ _ (omega (arith, first (c .before .before), second (c .before))))
+returns c = rw (toZ-ofZ (c .before .before .before .fits .e)) (larger-magnitude-yes _ _ (omega (arith, first (c .before .before), second (c .before))))
 
 returns-2 : tie.Need-returns-2
-returns-2 c = rw (toZ-ofZ (c .before .before .before .fits .d)) (larger-no _ _ (omega (arith, first (c .before .before), second (c .before))))
+returns-2 c = rw (toZ-ofZ (c .before .before .before .fits .d)) (larger-magnitude-no _ _ (omega (arith, first (c .before .before), second (c .before))))
 
-pub larger-of-spec : {M : Type 1} → statement M
-larger-of-spec =
+pub larger-magnitude-spec : {M : Type 1} → statement M
+larger-magnitude-spec =
     tie.close
     (tie.spec
     cast-magnitude

@@ -1,3 +1,4 @@
+-- `halvings` meets its contract. The invariant: the halvings made and those left are those of d.
 use mathlib.Core.Path.{_≡_, refl, sym, ap, _∙_}
 use Prim.Native.Nat.{ℕ, _-_, _+_, _≤_}
 use native.Mathlib.Omega.{arith}
@@ -9,10 +10,10 @@ use borrow.Author.Needs.{needs}
 use Rattle.whole.proofs.Values.{quot-fits}
 use Rattle.frame.specs.Estimate.{halvingsWithin, halvings}
 use Rattle.frame.proofs.LawsEstimate.{halve-step, halve-left, halve-stop}
-use Rattle.frame.proofs.estimate.count_halvings.Statement.{statement}
-use Rattle.frame.proofs.estimate.count_halvings.Tie as tie
-use Rattle.frame.proofs.estimate.count_halvings.Reads as reads
-use Rattle.frame.proofs.estimate.count_halvings.Lts as lts
+use Rattle.frame.proofs.estimate.halvings.Statement.{statement}
+use Rattle.frame.proofs.estimate.halvings.Tie as tie
+use Rattle.frame.proofs.estimate.halvings.Reads as reads
+use Rattle.frame.proofs.estimate.halvings.Lts as lts
 use Rattle.frame.proofs.estimate.is_small.Reads as is-small-reads
 
 abbrev Inv-loop : tie.InvT-loop
@@ -54,8 +55,8 @@ returns-2 c =
     let inv = c .before .before .before .loop .inv in
     rw (toZ-ofZ (c .before .before .before .before .fits .d)) at (halve-stop _ _ _ (sym (c .before .is-small .ensures) ∙ c .if1 .taken) (inv .2))
 
-pub count-halvings-spec : {M : Type 1} → statement M
-count-halvings-spec =
+pub halvings-spec : {M : Type 1} → statement M
+halvings-spec =
     tie.close
     (tie.spec
     Inv-loop

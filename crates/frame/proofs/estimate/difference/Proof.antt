@@ -1,4 +1,4 @@
--- `differ` meets its contract: the weighted sum fits, and its quotient too.
+-- `difference` meets its contract: the weighted sum fits, and its quotient too.
 use borrow.Author.Needs.{needs}
 use mathlib.Core.Path.{_≡_, ap, _∙_}
 use Prim.Native.Nat.{ℕ, _≤_}
@@ -11,16 +11,16 @@ use mir.Val.{toZ, ofZ}
 use mir.Facts.{toZ-ofZ}
 use Rattle.whole.specs.Whole.{clamp16, towardsZero}
 use Rattle.whole.proofs.Values.{Is, is-16, is-in, is-call, is-sub, chk-sub, chk-cast, abs-quot}
-use Rattle.frame.specs.Estimate.{weighted, difference}
-use Rattle.frame.proofs.LawsEstimate.{weighted-any}
-use Rattle.frame.proofs.estimate.differ.Statement.{statement}
-use Rattle.frame.proofs.estimate.differ.Tie as tie
+use Rattle.frame.specs.Estimate.{weigh, difference}
+use Rattle.frame.proofs.LawsEstimate.{weigh-any}
+use Rattle.frame.proofs.estimate.difference.Statement.{statement}
+use Rattle.frame.proofs.estimate.difference.Tie as tie
 
 abbrev sum : tie.Start → ℤ
-sum s = weighted (s .args .c0) (s .args .c1) (s .args .previous) (s .args .before)
+sum s = weigh (s .args .c0) (s .args .c1) (s .args .previous) (s .args .before)
 
 sum-size : (s : tie.Start) → natAbs (sum s) ≤ 2147483648
-sum-size s = let f = s .fits in weighted-any _ _ _ _ (f .c0) (f .c1) (f .previous) (f .before)
+sum-size s = let f = s .fits in weigh-any _ _ _ _ (f .c0) (f .c1) (f .previous) (f .before)
 
 w-is : (c : tie.After-weigh) → Is w64 (ofZ w64 (c .weigh .result)) (sum (c .before)) 2147483648
 w-is c =
@@ -53,8 +53,8 @@ returns c =
     rw (toZ-ofZ (record { sfits = c .clamp-i16 .ok }))
     (c .clamp-i16 .ensures ∙ ap clamp16 (is-sub (is-16 (c .before .before .before .fits .sample)) (q-is (c .before)) tt .is))
 
-pub differ-spec : {M : Type 1} → statement M
-differ-spec =
+pub difference-spec : {M : Type 1} → statement M
+difference-spec =
     tie.close
     (tie.spec
     weigh-requires
