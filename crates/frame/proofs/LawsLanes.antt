@@ -18,7 +18,7 @@ use mir.Syntax.{w16}
 use mir.Val.{SFits}
 use Rattle.whole.specs.Whole.{clamp16, floored}
 use Rattle.whole.proofs.Values.{abs-sfits}
-use Rattle.whole.proofs.Laws.{clamp-fits}
+use Rattle.whole.proofs.Clamping.{clamp-fits}
 use Rattle.whole.specs.declared.History.{History}
 use Rattle.frame.specs.declared.pass.Pass.{Pass}
 use Rattle.frame.specs.declared.pass.Step.{Step}
