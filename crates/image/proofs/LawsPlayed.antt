@@ -10,10 +10,9 @@ use Rattle.block.specs.Address.{addressToSample}
 use Rattle.block.specs.Frame.{Lent, lent}
 use Rattle.block.specs.Play as Block
 use Rattle.block.specs.Play.{playInto}
-use Rattle.block.specs.Refusals as Tests
 use Rattle.block.proofs.LawsCalls.{play-done, play-out}
 use Rattle.block.proofs.LawsPlay.{play-count}
-use Rattle.whole.specs.Outcome.{accepted}
+use Rattle.whole.specs.Outcome.{Outcome, accepted}
 use Rattle.image.specs.Reading.{coefficientsIn, lengthIn}
 use Rattle.image.specs.inner.Asked.{Found, Playable}
 use Rattle.image.specs.Bodies.{bodyIn}
@@ -31,13 +30,13 @@ module _ (l : List ℕ) (k : ℕ) (out : List ℤ) (p : Playable l k (length out
   play-leaves = rw (play-accepts l k (length out) p)
 
   -- what the call of playing bytes left, with what was read for it
-  pub bytes-made : (n : ℕ) (cs : List ℤ) (c after : FrameContext) (body : List ℕ) (o : Tests.Outcome) (left : List ℤ)
+  pub bytes-made : (n : ℕ) (cs : List ℤ) (c after : FrameContext) (body : List ℕ) (o : Outcome ℕ) (left : List ℤ)
       → n ≡ lengthIn l k → cs ≡ coefficientsIn l → c ≡ contextIn l k → body ≡ bodyIn l k
       → Block.playEffect o (lent after left) ≡ Block.playBytes body n cs c out → lent after left ≡ leaves
   bytes-made n cs c after body o left en ec ex eb e =
-      let d : Block.playEffect (Tests.accepted (addressToSample (lengthIn l k))) leaves ≡ Block.playBytes (bodyIn l k) (lengthIn l k) (coefficientsIn l) (contextIn l k) out =
+      let d : Block.playEffect (accepted (addressToSample (lengthIn l k))) leaves ≡ Block.playBytes (bodyIn l k) (lengthIn l k) (coefficientsIn l) (contextIn l k) out =
       play-done (bodyIn l k) (lengthIn l k) (coefficientsIn l) (contextIn l k) out (addressToSample (lengthIn l k)) leaves (found-good l k (p .found)) (p .pairs) (p .enough) refl refl in
-      let q : Block.playEffect o (lent after left) ≡ Block.playEffect (Tests.accepted (addressToSample (lengthIn l k))) leaves = (rw (en, ec, ex, eb) at e) ∙ sym d in
+      let q : Block.playEffect o (lent after left) ≡ Block.playEffect (accepted (addressToSample (lengthIn l k))) leaves = (rw (en, ec, ex, eb) at e) ∙ sym d in
       ap (λ (x : Block.PlayEffect). lent (x .context) (x .out)) q
 
   -- the call's effect, with the count that was worked out

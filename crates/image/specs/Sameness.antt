@@ -32,7 +32,7 @@ unfoldable pub equalSamples : List ℤ → List ℤ → Bool
 equalSamples [] [] = true
 equalSamples [] (y ∷ ys) = false
 equalSamples (x ∷ xs) [] = false
-equalSamples (x ∷ xs) (y ∷ ys) = Tests.same x y && equalSamples xs ys
+equalSamples (x ∷ xs) (y ∷ ys) = Tests.equal x y && equalSamples xs ys
 
 -- "N is equal and the played samples are equal"
 unfoldable pub sameSound : List ℕ → List ℕ → Bool

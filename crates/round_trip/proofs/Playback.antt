@@ -16,9 +16,10 @@ use Rattle.whole.specs.declared.History.{History}
 use Rattle.frame.proofs.LawsEncoded.{history-step, frame-lengths, header-parts, index-le, frame-played}
 use Rattle.frame.specs.Fits.{Fit, FitHistory}
 use Rattle.block.specs.declared.FrameContext.{FrameContext}
-use Rattle.block.specs.Context.{predictorOf, scaleOf, contextWith, pushSample}
+use Rattle.block.specs.Context.{predictor, scale, contextWith, pushSample}
 use Rattle.block.specs.Frame as played
-use Rattle.block.specs.Frame.{Playing, playing, nibblesFrom, nextSample, takeNibble, playFrame}
+use Rattle.block.specs.Frame.{Playing, playing, nextSample, takeNibble}
+use Rattle.block.specs.inner.Frames.{nibblesFrom, playFrame}
 use Rattle.block.specs.Sample as sample
 use Rattle.block.proofs.LawsFrame.{nibbles-append}
 

@@ -1,6 +1,6 @@
 -- `played_frame` meets its contract. Assumes nothing.
 use mathlib.Core.Path.{_≡_, ap}
-use Rattle.block.specs.Frame.{Lent, frameInto}
+use Rattle.block.specs.Frame.{Lent}
 use Rattle.image.specs.declared.comparing.Frame.{Frame}
 use Rattle.image.specs.inner.ByFrames.{playedFrame}
 use borrow.Author.Needs.{needs}
@@ -14,7 +14,7 @@ play-frame-requires : tie.Need-play-frame-requires
 play-frame-requires c κs = search needs
 
 returns : tie.Need-returns
-unfolding playedFrame frameInto
+unfolding playedFrame
 returns c = ap (λ (x : Lent). record { samples = x .out; context = x .context }) (c .before .play-frame .ensures)
 
 pub played-frame-spec : {M : Type 1} → statement M
