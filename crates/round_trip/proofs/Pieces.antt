@@ -13,10 +13,9 @@ use Rattle.whole.specs.Frames.{most, framesOf}
 use Rattle.coefficients.specs.Runs as measured
 use Rattle.coefficients.specs.Runs.{coefficientsOf, measures, asks}
 use Rattle.coefficients.proofs.EachCoefficient.{finish-length}
-use Rattle.clip.specs.declared.Answer as encoding
-use Rattle.clip.specs.declared.Answer.the-variants as Encoding
 use Rattle.clip.specs.Runs as encoded
-use Rattle.clip.specs.Runs.{Start, plain, feeds, closes, plainAfter}
+use Rattle.clip.specs.declared.starting.Start.{Start}
+use Rattle.clip.specs.Runs.{plain, feeds, closes, plainAfter}
 use Rattle.round_trip.specs.Job.{joined, measuringCalls, encodingCalls, lastCoefficients, encodingAnswers}
 
 pub coefficients-length : (xs : List ℤ) → length (coefficientsOf xs) ≡ 16
@@ -64,32 +63,32 @@ last-answer (suc (suc n)) cs = last-answer (suc n) cs
 -- ---- encoded
 
 module _ (g : Start) where
-  feed-fits : (xs p : List ℤ) → length xs + length p ≤ g .total → encoded.plainAnswer g (plain xs false) (feeds p) ≡ Encoding.Accepted
+  feed-fits : (xs p : List ℤ) → length xs + length p ≤ g .total → encoded.plainAnswer g (plain xs false) (feeds p) ≡ accepted tt
   feed-fits xs p h = rw (le-ltb (g .total - length xs) (length p) (omega arith))
 
-  close-fits : (xs : List ℤ) → length xs ≡ g .total → encoded.plainAnswer g (plain xs false) closes ≡ Encoding.Accepted
+  close-fits : (xs : List ℤ) → length xs ≡ g .total → encoded.plainAnswer g (plain xs false) closes ≡ accepted tt
   close-fits xs h = rw (le-ltb (length xs) (g .total) (omega arith))
 
   pub encoded-after : (ps : List (List ℤ)) (xs : List ℤ) → length xs + length (joined ps) ≡ g .total → plainAfter g (plain xs false) (encodingCalls ps) ≡ plain (xs ++ joined ps) true
   unfolding encodingCalls joined plainAfter
   encoded-after [] xs h =
       let n : length xs ≡ g .total = omega arith in
-      ap (λ (a : encoding.Answer). encoded.plainNext a (plain xs false) closes) (close-fits xs n) ∙ ap (λ (l : List ℤ). plain l true) (sym (append-nil xs))
+      ap (λ (a : Outcome Unit). encoded.plainNext a (plain xs false) closes) (close-fits xs n) ∙ ap (λ (l : List ℤ). plain l true) (sym (append-nil xs))
   encoded-after (p ∷ ps) xs h =
       let n = length-append p (joined ps) in
       let m = length-append xs p in
-      ap (λ (a : encoding.Answer). plainAfter g (encoded.plainNext a (plain xs false) (feeds p)) (encodingCalls ps)) (feed-fits xs p (omega arith))
+      ap (λ (a : Outcome Unit). plainAfter g (encoded.plainNext a (plain xs false) (feeds p)) (encodingCalls ps)) (feed-fits xs p (omega arith))
       ∙ encoded-after ps (xs ++ p) (omega arith)
       ∙ ap (λ (l : List ℤ). plain l true) (append-assoc xs p (joined ps))
 
   pub encoded-answers : (ps : List (List ℤ)) (xs : List ℤ) → length xs + length (joined ps) ≡ g .total
-      → encodingAnswers (encoded.plainRun g (plain xs false) (encodingCalls ps)) ≡ replicate (suc (length ps)) Encoding.Accepted
+      → encodingAnswers (encoded.plainRun g (plain xs false) (encodingCalls ps)) ≡ replicate (suc (length ps)) (accepted tt)
   unfolding encodingCalls joined encodingAnswers encoded.plainRun
   encoded-answers [] xs h =
       let n : length xs ≡ g .total = omega arith in
-      ap (λ (a : encoding.Answer). a ∷ []) (close-fits xs n)
+      ap (λ (a : Outcome Unit). a ∷ []) (close-fits xs n)
   encoded-answers (p ∷ ps) xs h =
       let n = length-append p (joined ps) in
       let m = length-append xs p in
-      ap (λ (a : encoding.Answer). a ∷ encodingAnswers (encoded.plainRun g (encoded.plainNext a (plain xs false) (feeds p)) (encodingCalls ps))) (feed-fits xs p (omega arith))
-      ∙ ap (λ (more : List encoding.Answer). Encoding.Accepted ∷ more) (encoded-answers ps (xs ++ p) (omega arith))
+      ap (λ (a : Outcome Unit). a ∷ encodingAnswers (encoded.plainRun g (encoded.plainNext a (plain xs false) (feeds p)) (encodingCalls ps))) (feed-fits xs p (omega arith))
+      ∙ ap (λ (more : List (Outcome Unit)). accepted tt ∷ more) (encoded-answers ps (xs ++ p) (omega arith))

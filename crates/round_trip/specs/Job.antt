@@ -9,7 +9,6 @@ use Rattle.whole.specs.declared.History.{History}
 use Rattle.whole.specs.Outcome.{Outcome, accepted, refused}
 use Rattle.coefficients.specs.Runs as measured
 use Rattle.coefficients.specs.Runs.{measures, asks}
-use Rattle.clip.specs.declared.Answer.{Answer}
 use Rattle.clip.specs.Runs as encoded
 use Rattle.clip.specs.Runs.{feeds, closes}
 
@@ -17,6 +16,7 @@ use Rattle.clip.specs.Runs.{feeds, closes}
 abbrev pub Sampled : List ℤ → Type 0
 Sampled xs = (i : ℕ) → SFits w16 (getD xs i (pos 0))
 
+-- the starting history is of such numbers
 abbrev pub Starting : History → Type 0
 Starting h = SFits w16 (h .newest) × SFits w16 (h .older)
 
@@ -43,7 +43,6 @@ lastCoefficients (refused n ∷ []) = []
 lastCoefficients (o ∷ q ∷ os) = lastCoefficients (q ∷ os)
 
 -- what each call answered
-
-unfoldable pub encodingAnswers : List encoded.Seen → List Answer
+unfoldable pub encodingAnswers : List encoded.Seen → List (Outcome Unit)
 encodingAnswers [] = []
-encodingAnswers (s ∷ ss) = s .answer ∷ encodingAnswers ss
+encodingAnswers (s ∷ ss) = s .outcome ∷ encodingAnswers ss

@@ -11,16 +11,21 @@ use Rattle.block.specs.Address.{addressToSample, sampleToAddress}
 use Rattle.block.specs.Context.{predictor, scale, contextWith}
 use Rattle.block.specs.Play.{play}
 use Rattle.whole.specs.Whole.{signedNibble}
-use Rattle.layout.specs.Sizes.{sizeOf}
-use Rattle.clip.specs.Encoding.{startOf}
-use Rattle.clip.specs.Runs.{feeds, closes, left, after}
+use Rattle.layout.specs.Sizes.{shape, imageSize}
+use Rattle.clip.specs.declared.starting.Start.{Start}
+use Rattle.clip.specs.Encoding.{start}
+use Rattle.clip.specs.Runs.{feeds, closes, leftBy, after}
 use Rattle.image.specs.Sameness.{samplesIn}
 
 -- the starting history
 abbrev pub silence : History
 silence = record { newest = pos 0; older = pos 0 }
 
--- "That sample 9 as a clip with gain 0, rate 32,000, size 15"
+-- what the clip of that sample 9 is started with: "gain 0, rate 32,000, size 15"
+abbrev pub ofNine : Start
+ofNine = record { total = 1; rate = 32000; block = 15; gain = 0; coefficients = replicate 16 (pos 0); history = silence }
+
+-- "That sample 9 as a clip"
 abbrev pub nine : List ℕ
 nine =
     0x44 ∷ 0x53 ∷ 0x50 ∷ 0x43 ∷ 0x00 ∷ 0x00 ∷ 0x00 ∷ 0x01 ∷ 0x00 ∷ 0x00 ∷ 0x7D ∷ 0x00 ∷ 0x00 ∷ 0x00 ∷ 0x00 ∷ 0x08 ∷ (replicate 36 0
@@ -44,7 +49,7 @@ pub record WorkedNumbers : Type 0 where
   -- "(played −8)", "(played 8)"
   pub playing : (heard 0x00 0x80 ≡ negsuc 7 ∷ []) × (heard 0x01 0x40 ≡ pos 8 ∷ [])
   -- "S: N = 1, 74; N = 14, 80; N = 15, 98 with B = 8, 82 with B = 16"
-  pub sizes : (sizeOf 1 8 ≡ 74) × (sizeOf 14 8 ≡ 80) × (sizeOf 15 8 ≡ 98) × (sizeOf 15 16 ≡ 82)
+  pub sizes : (imageSize (shape 1 8) ≡ 74) × (imageSize (shape 14 8) ≡ 80) × (imageSize (shape 15 8) ≡ 98) × (imageSize (shape 15 16) ≡ 82)
   -- the image of that sample 9, in any buffer that has room for it; and what is heard of it
-  pub image : (l : List ℕ) → 74 ≤ length l → after (left (startOf 1 32000 15 0 (replicate 16 (pos 0)) silence l)) (feeds (pos 9 ∷ []) ∷ closes ∷ []) .bytes ≡ nine ++ drop 74 l
+  pub image : (l : List ℕ) → 74 ≤ length l → after (leftBy (start ofNine l)) (feeds (pos 9 ∷ []) ∷ closes ∷ []) .bytes ≡ nine ++ drop 74 l
   pub sound : samplesIn nine ≡ pos 8 ∷ []

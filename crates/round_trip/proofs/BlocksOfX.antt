@@ -12,21 +12,23 @@ use lib.ListN.{length, getD, take, length-append, List·getD-append}
 use lib.Seq.{take-all, getD-append-add, length-take-le, getD-take}
 use Rattle.block.specs.Frame.{playing}
 use Rattle.block.specs.Play.{play}
-use Rattle.layout.specs.Sizes.{lastOf, blocksOf, bodyOf, offsetOf, lengthOf}
+use Rattle.layout.specs.Sizes.{shape, bodiesPlace, lastSamples, blockCount, bodyBytes, blockOffset, blockLength}
 use Rattle.whole.specs.Frames.{framesOf}
 use Rattle.layout.specs.Fields.{mark}
 use Rattle.layout.specs.Limits.{Limits}
-use Rattle.clip.specs.Runs.{Start, encodedAt}
-use Rattle.layout.proofs.Sizing.{block-first, block-place, blocks-all, frames-some}
-use Rattle.clip.proofs.Built.{Fine, built}
-use Rattle.round_trip.proofs.Readback.{body-at}
-use Rattle.round_trip.proofs.Replay.{Audible, Holding, soundFrom, contextBefore, contextWithin, samples-length, sound-length, sound-at, sound-then, sample-near, block-held}
+use Rattle.clip.specs.Image.{startShape}
+use Rattle.clip.specs.declared.starting.Start.{Start}
+use Rattle.clip.specs.Runs.{encodedAt}
+use Rattle.layout.proofs.SizeLaws.{block-first, block-place, blocks-all, frames-some}
+use Rattle.clip.proofs.ImageByFrames.{Fine, built}
+use Rattle.round_trip.proofs.FieldsReadBack.{body-at}
+use Rattle.round_trip.proofs.FramesPlayed.{Audible, Holding, soundFrom, contextBefore, contextWithin, samples-length, sound-length, sound-at, sound-then, sample-near, block-held}
 
 -- ---- the frames of a block
 
 -- a frame's first byte is among the bodies
-pub frame-place : (n q : ℕ) → q < framesOf n → 8 * q + 0 < bodyOf n
-unfolding bodyOf
+pub frame-place : (n q : ℕ) → q < framesOf n → 8 * q + 0 < bodyBytes n
+unfolding bodyBytes
 frame-place n q h = omega arith
 
 -- whole frames before the last one of block j, and the samples of that last one
@@ -34,26 +36,26 @@ unfoldable pub wholes : ℕ → ℕ → ℕ → ℕ
 wholes n b j = cond (ltb (j * (b / 8) + b / 8) (framesOf n)) (b / 8 - 1) (framesOf n - 1 - j * (b / 8))
 
 unfoldable pub ending : ℕ → ℕ → ℕ → ℕ
-ending n b j = cond (ltb (j * (b / 8) + b / 8) (framesOf n)) 14 (lastOf n)
+ending n b j = cond (ltb (j * (b / 8) + b / 8) (framesOf n)) 14 (lastSamples n)
 
-last-few : (n : ℕ) → lastOf n ≤ 14
-unfolding lastOf framesOf
+last-few : (n : ℕ) → lastSamples n ≤ 14
+unfolding lastSamples framesOf
 last-few n = omega arith
 
-body-is : (n : ℕ) → bodyOf n ≡ 8 * (framesOf n - 1) + (lastOf n + 3) / 2
-unfolding bodyOf
+body-is : (n : ℕ) → bodyBytes n ≡ 8 * (framesOf n - 1) + (lastSamples n + 3) / 2
+unfolding bodyBytes
 body-is n = omega arith
 
-module _ (n b j : ℕ) (L : Limits n b) (few : j < blocksOf n b) where
+module _ (n b j : ℕ) (L : Limits (shape n b)) (few : j < blockCount (shape n b)) where
   -- what block j is, where another comes after it and where it is the last
-  pub block-parts : (lengthOf n b j ≡ 16 * wholes n b j + (ending n b j + 2)) × (ending n b j ≤ 14) × (8 * (j * (b / 8)) + (8 * wholes n b j + (ending n b j + 3) / 2) ≤ bodyOf n) × (j * (b / 8) + wholes n b j < framesOf n)
-  unfolding lengthOf wholes ending
+  pub block-parts : (blockLength (shape n b) j ≡ 16 * wholes n b j + (ending n b j + 2)) × (ending n b j ≤ 14) × (8 * (j * (b / 8)) + (8 * wholes n b j + (ending n b j + 3) / 2) ≤ bodyBytes n) × (j * (b / 8) + wholes n b j < framesOf n)
+  unfolding blockLength wholes ending
   block-parts = go (ltb (j * (b / 8) + b / 8) (framesOf n)) refl
     where
       go : (t : Bool) → ltb (j * (b / 8) + b / 8) (framesOf n) ≡ t
-          → (cond t (16 * (b / 8)) (16 * (framesOf n - 1 - j * (b / 8)) + (lastOf n + 2)) ≡ 16 * cond t (b / 8 - 1) (framesOf n - 1 - j * (b / 8)) + (cond t 14 (lastOf n) + 2))
-          × (cond t 14 (lastOf n) ≤ 14)
-          × (8 * (j * (b / 8)) + (8 * cond t (b / 8 - 1) (framesOf n - 1 - j * (b / 8)) + (cond t 14 (lastOf n) + 3) / 2) ≤ bodyOf n)
+          → (cond t (16 * (b / 8)) (16 * (framesOf n - 1 - j * (b / 8)) + (lastSamples n + 2)) ≡ 16 * cond t (b / 8 - 1) (framesOf n - 1 - j * (b / 8)) + (cond t 14 (lastSamples n) + 2))
+          × (cond t 14 (lastSamples n) ≤ 14)
+          × (8 * (j * (b / 8)) + (8 * cond t (b / 8 - 1) (framesOf n - 1 - j * (b / 8)) + (cond t 14 (lastSamples n) + 3) / 2) ≤ bodyBytes n)
           × (j * (b / 8) + cond t (b / 8 - 1) (framesOf n - 1 - j * (b / 8)) < framesOf n)
       go true e =
           let h = ltb-true (j * (b / 8) + b / 8) (framesOf n) e in
@@ -61,7 +63,7 @@ module _ (n b j : ℕ) (L : Limits n b) (few : j < blocksOf n b) where
           let m = last-few n in
           (omega arith, omega arith, omega (arith, body-is n), omega arith)
       go false e =
-          let f = block-first n b j L few in
+          let f = block-first (shape n b) j L few in
           let m = last-few n in
           (refl, m, omega (arith, body-is n), omega arith)
 
@@ -71,8 +73,8 @@ unfolding framesOf
 frame-of n i h = omega arith
 
 -- a sample of the last frame
-last-place : (n i : ℕ) → i < n → framesOf n - 1 ≤ i / 14 → (i / 14 ≡ framesOf n - 1) × (i % 14 < lastOf n)
-unfolding lastOf framesOf
+last-place : (n i : ℕ) → i < n → framesOf n - 1 ≤ i / 14 → (i / 14 ≡ framesOf n - 1) × (i % 14 < lastSamples n)
+unfolding lastSamples framesOf
 last-place n i h l = (omega arith, omega arith)
 
 -- ---- a block
@@ -94,17 +96,17 @@ module _ (g : Start) (F : Fine g) (xs : List ℤ) (rest : List ℕ) where
   abbrev image : List ℕ
   image = built g mark xs (framesOf (g .total)) ++ rest
 
-  module _ (j : ℕ) (few : j < blocksOf (g .total) (g .block)) (bytes : List ℕ)
-      (same : (i : ℕ) → i < (lengthOf (g .total) (g .block) j + 1) / 2 → getD bytes i 0 ≡ getD (built g mark xs (framesOf (g .total)) ++ rest) (offsetOf (g .total) (g .block) j + i) 0) where
+  module _ (j : ℕ) (few : j < blockCount (startShape g)) (bytes : List ℕ)
+      (same : (i : ℕ) → i < (blockLength (startShape g) j + 1) / 2 → getD bytes i 0 ≡ getD (built g mark xs (framesOf (g .total)) ++ rest) (blockOffset (startShape g) j + i) 0) where
     -- its bytes hold its frames
     holds : Holding g xs bytes (j * (g .block / 8)) (8 * wholes (g .total) (g .block) j + (ending (g .total) (g .block) j + 3) / 2)
-    unfolding offsetOf
+    unfolding blockOffset
     holds =
         record {
           at = λ i r l h.
               let p = block-parts n b j (F .limits) few in
               let q = j * (b / 8) in
-              let e : 56 + 16 * blocksOf n b + j * b + (8 * i + r) ≡ 56 + 16 * blocksOf n b + (8 * (j * (b / 8) + i) + r) = omega (arith, block-place b j (F .limits .eights)) in
+              let e : bodiesPlace (shape n b) + j * b + (8 * i + r) ≡ bodiesPlace (shape n b) + (8 * (j * (b / 8) + i) + r) = omega (arith, block-place b j (F .limits .eights)) in
               same (8 * i + r) (omega (arith, p .0))
               ∙ ap (λ (k : ℕ). getD image k 0) e
               ∙ body-at g F xs (framesOf n) rest (j * (b / 8) + i) r (omega (arith, p .1, p .3)) l (omega (arith, p .2));
@@ -112,7 +114,7 @@ module _ (g : Start) (F : Fine g) (xs : List ℤ) (rest : List ℕ) where
 
     -- it plays its frames
     pub block-played : Audible g xs
-        → play bytes (g .coefficients) (lengthOf n b j) (contextBefore g xs (j * (b / 8)))
+        → play bytes (g .coefficients) (blockLength (shape n b) j) (contextBefore g xs (j * (b / 8)))
         ≡ playing (contextWithin g xs (j * (b / 8) + wholes n b j) (ending n b j)) (blockSound g xs j)
     unfolding blockSound
     block-played A =
@@ -129,7 +131,7 @@ blocksSound g xs (suc j) = blocksSound g xs j ++ blockSound g xs j
 
 -- X's reconstruction: all whole frames and the samples of the last one
 unfoldable pub soundOf : Start → List ℤ → List ℤ
-soundOf g xs = soundFrom g xs 0 (framesOf (g .total) - 1) ++ take (lastOf (g .total)) (encodedAt g xs (framesOf (g .total) - 1) .samples)
+soundOf g xs = soundFrom g xs 0 (framesOf (g .total) - 1) ++ take (lastSamples (g .total)) (encodedAt g xs (framesOf (g .total) - 1) .samples)
 
 module _ (g : Start) (F : Fine g) (xs : List ℤ) where
   -- a block that another comes after
@@ -143,38 +145,38 @@ module _ (g : Start) (F : Fine g) (xs : List ℤ) where
       rw (lt-ltb (q + per) (framesOf (g .total)) h, t) (ap (soundFrom g xs q) e)
 
   -- the last block
-  block-last : (j : ℕ) → j < blocksOf (g .total) (g .block) → framesOf (g .total) ≤ j * (g .block / 8) + g .block / 8
+  block-last : (j : ℕ) → j < blockCount (startShape g) → framesOf (g .total) ≤ j * (g .block / 8) + g .block / 8
       → soundFrom g xs 0 (j * (g .block / 8)) ++ blockSound g xs j ≡ soundOf g xs
   unfolding blockSound wholes ending soundOf
   block-last j few h =
       let q = j * (g .block / 8) in
       let f = framesOf (g .total) in
-      let first = block-first (g .total) (g .block) j (F .limits) few in
+      let first = block-first (startShape g) j (F .limits) few in
       let e : q + (f - 1 - q) ≡ f - 1 = omega arith in
       let z : 0 + q ≡ q = zero-add q in
-      let t = take (lastOf (g .total)) (encodedAt g xs (f - 1) .samples) in
+      let t = take (lastSamples (g .total)) (encodedAt g xs (f - 1) .samples) in
       rw (le-ltb (q + g .block / 8) f h, e)
       (sym (append-assoc (soundFrom g xs 0 q) (soundFrom g xs q (f - 1 - q)) t)
       ∙ ap (λ (l : List ℤ). l ++ t) (ap (λ (a : ℕ). soundFrom g xs 0 q ++ soundFrom g xs a (f - 1 - q)) (sym z) ∙ sym (sound-then g xs 0 q (f - 1 - q)) ∙ ap (soundFrom g xs 0) e))
 
-  before-last : (j : ℕ) → j < blocksOf (g .total) (g .block) → blocksSound g xs j ≡ soundFrom g xs 0 (j * (g .block / 8))
+  before-last : (j : ℕ) → j < blockCount (startShape g) → blocksSound g xs j ≡ soundFrom g xs 0 (j * (g .block / 8))
   unfolding blocksSound soundFrom
   before-last zero h = ap (soundFrom g xs 0) (sym (zero-mul (g .block / 8)))
   before-last (suc j) h =
       let q = j * (g .block / 8) in
       let per = g .block / 8 in
       let s = suc-mul j per in
-      let first = block-first (g .total) (g .block) (suc j) (F .limits) h in
+      let first = block-first (startShape g) (suc j) (F .limits) h in
       ap₂ (λ (a c : List ℤ). a ++ c) (before-last j (omega arith)) (block-whole j (omega arith) ∙ ap (λ (a : ℕ). soundFrom g xs a per) (sym (zero-add q)))
       ∙ sym (sound-then g xs 0 q per)
       ∙ ap (soundFrom g xs 0) (sym s)
 
   -- blocks 0 to K-1, in turn
-  pub all-blocks : blocksSound g xs (blocksOf (g .total) (g .block)) ≡ soundOf g xs
+  pub all-blocks : blocksSound g xs (blockCount (startShape g)) ≡ soundOf g xs
   unfolding blocksSound
   all-blocks =
-      let kk = blocksOf (g .total) (g .block) in
-      let all = blocks-all (g .total) (g .block) (F .limits) in
+      let kk = blockCount (startShape g) in
+      let all = blocks-all (startShape g) (F .limits) in
       let some = frames-some (g .total) (F .limits .some) .0 in
       let e : suc (kk - 1) ≡ kk = omega (arith, pos-of kk (g .block / 8) (framesOf (g .total)) some all) in
       let s = suc-mul (kk - 1) (g .block / 8) in
@@ -189,11 +191,11 @@ module _ (g : Start) (F : Fine g) (xs : List ℤ) where
 
   -- as many samples as X has
   pub sound-count : length (soundOf g xs) ≡ g .total
-  unfolding soundOf lastOf framesOf
+  unfolding soundOf lastSamples framesOf
   sound-count =
       let f = framesOf (g .total) - 1 in
-      let t = length-take-le (lastOf (g .total)) (encodedAt g xs f .samples) (omega (arith, samples-length g xs f, last-few (g .total))) in
-      length-append (soundFrom g xs 0 f) (take (lastOf (g .total)) (encodedAt g xs f .samples)) ∙ omega (arith, sound-length g xs 0 f, t, F .limits .some)
+      let t = length-take-le (lastSamples (g .total)) (encodedAt g xs f .samples) (omega (arith, samples-length g xs f, last-few (g .total))) in
+      length-append (soundFrom g xs 0 f) (take (lastSamples (g .total)) (encodedAt g xs f .samples)) ∙ omega (arith, sound-length g xs 0 f, t, F .limits .some)
 
   -- each is one of its frame's
   pub sound-is : (i : ℕ) → i < g .total → getD (soundOf g xs) i (pos 0) ≡ getD (encodedAt g xs (i / 14) .samples) (i % 14) (pos 0)
@@ -204,7 +206,7 @@ module _ (g : Start) (F : Fine g) (xs : List ℤ) where
       f = framesOf (g .total) - 1
 
       m : ℕ
-      m = lastOf (g .total)
+      m = lastSamples (g .total)
 
       place : i ≡ 14 * (i / 14) + i % 14
       place = omega arith

@@ -13,21 +13,22 @@ use mir.ValLaws.{toZ-ofZ}
 use Rattle.frame.specs.Frame.{pairsOk}
 use Rattle.frame.proofs.LawsFrame.{limits-fit}
 use Rattle.layout.specs.Fields.{at16, at32, mark}
-use Rattle.clip.specs.Image.{headOf}
-use Rattle.layout.specs.Sizes.{blocksOf, sizeOf, offsetOf}
+use Rattle.clip.specs.Image.{startShape, headBytes}
+use Rattle.layout.specs.Sizes.{bodiesPlace, blockCount, imageSize, blockOffset}
 use Rattle.whole.specs.Frames.{framesOf}
-use Rattle.clip.specs.Runs.{Start, historyAt, encodedAt}
-use Rattle.layout.proofs.Sizing.{block-first, block-place}
-use Rattle.clip.proofs.Built.{Fine, listed, filled, built, built-length}
-use Rattle.round_trip.proofs.Readback as read
-use Rattle.round_trip.proofs.Sounding.{block-parts}
-use Rattle.round_trip.proofs.Replay.{Audible, contextBefore, history-sampled}
-use Rattle.image.specs.declared.Answer.the-variants.{Accepted}
-use Rattle.image.specs.Reading.{totalIn, rateIn, blockIn, gainIn, zeroIn, blocksIn, signedAt, coefficientsUpTo, coefficientsIn, offsetIn, lengthIn, headerIn, newestIn, olderIn, entryZeroIn}
-use Rattle.image.specs.Opened.{markOk, openAnswer}
-use Rattle.image.specs.Facts.{Headed, Entry, Opens}
-use Rattle.image.specs.Samples.{contextIn}
-use Rattle.image.proofs.Accepting.{opens}
+use Rattle.clip.specs.declared.starting.Start.{Start}
+use Rattle.clip.specs.Runs.{historyAt, encodedAt}
+use Rattle.layout.proofs.SizeLaws.{block-first, block-place}
+use Rattle.clip.proofs.ImageByFrames.{Fine, listed, filled, built, built-length}
+use Rattle.round_trip.proofs.FieldsReadBack as read
+use Rattle.round_trip.proofs.BlocksOfX.{block-parts}
+use Rattle.round_trip.proofs.FramesPlayed.{Audible, contextBefore, history-sampled}
+use Rattle.whole.specs.Outcome.{accepted}
+use Rattle.image.specs.Reading.{shapeIn, totalIn, rateIn, blockIn, gainIn, zeroIn, blocksIn, signedAt, coefficientsUpTo, coefficientsIn, offsetIn, lengthIn, headerIn, newestIn, olderIn, entryZeroIn}
+use Rattle.image.specs.Opening.{markOk, openAnswer}
+use Rattle.image.specs.inner.Asked.{Headed, Entry, Opens}
+use Rattle.image.specs.Playing.{contextIn}
+use Rattle.image.proofs.OpenImages.{opens}
 
 -- ---- the fields of the closed image
 
@@ -38,35 +39,35 @@ module _ (g : Start) (F : Fine g) (xs : List ℤ) (rest : List ℕ) where
   abbrev tail : List ℕ
   tail = listed g xs (framesOf (g .total)) ++ (filled g xs (framesOf (g .total)) ++ rest)
 
-  parts : image ≡ headOf mark (g .total) (g .rate) (g .block) (g .coefficients) (g .gain) ++ tail
+  parts : image ≡ headBytes mark g ++ tail
   parts = read.parts g F xs (framesOf (g .total)) rest
 
   pub total-is : totalIn image ≡ g .total
   unfolding totalIn
-  total-is = ap (λ (l : List ℕ). at32 l 4) parts ∙ read.head-total (g .total) (g .rate) (g .block) (g .coefficients) (g .gain) tail (F .sixteen)
+  total-is = ap (λ (l : List ℕ). at32 l 4) parts ∙ read.head-total g tail (F .sixteen)
 
   pub rate-is : rateIn image ≡ g .rate
   unfolding rateIn
-  rate-is = ap (λ (l : List ℕ). at32 l 8) parts ∙ read.head-rate (g .total) (g .rate) (g .block) (g .coefficients) (g .gain) tail (F .sixteen)
+  rate-is = ap (λ (l : List ℕ). at32 l 8) parts ∙ read.head-rate g tail (F .sixteen)
 
   pub block-is : blockIn image ≡ g .block
   unfolding blockIn
-  block-is = ap (λ (l : List ℕ). at32 l 12) parts ∙ read.head-block (g .total) (g .rate) (g .block) (g .coefficients) (g .gain) tail (F .sixteen)
+  block-is = ap (λ (l : List ℕ). at32 l 12) parts ∙ read.head-block g tail (F .sixteen)
 
   pub gain-is : gainIn image ≡ g .gain
   unfolding gainIn
-  gain-is = ap (λ (l : List ℕ). at16 l 48) parts ∙ read.head-gain (g .total) (g .rate) (g .block) (g .coefficients) (g .gain) tail (F .sixteen)
+  gain-is = ap (λ (l : List ℕ). at16 l 48) parts ∙ read.head-gain g tail (F .sixteen)
 
   zeros-are : zeroIn image ≡ 0
   unfolding zeroIn
-  zeros-are = ap (λ (l : List ℕ). at16 l 50) parts ∙ read.head-zeros (g .total) (g .rate) (g .block) (g .coefficients) (g .gain) tail (F .sixteen)
+  zeros-are = ap (λ (l : List ℕ). at16 l 50) parts ∙ read.head-zeros g tail (F .sixteen)
 
-  pub blocks-are : blocksIn image ≡ blocksOf (g .total) (g .block)
+  pub blocks-are : blocksIn image ≡ blockCount (startShape g)
   unfolding blocksIn
-  blocks-are = ap (λ (l : List ℕ). at32 l 52) parts ∙ read.head-blocks (g .total) (g .rate) (g .block) (g .coefficients) (g .gain) tail (F .sixteen)
+  blocks-are = ap (λ (l : List ℕ). at32 l 52) parts ∙ read.head-blocks g tail (F .sixteen)
 
   marked : markOk image ≡ true
-  unfolding markOk headOf
+  unfolding markOk headBytes
   marked = ap markOk parts
 
   coefficients-upto : (k : ℕ) → k ≤ 16 → coefficientsUpTo image k ≡ take k (g .coefficients)
@@ -75,7 +76,7 @@ module _ (g : Start) (F : Fine g) (xs : List ℤ) (rest : List ℕ) where
   coefficients-upto (suc k) h =
       let cs = g .coefficients in
       let x = getD cs k (pos 0) in
-      let e : at16 image (16 + 2 * k) ≡ ofZ w16 x = ap (λ (l : List ℕ). at16 l (16 + 2 * k)) parts ∙ read.head-coefficient (g .total) (g .rate) (g .block) cs (g .gain) tail (F .sixteen) k (omega arith) in
+      let e : at16 image (16 + 2 * k) ≡ ofZ w16 x = ap (λ (l : List ℕ). at16 l (16 + 2 * k)) parts ∙ read.head-coefficient g tail (F .sixteen) k (omega arith) in
       ap₂ (λ (l : List ℤ) (z : ℤ). l ++ (z ∷ [])) (coefficients-upto k (omega arith)) (ap (toZ w16) e ∙ toZ-ofZ w16 x (limits-fit cs (F .within) k (omega arith)))
       ∙ sym (take-suc cs k (pos 0) (omega (arith, F .sixteen)))
 
@@ -85,11 +86,11 @@ module _ (g : Start) (F : Fine g) (xs : List ℤ) (rest : List ℕ) where
 
   -- ---- head and entries
 
-  long : sizeOf (g .total) (g .block) ≤ length image
+  long : imageSize (startShape g) ≤ length image
   long = omega (arith, length-append (built g mark xs (framesOf (g .total))) rest, built-length g F mark refl xs (framesOf (g .total)))
 
   head-made : Headed image
-  unfolding sizeOf
+  unfolding imageSize
   head-made =
       record {
         long = omega (arith, long);
@@ -104,24 +105,24 @@ module _ (g : Start) (F : Fine g) (xs : List ℤ) (rest : List ℕ) where
       some : (r : ℕ) → (r ≡ 0 → ⊥) → 1 ≤ r
       some r h = omega arith
 
-  module _ (j : ℕ) (few : j < blocksOf (g .total) (g .block)) where
+  module _ (j : ℕ) (few : j < blockCount (startShape g)) where
     first-frame : j * (g .block / 8) < framesOf (g .total)
-    first-frame = block-first (g .total) (g .block) j (F .limits) few
+    first-frame = block-first (startShape g) j (F .limits) few
 
     pub header-is : headerIn image j ≡ getD (encodedAt g xs (j * (g .block / 8)) .bytes) 0 0
     unfolding headerIn
     header-is = read.entry-header g F xs (framesOf (g .total)) rest j few first-frame
 
     -- the body's first byte
-    first-byte : getD image (offsetOf (g .total) (g .block) j) 0 ≡ getD (encodedAt g xs (j * (g .block / 8)) .bytes) 0 0
-    unfolding offsetOf
+    first-byte : getD image (blockOffset (startShape g) j) 0 ≡ getD (encodedAt g xs (j * (g .block / 8)) .bytes) 0 0
+    unfolding blockOffset
     first-byte =
         let p = block-parts (g .total) (g .block) j (F .limits) few in
-        let e : 56 + 16 * blocksOf (g .total) (g .block) + j * g .block ≡ 56 + 16 * blocksOf (g .total) (g .block) + (8 * (j * (g .block / 8)) + 0) = omega (arith, block-place (g .block) j (F .limits .eights)) in
+        let e : bodiesPlace (startShape g) + j * g .block ≡ bodiesPlace (startShape g) + (8 * (j * (g .block / 8)) + 0) = omega (arith, block-place (g .block) j (F .limits .eights)) in
         ap (λ (k : ℕ). getD image k 0) e
         ∙ read.body-at g F xs (framesOf (g .total)) rest (j * (g .block / 8)) 0 first-frame (omega arith) (omega (arith, p .2))
 
-    pub entry-made : Entry image (g .total) (g .block) j
+    pub entry-made : Entry image (startShape g) j
     unfolding offsetIn lengthIn entryZeroIn
     entry-made =
         record {
@@ -145,12 +146,12 @@ module _ (g : Start) (F : Fine g) (xs : List ℤ) (rest : List ℕ) where
   image-made =
       record {
         head = head-made;
-        entries = λ j lt. subst (λ (n : ℕ). Entry image n (blockIn image) j) (sym total-is) (subst (λ (b : ℕ). Entry image (g .total) b j) (sym block-is) (entry-made j (here j lt)));
+        entries = λ j lt. rw (total-is, block-is) (entry-made j (here j lt));
       }
     where
-      here : (j : ℕ) → j < blocksOf (totalIn image) (blockIn image) → j < blocksOf (g .total) (g .block)
+      here : (j : ℕ) → j < blockCount (shapeIn image) → j < blockCount (startShape g)
       here j lt = rw (total-is, block-is) at lt
 
   -- the closed image opens
-  pub image-opens : openAnswer image ≡ Accepted
+  pub image-opens : openAnswer image ≡ accepted tt
   image-opens = opens image image-made

@@ -22,13 +22,11 @@ use Rattle.block.specs.Frame.{Playing, playing, nibbleAt, takeNibble}
 use Rattle.block.specs.inner.Frames.{nibblesFrom, playFrame, playFrames}
 use Rattle.block.specs.Play.{takeHeader, play}
 use Rattle.block.proofs.LawsPlay.{onto, frame-onto, repeats}
-use Rattle.clip.specs.Runs.{Start, historyAt, encodedAt}
-use Rattle.round_trip.proofs.Rows.{row, row-at}
-use Rattle.round_trip.proofs.Playback.{frame-replayed}
-
--- every sample is of 16 bits
-abbrev pub Sampled : List ℤ → Type 0
-Sampled xs = (i : ℕ) → SFits w16 (getD xs i (pos 0))
+use Rattle.clip.specs.declared.starting.Start.{Start}
+use Rattle.clip.specs.Runs.{historyAt, encodedAt}
+use Rattle.round_trip.specs.Job.{Sampled}
+use Rattle.round_trip.proofs.EqualParts.{row, row-at}
+use Rattle.round_trip.proofs.FramePlayed.{frame-replayed}
 
 -- what a start and X's samples are: coefficients within bounds, 16-bit history and samples
 pub record Audible (g : Start) (xs : List ℤ) : Type 0 where
