@@ -166,7 +166,7 @@ module _ (g : Start) (F : Fine g) (xs : List ℤ) (k : ℕ) (rest : List ℕ) wh
     before-length : length before ≡ entryPlace j
     before-length =
         length-append (headed g mark) (tableBytes (contextAt g xs k) (startShape g) 0 j)
-        ∙ omega (arith, headed-length g F mark refl, table-length (contextAt g xs k) (context-length g xs k) (g .total) (g .block) 0 j)
+        ∙ omega (arith, headed-length g F mark refl, table-length (contextAt g xs k) (context-length g xs k) (startShape g) 0 j)
 
     at-entry : all ≡ before ++ (entryBytes (startShape g) j context ++ after)
     at-entry =
