@@ -262,7 +262,7 @@ module _ (s : List Float) (ws : List (List ℤ)) (xs : List ℤ) (m : Measuring)
       again : (t : Bool) → eqb (length xs % 14) 0 ≡ t
           → (let all = withRecords (askedOf s ws) (recordsOf xs (framesOf (length xs))) in withRecords all (recordsOf xs (length xs / 14)) ≡ all)
       again true e =
-          let z = without-padded (eqb-true (length xs % 14) 0 e) ∙ sym (ap (recordsOf xs) refl) in
+          let z = without-padded (eqb-true (length xs % 14) 0 e) in
           subst (λ (l : List Record). withRecords (withRecords (askedOf s ws) l) (recordsOf xs (length xs / 14)) ≡ withRecords (askedOf s ws) l)
           (append-nil (recordsOf xs (length xs / 14)) ∙ z) (front-again (askedOf s ws) (recordsOf xs (length xs / 14)) [])
       again false e =
