@@ -3,16 +3,11 @@ use mathlib.Core.List.{List}
 use Prim.Native.Nat.{ℕ}
 use lib.Ieee.{Float}
 use lib.IntN.{ℤ}
-use Rattle.whole.specs.Outcome.{Outcome, accepted, refused}
 use Rattle.coefficients.specs.declared.CoefficientCalculator.{CoefficientCalculator}
 use Rattle.coefficients.specs.Measure.{ProcessEffect, FinishEffect, process, finish}
+use Rattle.doilycairn.specs.Codes.{outcomeCode}
 use Rattle.doilycairn.specs.declared.measuring.Processed.{Processed}
 use Rattle.doilycairn.specs.declared.measuring.Finished.{Finished}
-
--- 0 where a call is accepted, else document 01's number
-abbrev pub code : Outcome Unit → ℕ
-code (accepted u) = 0
-code (refused n) = n
 
 -- ---- a piece is measured
 
@@ -27,7 +22,7 @@ processing r s = record { returned = r; store = s }
 
 -- what C sees of an effect
 abbrev pub processSeen : ProcessEffect → Processing
-processSeen e = processing (record { code = code (e .outcome); calculator = e .calculator }) (e .store)
+processSeen e = processing (record { code = outcomeCode (e .outcome); calculator = e .calculator }) (e .store)
 
 -- a piece on a store
 unfoldable pub processInC : CoefficientCalculator → List ℤ → List Float → Processing
@@ -46,7 +41,7 @@ finishing r s = record { returned = r; store = s }
 
 -- what C sees of an effect
 abbrev pub finishSeen : FinishEffect → Finishing
-finishSeen e = finishing (record { code = code (e .outcome); coefficients = e .coefficients; calculator = e .calculator }) (e .store)
+finishSeen e = finishing (record { code = outcomeCode (e .outcome); coefficients = e .coefficients; calculator = e .calculator }) (e .store)
 
 -- an asking on a store
 unfoldable pub finishInC : CoefficientCalculator → List Float → Finishing

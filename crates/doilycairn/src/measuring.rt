@@ -1,7 +1,7 @@
 // Measuring samples and asking for coefficients (section 1).
 ghost use mathlib.Core.Path.{_≡_};
 ghost use Rattle.coefficients.specs.Measure.{fresh, outcome};
-ghost use Rattle.doilycairn.specs.Measuring as Measuring;
+ghost use Rattle.doilycairn.specs.Codes.{outcomeCode};
 ghost use Rattle.doilycairn.specs.Measuring.{processing, processInC, finishing, finishInC};
 use coefficients::Answer;
 use coefficients::CoefficientCalculator;
@@ -22,8 +22,8 @@ pub struct Finished {
 }
 
 // The number of an answer: 0 where the call is accepted.
-fn code(answer: Answer) -> u32
-    ensures { λ r. ⌜ r ≡ Measuring.code (outcome answer) ⌝ }
+fn code_of(answer: Answer) -> u32
+    ensures { λ r. ⌜ r ≡ outcomeCode (outcome answer) ⌝ }
 {
     match answer {
         Answer::Accepted => 0,
@@ -52,7 +52,7 @@ pub extern "C" fn doilycairn_process(
     let answer = done.answer;
     let after = done.calculator;
     Processed {
-        code: code(answer),
+        code: code_of(answer),
         calculator: after,
     }
 }
@@ -70,7 +70,7 @@ pub extern "C" fn doilycairn_finish(
     let coefs = done.coefficients;
     let kept = done.calculator;
     Finished {
-        code: code(answer),
+        code: code_of(answer),
         coefficients: coefs,
         calculator: kept,
     }

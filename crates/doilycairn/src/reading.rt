@@ -1,8 +1,11 @@
 // Reading an image: opening, the place of a block's body, playing a block or the whole, sameness (sections 4 and 5).
 ghost use mathlib.Core.Path.{_≡_};
-ghost use Rattle.image.specs.Facts.{Found};
-ghost use Rattle.doilycairn.specs.Blocks.{playbackEffect};
-ghost use Rattle.doilycairn.specs.Reading.{codeOf, openInC, bodyAt, handed, bodyInC, playbackOf, playInC, playAllInC, comparisonOf, sameInC};
+ghost use Rattle.image.specs.inner.Asked.{Found};
+ghost use Rattle.image.specs.Opening.{outcome};
+ghost use Rattle.image.specs.Playing.{playOutcome};
+ghost use Rattle.image.specs.Sameness.{sameOutcome};
+ghost use Rattle.doilycairn.specs.Blocks.{playbackEffect, playedAnswer};
+ghost use Rattle.doilycairn.specs.Reading.{codeOf, openInC, bodyAt, handed, bodyInC, playInC, playAllInC, comparedAnswer, sameInC};
 use crate::blocks::Playback;
 use block::FrameContext;
 use image::Answer;
@@ -11,6 +14,7 @@ use image::PlayAnswer;
 use image::SameAnswer;
 use image::bodies::read_context;
 use layout::fields::get32;
+use layout::sizes::entry_place;
 
 // What opening returns.
 #[repr(C)]
@@ -48,7 +52,7 @@ fn code_of(answer: Answer) -> u32
 
 // The sample count of an answer, or its number.
 fn played_answer(answer: PlayAnswer, context: FrameContext) -> Playback
-    ensures { λ r. ⌜ r ≡ playbackOf answer context ⌝ }
+    ensures { λ r. ⌜ r ≡ playedAnswer (playOutcome answer) context ⌝ }
 {
     match answer {
         PlayAnswer::Played(samples) => Playback {
@@ -66,7 +70,7 @@ fn played_answer(answer: PlayAnswer, context: FrameContext) -> Playback
 
 // Whether an answer is `Same`, or its number.
 fn compared_answer(answer: SameAnswer) -> Comparison
-    ensures { λ r. ⌜ r ≡ comparisonOf answer ⌝ }
+    ensures { λ r. ⌜ r ≡ comparedAnswer (sameOutcome answer) ⌝ }
 {
     match answer {
         SameAnswer::Same => Comparison {
@@ -89,7 +93,7 @@ fn body_at(image: &[u8], k: usize) -> Body
     requires { ⌜ Found (now image) k ⌝ }
     ensures { λ r. ⌜ r ≡ bodyAt (now (image .entry)) k ⌝ }
 {
-    let at = 56 + 16 * k;
+    let at = entry_place(k);
     let offset = get32(image, at);
     let nibbles = get32(image, at + 4);
     let context = read_context(image, k);

@@ -2,7 +2,9 @@
 ghost use mathlib.Core.Path.{_≡_};
 ghost use Rattle.coefficients.specs.Measure.{needed};
 ghost use Rattle.doilycairn.specs.Sizes.{imageSize};
-use layout::sizes::size;
+use layout::Shape;
+use layout::sizes::cut_down;
+use layout::sizes::image_size;
 
 // The numbers of the store that measuring so many samples needs.
 #[no_mangle]
@@ -29,5 +31,10 @@ pub extern "C" fn doilycairn_image_size(total: u32, block_size: u32) -> u64
     if block_size > 65_536 {
         return 0;
     }
-    size(total as usize, (block_size / 8 * 8) as usize) as u64
+    let shape = Shape {
+        total: total as usize,
+        block: cut_down(block_size) as usize,
+        extra: 0,
+    };
+    image_size(shape) as u64
 }
