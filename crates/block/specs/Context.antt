@@ -4,13 +4,13 @@ use lib.IntN.{ℤ, pos}
 use Rattle.whole.specs.declared.History.{History}
 use Rattle.block.specs.declared.FrameContext.{FrameContext}
 
--- predictor (header >> 4) & 7
-unfoldable pub predictorOf : ℕ → ℕ
-predictorOf h = h / 16 % 8
+-- the pair that a header names: (header >> 4) & 7
+unfoldable pub predictor : ℕ → ℕ
+predictor h = h / 16 % 8
 
--- scale 2^(header & 15)
-unfoldable pub scaleOf : ℕ → ℕ
-scaleOf h = 2 ^ (h % 16)
+-- the scale that a header names: 2^(header & 15)
+unfoldable pub scale : ℕ → ℕ
+scale h = 2 ^ (h % 16)
 
 -- a history: the newest sample and the one before it
 abbrev pub historyWith : ℤ → ℤ → History

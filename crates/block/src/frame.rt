@@ -5,7 +5,7 @@ ghost use mathlib.Core.Path.{_≡_};
 ghost use Prim.Native.Nat.{_+_, _*_, _≤_};
 ghost use lib.ListN.{length};
 ghost use lib.Seq.{sets};
-ghost use Rattle.block.specs.Frame.{runFrom};
+ghost use Rattle.block.specs.inner.Nibbles.{playNibbles};
 
 // The samples of whole bytes, two a byte.
 pub(crate) fn play_pairs(
@@ -20,8 +20,8 @@ pub(crate) fn play_pairs(
     to: usize,
 ) -> History
     requires { ⌜ (from + pairs ≤ length (now bytes)) × (to + 2 * pairs ≤ length (now out)) × (scale ≤ 32768) ⌝ }
-    ensures left { λ r. ⌜ r ≡ runFrom (now (bytes .entry)) (2 * from) (2 * pairs) c0 c1 scale history .history ⌝ }
-    ensures stored { λ r. ⌜ now (out .exit) ≡ sets (now (out .entry)) to (runFrom (now (bytes .entry)) (2 * from) (2 * pairs) c0 c1 scale history .samples) ⌝ }
+    ensures left { λ r. ⌜ r ≡ playNibbles (now (bytes .entry)) (2 * from) (2 * pairs) c0 c1 scale history .history ⌝ }
+    ensures stored { λ r. ⌜ now (out .exit) ≡ sets (now (out .entry)) to (playNibbles (now (bytes .entry)) (2 * from) (2 * pairs) c0 c1 scale history .samples) ⌝ }
 {
     let mut newest = history.newest;
     let mut older = history.older;
@@ -55,8 +55,8 @@ pub(crate) fn play_nibbles(
     to: usize,
 ) -> History
     requires { ⌜ (2 * from + count ≤ 2 * length (now bytes)) × (to + count ≤ length (now out)) × (scale ≤ 32768) ⌝ }
-    ensures left { λ r. ⌜ r ≡ runFrom (now (bytes .entry)) (2 * from) count c0 c1 scale history .history ⌝ }
-    ensures stored { λ r. ⌜ now (out .exit) ≡ sets (now (out .entry)) to (runFrom (now (bytes .entry)) (2 * from) count c0 c1 scale history .samples) ⌝ }
+    ensures left { λ r. ⌜ r ≡ playNibbles (now (bytes .entry)) (2 * from) count c0 c1 scale history .history ⌝ }
+    ensures stored { λ r. ⌜ now (out .exit) ≡ sets (now (out .entry)) to (playNibbles (now (bytes .entry)) (2 * from) count c0 c1 scale history .samples) ⌝ }
 {
     let pairs = count / 2;
     let after = play_pairs(bytes, from, pairs, c0, c1, scale, history, out, to);
@@ -66,10 +66,10 @@ pub(crate) fn play_nibbles(
     let newest = after.newest;
     let older = after.older;
     let byte = bytes[from + pairs];
-    let x = decode_sample(c0, c1, newest, older, byte / 16, scale);
-    out[to + 2 * pairs] = x;
+    let last = decode_sample(c0, c1, newest, older, byte / 16, scale);
+    out[to + 2 * pairs] = last;
     History {
-        newest: x,
+        newest: last,
         older: newest,
     }
 }

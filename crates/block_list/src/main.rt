@@ -29,6 +29,7 @@ fn unhex(line: &[u8; 357], record: &mut [u8; 178]) {
     }
 }
 
+// A byte as a number of 32 bits.
 fn wide(x: u8) -> u32
     ensures { λ r. ⌜ r < 256 ⌝ }
 {
@@ -73,6 +74,7 @@ fn part(record: &[u8; 178], at: usize) -> [u8; 48]
     bytes
 }
 
+// The smaller one.
 fn least(x: usize, y: usize) -> usize
     ensures { λ r. ⌜ r ≤ y ⌝ }
 {
@@ -92,6 +94,7 @@ fn coefficients(record: &[u8; 178], at: usize) -> [i16; 16]
     cs
 }
 
+// Writes samples as hexadecimal digits.
 fn print_samples(samples: &[i16]) {
     let mut i: usize = 0;
     while i < samples.len() {
@@ -100,6 +103,7 @@ fn print_samples(samples: &[i16]) {
     }
 }
 
+// Writes bytes as hexadecimal digits.
 fn print_bytes(bytes: &[u8]) {
     let mut i: usize = 0;
     while i < bytes.len() {
@@ -116,6 +120,7 @@ fn print_answer(code: u32, value: u64) {
     io::write_all(1, b" ");
 }
 
+// Writes a context's header and its two samples.
 fn print_context(context: FrameContext) {
     io::print_hex(1, context.predictor_and_scale as u64, 4);
     let history = context.last_samples;
@@ -123,12 +128,14 @@ fn print_context(context: FrameContext) {
     io::write_all(1, b" ");
 }
 
+// An output of samples before a call.
 fn fresh_samples() -> [i16; 96]
     ensures { λ r. ⌜ 96 ≡ length r ⌝ }
 {
     [23130; 96]
 }
 
+// An output of bytes before a call.
 fn fresh_bytes() -> [u8; 96]
     ensures { λ r. ⌜ 96 ≡ length r ⌝ }
 {
@@ -175,6 +182,7 @@ fn play_to(record: &[u8; 178], bytes: &[u8], out: &mut [i16]) {
     print_samples(out);
 }
 
+// Replays a line of playing.
 fn play(record: &[u8; 178]) {
     let n = size(record, 1, 48);
     let room = size(record, 3, 96);
@@ -202,6 +210,7 @@ fn join_to(record: &[u8; 178], first: &[u8], second: &[u8], out: &mut [u8]) {
     print_bytes(out);
 }
 
+// Replays a line of joining.
 fn join(record: &[u8; 178]) {
     let n = size(record, 1, 48);
     let m = size(record, 2, 48);
@@ -212,6 +221,7 @@ fn join(record: &[u8; 178]) {
     join_to(record, &first[..n], &second[..m], &mut out[..room]);
 }
 
+// Replays a line of addresses.
 fn addresses(record: &[u8; 178]) {
     let x = double_word(record, 4);
     print_answer(0, block::address_to_sample(x));
@@ -237,6 +247,7 @@ fn replay() -> bool {
     io::write_all(1, b"\n")
 }
 
+// Replays every line of the input.
 fn main() {
     let mut turns: u32 = 1_000_000;
     while turns > 0 && replay() {

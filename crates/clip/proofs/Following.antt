@@ -11,7 +11,7 @@ use lib.IntN.{ℤ, pos}
 use lib.ListN.{length, take, set, replicate, length-append}
 use lib.Seq.{sets, take-all, append-snoc}
 use Rattle.whole.specs.Frames.{frameAt, framesOf}
-use Rattle.whole.proofs.Framing.{frame-snoc, frame-none, frame-pad}
+use Rattle.whole.proofs.CutIntoFrames.{frame-snoc, frame-none, frame-pad}
 use Rattle.frame.specs.Frame.{encodeFrame, historyAfter}
 use Rattle.frame.specs.declared.EncodedFrame.{EncodedFrame}
 use Rattle.whole.specs.declared.History.{History}

@@ -9,7 +9,7 @@ use lib.Dec.{ltb}
 use lib.IntN.{ℤ}
 use lib.ListN.{length, getD, length-append}
 use Rattle.whole.specs.Frames.{frameAt}
-use Rattle.whole.proofs.Framing.{frame-stable}
+use Rattle.whole.proofs.CutIntoFrames.{frame-stable}
 use Rattle.frame.specs.Frame.{encodeFrame, historyAfter}
 use Rattle.frame.specs.declared.EncodedFrame.{EncodedFrame}
 use Rattle.whole.specs.declared.History.{History}

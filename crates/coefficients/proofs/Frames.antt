@@ -9,7 +9,7 @@ use lib.IntN.{ℤ, pos}
 use lib.ListN.{length, getD, take, drop, set, replicate, length-append, length-drop, length-set, length-replicate}
 use lib.Seq.{sets, sets-eq, take-all, take-suc, drop-cons, append-snoc, set-at, getD-append-add, getD-drop, take-append-add, length-take-le, drop-length}
 use Rattle.whole.specs.Frames.{frameAt}
-use Rattle.whole.proofs.Framing.{frame-length, frame-stable}
+use Rattle.whole.proofs.CutIntoFrames.{frame-length, frame-stable}
 use Rattle.whole.proofs.Stores.{sets-then, take-replicate}
 use Rattle.coefficients.specs.declared.framing.Found.{Found}
 use Rattle.coefficients.specs.declared.framing.Found.the-variants.{Nothing, One}

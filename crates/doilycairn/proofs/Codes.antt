@@ -43,7 +43,7 @@ image-refused OfImage.BadHead = omega arith
 image-refused OfImage.BadEntry = omega arith
 image-refused OfImage.NoSuchBlock = omega arith
 
-pub block-refused : (r : Block.Refusal) → 0 < BlockNumbers.numberOf r
+pub block-refused : (r : Block.Refusal) → 0 < BlockNumbers.code r
 block-refused OfBlock.LengthOutOfRange = omega arith
 block-refused OfBlock.LowestPair = omega arith
 block-refused OfBlock.OutputTooShort = omega arith

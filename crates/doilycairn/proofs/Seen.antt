@@ -9,7 +9,7 @@ use Rattle.block.specs.Context.{newContext}
 use Rattle.block.specs.Frame.{lent}
 use Rattle.block.specs.Join.{JoinEffect, joinEffect}
 use Rattle.block.specs.Play.{PlayEffect, playEffect}
-use Rattle.block.specs.Refusals.{Outcome}
+use Rattle.whole.specs.Outcome.{Outcome}
 use Rattle.clip.specs.declared.Answer as Clip
 use Rattle.clip.specs.declared.Encoder.{Encoder}
 use Rattle.clip.specs.Encoding.{Out, both, outOf}
@@ -32,7 +32,7 @@ use Rattle.doilycairn.specs.declared.reading.Body.{Body}
 use Rattle.doilycairn.specs.declared.reading.Opening.{Opening}
 use Rattle.doilycairn.specs.declared.writing.Frame.{Frame}
 use Rattle.doilycairn.specs.Blocks as Blocks
-use Rattle.doilycairn.specs.Blocks.{playing, joined, joiningOf, joinSeen}
+use Rattle.doilycairn.specs.Blocks.{playbackEffect, joiningEffect, joinedAnswer, joinSeen}
 use Rattle.doilycairn.specs.Measuring as Measuring
 use Rattle.doilycairn.specs.Measuring.{processing, processSeen, finishing, finishSeen}
 use Rattle.doilycairn.specs.Reading as Reading
@@ -67,8 +67,8 @@ pub open-seen : (f : Image.Opening) {o : Image.Opening} {k : ℕ}
 open-seen f p q = ap (λ (k : ℕ). record { code = k; head = f .head }) p ∙ ap openSeen q
 
 pub play-seen : (a : PlayAnswer) (c : FrameContext) (out : List ℤ) {e : Effect} {r : Playback}
-    → r ≡ Reading.playbackOf a c → effectOf a (lent c out) ≡ e → playing r out ≡ Reading.playSeen e
-play-seen a c out p q = ap (λ (r : Playback). playing r out) p ∙ ap Reading.playSeen q
+    → r ≡ Reading.playbackOf a c → effectOf a (lent c out) ≡ e → playbackEffect r out ≡ Reading.playSeen e
+play-seen a c out p q = ap (λ (r : Playback). playbackEffect r out) p ∙ ap Reading.playSeen q
 
 -- the entry's numbers, and two nibbles a byte
 pub body-told : (l : List ℕ) (k offset bytes nibbles : ℕ) (c : FrameContext) → offset ≡ offsetIn l k → nibbles ≡ lengthIn l k → bytes ≡ (nibbles + 1) / 2 → c ≡ contextIn l k
@@ -89,10 +89,10 @@ body-refused l k why p z q = rw (p, z, q)
 
 -- ---- blocks
 
-pub bytes-seen : (o : Outcome) (c : FrameContext) (out : List ℤ) {e : PlayEffect} {r : Playback}
-    → r ≡ Blocks.playbackOf o c → playEffect o (lent c out) ≡ e → playing r out ≡ Blocks.playSeen e
-bytes-seen o c out p q = ap (λ (r : Playback). playing r out) p ∙ ap Blocks.playSeen q
+pub bytes-seen : (o : Outcome ℕ) (c : FrameContext) (out : List ℤ) {e : PlayEffect} {r : Playback}
+    → r ≡ Blocks.playedAnswer o c → playEffect o (lent c out) ≡ e → playbackEffect r out ≡ Blocks.playSeen e
+bytes-seen o c out p q = ap (λ (r : Playback). playbackEffect r out) p ∙ ap Blocks.playSeen q
 
-pub join-seen : (o : Outcome) (out : List ℕ) {e : JoinEffect} {r : Joining}
-    → r ≡ joiningOf o → joinEffect o out ≡ e → joined r out ≡ joinSeen e
-join-seen o out p q = ap (λ (r : Joining). joined r out) p ∙ ap joinSeen q
+pub join-seen : (o : Outcome ℕ) (out : List ℕ) {e : JoinEffect} {r : Joining}
+    → r ≡ joinedAnswer o → joinEffect o out ≡ e → joiningEffect r out ≡ joinSeen e
+join-seen o out p q = ap (λ (r : Joining). joiningEffect r out) p ∙ ap joinSeen q

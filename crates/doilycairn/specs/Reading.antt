@@ -23,7 +23,7 @@ use Rattle.doilycairn.specs.declared.blocks.Playback.{Playback}
 use Rattle.doilycairn.specs.declared.reading.Body.{Body}
 use Rattle.doilycairn.specs.declared.reading.Comparison.{Comparison}
 use Rattle.doilycairn.specs.declared.reading.Opening.{Opening}
-use Rattle.doilycairn.specs.Blocks.{Playing, playing}
+use Rattle.doilycairn.specs.Blocks.{PlaybackEffect, playbackEffect}
 
 -- 0 where a call is accepted, else document 01's number
 abbrev pub codeOf : Answer → ℕ
@@ -68,13 +68,13 @@ abbrev pub playbackOf : PlayAnswer → FrameContext → Playback
 playbackOf (Played.Played n) c = record { code = 0; samples = n; context = c }
 playbackOf (Played.Refused r) c = record { code = numberOf r; samples = 0; context = c }
 
-abbrev pub playSeen : Effect → Playing
-playSeen e = playing (playbackOf (e .answer) (e .context)) (e .out)
+abbrev pub playSeen : Effect → PlaybackEffect
+playSeen e = playbackEffect (playbackOf (e .answer) (e .context)) (e .out)
 
-unfoldable pub playInC : List ℕ → ℕ → List ℤ → Playing
+unfoldable pub playInC : List ℕ → ℕ → List ℤ → PlaybackEffect
 playInC l k out = playSeen (playOf l k out)
 
-unfoldable pub playAllInC : List ℕ → List ℤ → Playing
+unfoldable pub playAllInC : List ℕ → List ℤ → PlaybackEffect
 playAllInC l out = playSeen (playAllOf l out)
 
 -- ---- sameness

@@ -1,7 +1,7 @@
 // Reading an image: opening, the place of a block's body, playing a block or the whole, sameness (sections 4 and 5).
 ghost use mathlib.Core.Path.{_≡_};
 ghost use Rattle.image.specs.Facts.{Found};
-ghost use Rattle.doilycairn.specs.Blocks.{playing};
+ghost use Rattle.doilycairn.specs.Blocks.{playbackEffect};
 ghost use Rattle.doilycairn.specs.Reading.{codeOf, openInC, bodyAt, handed, bodyInC, playbackOf, playInC, playAllInC, comparisonOf, sameInC};
 use crate::blocks::Playback;
 use block::FrameContext;
@@ -140,7 +140,7 @@ pub extern "C" fn doilycairn_block_body(image: &[u8], k: u32) -> Body
 // Plays block k.
 #[no_mangle]
 pub extern "C" fn doilycairn_play(image: &[u8], k: u32, out: &mut [i16]) -> Playback
-    ensures { λ r. ⌜ playing r (now (out .exit)) ≡ playInC (now (image .entry)) k (now (out .entry)) ⌝ }
+    ensures { λ r. ⌜ playbackEffect r (now (out .exit)) ≡ playInC (now (image .entry)) k (now (out .entry)) ⌝ }
 {
     let done = image::play(image, k, out);
     let answer = done.answer;
@@ -151,7 +151,7 @@ pub extern "C" fn doilycairn_play(image: &[u8], k: u32, out: &mut [i16]) -> Play
 // Plays the whole image.
 #[no_mangle]
 pub extern "C" fn doilycairn_play_all(image: &[u8], out: &mut [i16]) -> Playback
-    ensures { λ r. ⌜ playing r (now (out .exit)) ≡ playAllInC (now (image .entry)) (now (out .entry)) ⌝ }
+    ensures { λ r. ⌜ playbackEffect r (now (out .exit)) ≡ playAllInC (now (image .entry)) (now (out .entry)) ⌝ }
 {
     let done = image::play_all(image, out);
     let answer = done.answer;

@@ -16,7 +16,7 @@ use mir.Syntax.{w16}
 use mir.Val.{SFits}
 use Rattle.whole.specs.Whole.{clamp16, floored}
 use Rattle.whole.proofs.Differences.{Diff, diff-of, diff-pos, diff-neg, diff-add, diff-sub, diff-times, diff-same, diff-abs, abs-diff, over, under, left, floor-law}
-use Rattle.whole.proofs.Laws.{clamp-nearer}
+use Rattle.whole.proofs.Clamping.{clamp-nearer}
 use Rattle.frame.specs.Estimate.{weigh}
 use Rattle.frame.specs.Quantise.{unit24, round24, scale, nearestDown, withSign, quantise, clamp4}
 use Rattle.frame.specs.Pass.{Bounded, residual, reconstruct, codeSample}

@@ -16,7 +16,7 @@ use mir.Val.{SFits}
 use Rattle.whole.specs.Whole.{towardsZero}
 use Rattle.whole.proofs.Values.{abs-add, abs-mul, abs-sfits}
 use Rattle.whole.proofs.Differences.{diff-pos, diff-sub, diff-eq}
-use Rattle.whole.proofs.Laws.{clamp-fits}
+use Rattle.whole.proofs.Clamping.{clamp-fits}
 use Rattle.whole.specs.declared.History.{History}
 use Rattle.frame.specs.Estimate.{weigh, difference, largerMagnitude, isLowest, look, largestDifference, isSmall, halvingsWithin, halvings, maxZ, exponentOf, firstExponent}
 

@@ -15,6 +15,7 @@ use borrow.Author.Tests.{ltb-true, ltb-false, lt-ltb, le-ltb}
 use mir.Syntax.{Width, w16, w32}
 use mir.Val.{SFits, ofZ, hbits}
 use Rattle.whole.specs.Whole.{floored}
+use Rattle.whole.proofs.Clamping.{clamp-low, clamp-high, clamp-mid}
 use Rattle.whole.proofs.Values.{Is, is-sized, sfits-abs, abs-add, abs-sub, abs-mul, abs-shr, not-below-zero}
 use Rattle.whole.proofs.Differences.{Diff, diff-of, diff-pos, diff-neg, diff-add, diff-sub, diff-times, diff-move, diff-same, diff-eq}
 use Rattle.whole.proofs.Differences.{diff-lt, diff-le, lt-diff, le-diff, diff-abs, abs-diff, over, under, left, floor-law}
@@ -24,7 +25,7 @@ use Rattle.frame.specs.Pass.{Bounded}
 use Rattle.frame.specs.inner.Lanes.{PowerOfTwo, finer, isBig, isNear, track, clampWithin}
 use Rattle.frame.proofs.LawsOrder.{none-below}
 use Rattle.frame.proofs.LawsQuantise.{unit-le, unit-pos as unit-above, round24-le, round-same, down-pos, down-neg, sign-twice}
-use Rattle.frame.proofs.LawsQuantise.{sign-size, clamp4-size, clamp4-low, clamp4-high, clamp4-mid, excess-low, excess-high, excess-none}
+use Rattle.frame.proofs.LawsQuantise.{sign-size, clamp4-size, excess-low, excess-high, excess-none}
 
 -- ---- a unit
 
@@ -114,7 +115,7 @@ module _ (v : ℤ) (s : ℕ) (p : 0 < s) where
   unfolding clampWithin
   part-low e =
       let l = diff-lt (diff-add (diff-of v) (diff-pos (8 * s))) (diff-pos 0) e in
-      let c : clamp4 (shrZ v s) ≡ negsuc 7 = clamp4-low (shrZ v s) (floor-low v s p (omega arith)) in
+      let c : clamp4 (shrZ v s) ≡ negsuc 7 = clamp-low 7 (shrZ v s) (floor-low v s p (omega arith)) in
       rw (e, c) (diff-eq (diff-sub (diff-pos (0 - 0 % s)) (diff-pos (8 * s))) (times-neg 7) (omega arith))
 
   part-high : ltZ sum (pos 0) ≡ false → ltZ (pos (16 * s - 1)) sum ≡ true → pos (clamped - clamped % s) -ℤ pos (8 * s) ≡ clamp4 (shrZ v s) *ℤ pos s
@@ -122,7 +123,7 @@ module _ (v : ℤ) (s : ℕ) (p : 0 < s) where
   part-high e f =
       let l = diff-lt (diff-pos (16 * s - 1)) (diff-add (diff-of v) (diff-pos (8 * s))) f in
       let g = floor-high v s p (omega arith) in
-      let c : clamp4 (shrZ v s) ≡ pos 7 = clamp4-high (shrZ v s) (g .0) (g .1) in
+      let c : clamp4 (shrZ v s) ≡ pos 7 = clamp-high 7 (shrZ v s) (g .0) (g .1) in
       let m : 16 * s - 1 ≡ 15 * s + (s - 1) = omega arith in
       let r : (16 * s - 1) % s ≡ s - 1 = ap (λ (n : ℕ). n % s) m ∙ mul-add-mod-self-right 15 s (s - 1) ∙ mod-eq-of-lt (omega arith) in
       rw (e, f, c) (diff-eq (diff-sub (diff-pos ((16 * s - 1) - (16 * s - 1) % s)) (diff-pos (8 * s))) (diff-pos (7 * s)) (omega (arith, r)))
@@ -143,7 +144,7 @@ module _ (v : ℤ) (s : ℕ) (p : 0 < s) where
       let nt = diff-same (diff-times (diff-of n) s) ns in
       let u : shrZ v s ≡ n = floor-unique v s p n (t % s) r (diff-move (diff-of v) (omega arith)) in
       let small : t / s < 16 = lt-of-mul-lt-mul-right s (omega arith) in
-      let c : clamp4 (shrZ v s) ≡ n = clamp4-mid (shrZ v s) (rw u (le-diff nd (diff-of (negsuc 7)) (omega arith))) (rw u (le-diff (diff-pos 7) nd (omega arith))) ∙ u in
+      let c : clamp4 (shrZ v s) ≡ n = clamp-mid 7 (shrZ v s) (rw u (le-diff nd (diff-of (negsuc 7)) (omega arith))) (rw u (le-diff (diff-pos 7) nd (omega arith))) ∙ u in
       rw (e, f, c) (diff-eq (diff-sub (diff-pos (t - t % s)) (diff-pos (8 * s))) ns (omega arith))
 
   pub part-is : pos (clamped - clamped % s) -ℤ pos (8 * s) ≡ clamp4 (shrZ v s) *ℤ pos s

@@ -16,8 +16,8 @@ use mir.Syntax.{w16}
 use mir.Val.{SFits}
 use Rattle.whole.specs.Whole.{clamp16, floored}
 use Rattle.whole.proofs.Values.{abs-add, abs-sub, abs-mul, abs-sfits}
-use Rattle.whole.proofs.Differences.{Diff, diff-of, diff-pos, diff-add, diff-times, diff-same, diff-eq, over, under, left, floor-law}
-use Rattle.whole.proofs.Laws.{clamp-fits}
+use Rattle.whole.proofs.FloorDivision.{floor-scaled}
+use Rattle.whole.proofs.Clamping.{clamp-fits, clamp-low, clamp-high, clamp-mid}
 use Rattle.whole.specs.declared.History.{History}
 use Rattle.frame.specs.declared.pass.Step.{Step}
 use Rattle.frame.specs.declared.pass.Pass.{Pass}
@@ -28,7 +28,7 @@ use Rattle.frame.specs.Frame.{preceded, historyAfter}
 use Rattle.frame.specs.inner.Nibbles.{InNibble, up, down}
 use Rattle.frame.specs.Fits.{Fit, FitHistory}
 use Rattle.frame.proofs.LawsOrder.{none-below}
-use Rattle.frame.proofs.LawsQuantise.{quantise-size, quantise-12, clamp4-size, clamp4-excess, clamp4-low, clamp4-high, clamp4-mid}
+use Rattle.frame.proofs.LawsQuantise.{quantise-size, quantise-12, clamp4-size, clamp4-excess}
 
 -- ---- sizes
 
@@ -69,31 +69,10 @@ squared-le {x} {y} f g =
 
 -- ---- playing gives what encoding reconstructed
 
--- (a + n × S' + 1024) >> 11 is ((a + 1024) >> 11) + n × 2^p
-pub shift-apart : (a n : ℤ) (w : ℕ) → floored (a +ℤ n *ℤ pos (2048 * w) +ℤ pos 1024) 2048 ≡ floored (a +ℤ pos 1024) 2048 +ℤ n *ℤ pos w
-shift-apart a n w =
-    let y = a +ℤ n *ℤ pos (2048 * w) +ℤ pos 1024 in
-    let z = a +ℤ pos 1024 in
-    let ly = floor-law y 2048 (omega arith) in
-    let lz = floor-law z 2048 (omega arith) in
-    let y1 : Diff y (over a + over n * (2048 * w) + 1024) (under a + under n * (2048 * w) + 0) = diff-add (diff-add (diff-of a) (diff-times (diff-of n) (2048 * w))) (diff-pos 1024) in
-    let y2 : Diff y (over (floored y 2048) * 2048 + left y 2048) (under (floored y 2048) * 2048 + 0) =
-    subst (λ (v : ℤ). Diff v (over (floored y 2048) * 2048 + left y 2048) (under (floored y 2048) * 2048 + 0)) (sym (ly .0))
-    (diff-add (diff-times (diff-of (floored y 2048)) 2048) (diff-pos (left y 2048))) in
-    let z1 : Diff z (over a + 1024) (under a + 0) = diff-add (diff-of a) (diff-pos 1024) in
-    let z2 : Diff z (over (floored z 2048) * 2048 + left z 2048) (under (floored z 2048) * 2048 + 0) =
-    subst (λ (v : ℤ). Diff v (over (floored z 2048) * 2048 + left z 2048) (under (floored z 2048) * 2048 + 0)) (sym (lz .0))
-    (diff-add (diff-times (diff-of (floored z 2048)) 2048) (diff-pos (left z 2048))) in
-    let ey = diff-same y1 y2 in
-    let ez = diff-same z1 z2 in
-    let ry = ly .1 in
-    let rz = lz .1 in
-    diff-eq (diff-of (floored y 2048)) (diff-add (diff-of (floored z 2048)) (diff-times (diff-of n) w)) (omega arith)
-
 -- "clamp(((c0 × s0 + c1 × s1 + 1024) >> 11) + nibble × scale)", for scale 2^p
 pub reconstruct-played : (c0 c1 s0 s1 n : ℤ) (p : ℕ) → reconstruct c0 c1 s0 s1 n p ≡ clamp16 (floored (weigh c0 c1 s0 s1 +ℤ pos 1024) 2048 +ℤ n *ℤ pos (2 ^ p))
 unfolding reconstruct
-reconstruct-played c0 c1 s0 s1 n p = ap clamp16 (shift-apart (weigh c0 c1 s0 s1) n (2 ^ p))
+reconstruct-played c0 c1 s0 s1 n p = ap clamp16 (floor-scaled (weigh c0 c1 s0 s1) n (2 ^ p))
 
 -- ---- the loop's step
 
@@ -205,11 +184,11 @@ pub clamp4-nibble : (z : ℤ) → InNibble (clamp4 z)
 clamp4-nibble z = go (ltZ z (negsuc 7)) refl
   where
     high : (t : Bool) → ltZ (pos 7) z ≡ t → ltZ z (negsuc 7) ≡ false → InNibble (clamp4 z)
-    high true f e = subst InNibble (sym (clamp4-high z e f)) (up {n = 7} (omega arith))
-    high false f e = subst InNibble (sym (clamp4-mid z e f)) (mid-nibble z e f)
+    high true f e = subst InNibble (sym (clamp-high 7 z e f)) (up {n = 7} (omega arith))
+    high false f e = subst InNibble (sym (clamp-mid 7 z e f)) (mid-nibble z e f)
 
     go : (t : Bool) → ltZ z (negsuc 7) ≡ t → InNibble (clamp4 z)
-    go true e = subst InNibble (sym (clamp4-low z e)) (down {n = 7} (omega arith))
+    go true e = subst InNibble (sym (clamp-low 7 z e)) (down {n = 7} (omega arith))
     go false e = high (ltZ (pos 7) z) refl e
 
 module _ (c0 c1 : ℤ) (h : History) (xs : List ℤ) (p : ℕ) where

@@ -16,6 +16,7 @@ use lib.Ieee.{size, nearest}
 use lib.Ieee.Fits.{nearest-le}
 use lib.Ieee.Digits.{size-lt, size-reaches, size-le}
 use lib.Ieee.Nearest.{closest}
+use Rattle.whole.proofs.Clamping.{clamp-low, clamp-high, clamp-mid, clamp-size}
 use Rattle.whole.proofs.Values.{abs-neg}
 use Rattle.whole.proofs.Differences.{diff-of, diff-pos, diff-neg, diff-add, diff-sub, diff-eq, diff-lt, diff-abs, abs-diff, over, under}
 use Rattle.frame.specs.Quantise.{unit24, round24, scale, nearestDown, withSign, quantise, clamp4}
@@ -279,47 +280,25 @@ quantise-size d p h =
     omega (arith, down-le (round24 (natAbs d)) (scale p), round24-le (natAbs d) h, sign-size d (nearestDown (round24 (natAbs d)) (scale p)))
 
 -- ---- the clamp to a nibble
-pub clamp4-low : (z : ℤ) → ltZ z (negsuc 7) ≡ true → clamp4 z ≡ negsuc 7
-unfolding clamp4
-clamp4-low z e = rw e
-
-pub clamp4-high : (z : ℤ) → ltZ z (negsuc 7) ≡ false → ltZ (pos 7) z ≡ true → clamp4 z ≡ pos 7
-unfolding clamp4
-clamp4-high z e f = rw (e, f)
-
-pub clamp4-mid : (z : ℤ) → ltZ z (negsuc 7) ≡ false → ltZ (pos 7) z ≡ false → clamp4 z ≡ z
-unfolding clamp4
-clamp4-mid z e f = rw (e, f)
-
-mid-size : (z : ℤ) → ltZ z (negsuc 7) ≡ false → ltZ (pos 7) z ≡ false → natAbs z ≤ 8
-mid-size (pos n) e f = omega (arith, ltb-false 7 n f)
-mid-size (negsuc n) e f = omega (arith, ltb-false 7 n e)
-
 pub clamp4-size : (z : ℤ) → natAbs (clamp4 z) ≤ 8
-unfolding clamp4
-clamp4-size z = go (ltZ z (negsuc 7)) (ltZ (pos 7) z) (mid-size z)
-  where
-    go : (a b : Bool) → (a ≡ false → b ≡ false → natAbs z ≤ 8) → natAbs (cond a (negsuc 7) (cond b (pos 7) z)) ≤ 8
-    go true b h = omega arith
-    go false true h = omega arith
-    go false false h = h refl refl
+clamp4-size z = clamp-size 7 z
 
 -- the excess at either end, and within
 pub excess-low : (z : ℤ) → ltZ z (negsuc 7) ≡ true → negsuc 7 -ℤ z ≡ pos (natAbs (z -ℤ clamp4 z))
 excess-low z e =
     let l = diff-lt (diff-of z) (diff-neg (diff-pos 8)) e in
     let d = diff-sub (diff-of z) (diff-neg (diff-pos 8)) in
-    rw (clamp4-low z e) (diff-eq (diff-sub (diff-neg (diff-pos 8)) (diff-of z)) (diff-pos (natAbs (z -ℤ negsuc 7)))
+    rw (clamp-low 7 z e) (diff-eq (diff-sub (diff-neg (diff-pos 8)) (diff-of z)) (diff-pos (natAbs (z -ℤ negsuc 7)))
     (omega (arith, diff-abs d, abs-diff d (under z - (over z + 8)) (omega arith) (omega arith))))
 
 pub excess-high : (z : ℤ) → ltZ z (negsuc 7) ≡ false → ltZ (pos 7) z ≡ true → z -ℤ pos 7 ≡ pos (natAbs (z -ℤ clamp4 z))
 excess-high z e f =
     let l = diff-lt (diff-pos 7) (diff-of z) f in
     let d = diff-sub (diff-of z) (diff-pos 7) in
-    rw (clamp4-high z e f) (diff-eq d (diff-pos (natAbs (z -ℤ pos 7))) (omega (arith, diff-abs d, abs-diff d (over z - (under z + 7)) (omega arith) (omega arith))))
+    rw (clamp-high 7 z e f) (diff-eq d (diff-pos (natAbs (z -ℤ pos 7))) (omega (arith, diff-abs d, abs-diff d (over z - (under z + 7)) (omega arith) (omega arith))))
 
 pub excess-none : (z : ℤ) → ltZ z (negsuc 7) ≡ false → ltZ (pos 7) z ≡ false → _≡_ {A = ℕ} 0 (natAbs (z -ℤ clamp4 z))
-excess-none z e f = rw (clamp4-mid z e f) (omega (arith, abs-diff (diff-sub (diff-of z) (diff-of z)) 0 (omega arith) (omega arith)))
+excess-none z e f = rw (clamp-mid 7 z e f) (omega (arith, abs-diff (diff-sub (diff-of z) (diff-of z)) 0 (omega arith) (omega arith)))
 
 -- the excess is no larger than what was clamped
 pub clamp4-excess : (z : ℤ) → natAbs (z -ℤ clamp4 z) ≤ natAbs z
@@ -327,17 +306,17 @@ clamp4-excess z = go (ltZ z (negsuc 7)) refl
   where
     high : (t : Bool) → ltZ (pos 7) z ≡ t → ltZ z (negsuc 7) ≡ false → natAbs (z -ℤ clamp4 z) ≤ natAbs z
     high true f e =
-        subst (λ (v : ℤ). natAbs (z -ℤ v) ≤ natAbs z) (sym (clamp4-high z e f))
+        subst (λ (v : ℤ). natAbs (z -ℤ v) ≤ natAbs z) (sym (clamp-high 7 z e f))
         (let l = diff-lt (diff-pos 7) (diff-of z) f in
         let d = diff-abs (diff-of z) in
         abs-diff (diff-sub (diff-of z) (diff-pos 7)) (natAbs z) (omega arith) (omega arith))
     high false f e =
-        subst (λ (v : ℤ). natAbs (z -ℤ v) ≤ natAbs z) (sym (clamp4-mid z e f))
+        subst (λ (v : ℤ). natAbs (z -ℤ v) ≤ natAbs z) (sym (clamp-mid 7 z e f))
         (abs-diff (diff-sub (diff-of z) (diff-of z)) (natAbs z) (omega arith) (omega arith))
 
     go : (t : Bool) → ltZ z (negsuc 7) ≡ t → natAbs (z -ℤ clamp4 z) ≤ natAbs z
     go true e =
-        subst (λ (v : ℤ). natAbs (z -ℤ v) ≤ natAbs z) (sym (clamp4-low z e))
+        subst (λ (v : ℤ). natAbs (z -ℤ v) ≤ natAbs z) (sym (clamp-low 7 z e))
         (let l = diff-lt (diff-of z) (diff-neg (diff-pos 8)) e in
         let d = diff-abs (diff-of z) in
         abs-diff (diff-sub (diff-of z) (diff-neg (diff-pos 8))) (natAbs z) (omega arith) (omega arith))

@@ -5,7 +5,7 @@ use lib.Dec.{ltb}
 use lib.Ieee.{size}
 use lib.Ieee.Nearest.{closest}
 use lib.IntN.{ℤ, pos, negsuc, negℤ, natAbs}
-use lib.Signed.{ltZ}
+use Rattle.whole.specs.Whole.{clamp}
 
 -- of m's `size m` binary digits the lowest `size m - 24` are dropped: the unit of the last that is kept
 unfoldable pub unit24 : ℕ → ℕ
@@ -33,5 +33,5 @@ unfoldable pub quantise : ℤ → ℕ → ℤ
 quantise d p = withSign d (nearestDown (round24 (natAbs d)) (scale p))
 
 -- "Clamp to −8..7"
-unfoldable pub clamp4 : ℤ → ℤ
-clamp4 z = cond (ltZ z (negsuc 7)) (negsuc 7) (cond (ltZ (pos 7) z) (pos 7) z)
+abbrev pub clamp4 : ℤ → ℤ
+clamp4 z = clamp 7 z

@@ -7,8 +7,9 @@ use native.Mathlib.Omega.{arith}
 use borrow.Author.Tests.{eq-eqb, ne-eqb}
 use lib.ListN.{getD}
 use Rattle.block.specs.Context.{withHeader}
-use Rattle.block.specs.Frame.{Playing, playing, playFrame}
-use Rattle.block.specs.Play.{takeHeader, play, playFrames}
+use Rattle.block.specs.Frame.{Playing, playing}
+use Rattle.block.specs.inner.Frames.{playFrame, playFrames}
+use Rattle.block.specs.Play.{takeHeader, play}
 use Rattle.block.proofs.LawsPlay.{onto, frame-onto, repeats}
 use Rattle.layout.specs.Sizes.{offsetOf}
 use Rattle.layout.proofs.Sizing.{block-place}

@@ -6,7 +6,8 @@ use native.Mathlib.Omega.{arith}
 use lib.IntN.{ℤ}
 use lib.ListN.{length, take}
 use lib.Seq.{take-length, take-append-le}
-use Rattle.block.specs.Frame.{Playing, playing, playFrame}
+use Rattle.block.specs.Frame.{Playing, playing}
+use Rattle.block.specs.inner.Frames.{playFrame}
 use Rattle.block.proofs.LawsPlay.{onto, frame-onto, frame-count}
 use Rattle.layout.specs.Sizes.{lastOf, blocksOf}
 use Rattle.whole.specs.Frames.{framesOf}

@@ -9,7 +9,7 @@ use Rattle.block.specs.declared.FrameContext.{FrameContext}
 use Rattle.block.specs.Address.{addressToSample}
 use Rattle.block.specs.Frame.{Lent, lent}
 use Rattle.block.specs.Play.{PlayEffect, playEffect, playBytes, playInto}
-use Rattle.block.specs.Refusals.{Outcome, accepted}
+use Rattle.whole.specs.Outcome.{Outcome, accepted}
 use Rattle.block.proofs.LawsCalls.{play-done, play-out}
 use Rattle.block.proofs.LawsPlay.{play-count}
 use Rattle.image.specs.declared.Answer.the-variants.{Accepted}
@@ -31,7 +31,7 @@ module _ (l : List ℕ) (k : ℕ) (out : List ℤ) (p : Playable l k (length out
   play-leaves = rw (play-accepts l k (length out) p)
 
   -- what the call of playing bytes left, with what was read for it
-  pub bytes-made : (n : ℕ) (cs : List ℤ) (c after : FrameContext) (body : List ℕ) (o : Outcome) (left : List ℤ)
+  pub bytes-made : (n : ℕ) (cs : List ℤ) (c after : FrameContext) (body : List ℕ) (o : Outcome ℕ) (left : List ℤ)
       → n ≡ lengthIn l k → cs ≡ coefficientsIn l → c ≡ contextIn l k → body ≡ bodyIn l k
       → playEffect o (lent after left) ≡ playBytes body n cs c out → lent after left ≡ leaves
   bytes-made n cs c after body o left en ec ex eb e =

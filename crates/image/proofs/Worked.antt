@@ -4,11 +4,11 @@ use mathlib.Core.Path.{_≡_, refl}
 use Prim.Native.Nat.{ℕ}
 use lib.IntN.{ℤ, pos}
 use lib.ListN.{replicate}
-use Rattle.block.specs.Context.{predictorOf, scaleOf, pushSample, withHeader}
+use Rattle.block.specs.Context.{predictor, scale, pushSample, withHeader}
 use Rattle.block.specs.Frame.{nibbleAt, nextSample, takeNibble}
 use Rattle.block.specs.Play.{takeHeader, playFrom, play}
-use Rattle.block.specs.Sample.{sampleOf}
-use Rattle.whole.specs.Whole.{signedNibble, clamp16}
+use Rattle.block.specs.Sample.{decodeSample}
+use Rattle.whole.specs.Whole.{signedNibble, clamp}
 use Rattle.layout.specs.Limits.{numbersOk}
 use Rattle.layout.specs.Sizes.{lastOf, blocksOf, bodyOf, sizeOf, offsetOf, lengthOf}
 use Rattle.whole.specs.Frames.{framesOf}
@@ -34,5 +34,5 @@ unfolding openAnswer headOk numbersFit markOk entriesOk entryOk totalIn rateIn b
 opens = refl
 
 pub plays : samplesIn (clip (0x44 ∷ 0x53 ∷ 0x50 ∷ 0x43 ∷ []) 1 1) ≡ pos 8 ∷ []
-unfolding samplesIn samplesFrom blockSamples bodyIn contextIn blocksIn offsetIn lengthIn headerIn newestIn olderIn coefficientsIn coefficientsUpTo signedAt play playFrom takeHeader takeNibble nextSample nibbleAt pushSample withHeader predictorOf scaleOf sampleOf signedNibble clamp16
+unfolding samplesIn samplesFrom blockSamples bodyIn contextIn blocksIn offsetIn lengthIn headerIn newestIn olderIn coefficientsIn coefficientsUpTo signedAt play playFrom takeHeader takeNibble nextSample nibbleAt pushSample withHeader predictor scale decodeSample signedNibble clamp
 plays = refl

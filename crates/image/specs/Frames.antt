@@ -8,7 +8,8 @@ use lib.ListN.{getD, replicate}
 use lib.Seq.{sets}
 use Rattle.block.specs.declared.FrameContext.{FrameContext}
 use Rattle.block.specs.Context.{newContext, withHeader}
-use Rattle.block.specs.Frame.{Playing, playing, playFrame}
+use Rattle.block.specs.Frame.{Playing, playing}
+use Rattle.block.specs.inner.Frames.{playFrame}
 use Rattle.layout.specs.Sizes.{placeOf}
 use Rattle.layout.specs.Sizes.{lastOf}
 use Rattle.whole.specs.Frames.{framesOf}

@@ -5,7 +5,7 @@ use Prim.Native.Nat.{ℕ, zero, suc}
 use lib.Dec.{eqb}
 use lib.IntN.{ℤ}
 use Rattle.block.specs.Play.{play}
-use Rattle.block.specs.Refusals.{same, lowestPair}
+use Rattle.block.specs.Refusals.{equal, lowestPair}
 use Rattle.image.specs.declared.Answer.{Answer}
 use Rattle.image.specs.declared.Answer.the-variants.{Accepted, Refused}
 use Rattle.image.specs.declared.SameAnswer.{SameAnswer}
@@ -33,7 +33,7 @@ unfoldable pub equalSamples : List ℤ → List ℤ → Bool
 equalSamples [] [] = true
 equalSamples [] (y ∷ ys) = false
 equalSamples (x ∷ xs) [] = false
-equalSamples (x ∷ xs) (y ∷ ys) = same x y && equalSamples xs ys
+equalSamples (x ∷ xs) (y ∷ ys) = equal x y && equalSamples xs ys
 
 -- "N is equal and the played samples are equal"
 unfoldable pub sameSound : List ℕ → List ℕ → Bool

@@ -13,7 +13,7 @@ use Rattle.frame.specs.Pass.{Bounded}
 use Rattle.block.specs.Address.{addressToSample}
 use Rattle.block.specs.Frame.{Playing}
 use Rattle.block.specs.Play.{play}
-use Rattle.block.specs.Refusals.{same, lowestAmong, lowestPair}
+use Rattle.block.specs.Refusals.{equal, lowestAmong, lowestPair}
 use Rattle.layout.specs.Sizes.{blocksOf, lengthOf}
 use Rattle.whole.specs.Frames.{framesOf}
 use Rattle.layout.specs.Sizes.{placeOf}
@@ -37,7 +37,7 @@ use Rattle.round_trip.proofs.Opening.{image, total-is, block-is, blocks
 
 -- ---- coefficients with room in the arithmetic have no pair of -32768
 
-not-both : (c0 c1 : ℤ) → Bounded c0 c1 → same c0 (negsuc 32767) && same c1 (negsuc 32767) ≡ false
+not-both : (c0 c1 : ℤ) → Bounded c0 c1 → equal c0 (negsuc 32767) && equal c1 (negsuc 32767) ≡ false
 not-both (pos m) c1 b = refl
 not-both (negsuc m) (pos n) b = go (eqb m 32767)
   where

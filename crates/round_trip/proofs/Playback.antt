@@ -16,9 +16,10 @@ use Rattle.whole.specs.declared.History.{History}
 use Rattle.frame.proofs.LawsEncoded.{history-step, frame-lengths, header-parts, index-le, frame-played}
 use Rattle.frame.specs.Fits.{Fit, FitHistory}
 use Rattle.block.specs.declared.FrameContext.{FrameContext}
-use Rattle.block.specs.Context.{predictorOf, scaleOf, contextWith, pushSample}
+use Rattle.block.specs.Context.{predictor, scale, contextWith, pushSample}
 use Rattle.block.specs.Frame as played
-use Rattle.block.specs.Frame.{Playing, playing, nibblesFrom, nextSample, takeNibble, playFrame}
+use Rattle.block.specs.Frame.{Playing, playing, nextSample, takeNibble}
+use Rattle.block.specs.inner.Frames.{nibblesFrom, playFrame}
 use Rattle.block.specs.Sample as sample
 use Rattle.block.proofs.LawsFrame.{nibbles-append}
 
@@ -33,7 +34,7 @@ module _ (cs : List ℤ) (header : ℕ) (h : History) (n : ℕ) where
   -- the sample that a header's pair and scale give
   named : header / 16 ≤ 7
       → nextSample cs (contextWith header h) n ≡ clamp16 (floored (weigh (c0At cs (header / 16)) (c1At cs (header / 16)) (h .newest) (h .older) +ℤ pos 1024) 2048 +ℤ signedNibble n *ℤ pos (2 ^ (header % 16)))
-  unfolding nextSample sample.sampleOf predictorOf scaleOf weigh
+  unfolding nextSample sample.decodeSample predictor scale weigh
   named l =
       let e : header / 16 % 8 ≡ header / 16 = omega arith in
       rw e

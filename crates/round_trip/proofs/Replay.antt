@@ -10,7 +10,7 @@ use lib.Seq.{take-all}
 use mir.Syntax.{w16}
 use mir.Val.{SFits}
 use Rattle.whole.specs.Frames.{frameAt}
-use Rattle.whole.proofs.Framing.{frame-at}
+use Rattle.whole.proofs.CutIntoFrames.{frame-at}
 use Rattle.frame.specs.Choice.{AllBounded}
 use Rattle.frame.specs.Frame.{encodeFrame, historyAfter, preceded}
 use Rattle.whole.specs.declared.History.{History}
@@ -18,8 +18,9 @@ use Rattle.frame.specs.Fits.{Fit, FitHistory}
 use Rattle.frame.proofs.LawsEncoded.{history-fits, frame-lengths, frame-fits, frame-distance}
 use Rattle.block.specs.declared.FrameContext.{FrameContext}
 use Rattle.block.specs.Context.{contextWith, withHeader}
-use Rattle.block.specs.Frame.{Playing, playing, nibbleAt, nibblesFrom, takeNibble, playFrame}
-use Rattle.block.specs.Play.{takeHeader, play, playFrames}
+use Rattle.block.specs.Frame.{Playing, playing, nibbleAt, takeNibble}
+use Rattle.block.specs.inner.Frames.{nibblesFrom, playFrame, playFrames}
+use Rattle.block.specs.Play.{takeHeader, play}
 use Rattle.block.proofs.LawsPlay.{onto, frame-onto, repeats}
 use Rattle.clip.specs.Runs.{Start, historyAt, encodedAt}
 use Rattle.round_trip.proofs.Rows.{row, row-at}

@@ -9,11 +9,11 @@ use lib.ListN.{length, drop, replicate}
 use Rattle.whole.specs.Frames.{frameAt, framesOf}
 use Rattle.frame.specs.Frame.{pairOk, pairsOk, coefficientsOk}
 use Rattle.frame.proofs.Worked.{quotients, frames}
-use Rattle.block.specs.Context.{predictorOf, scaleOf, pushSample, withHeader}
+use Rattle.block.specs.Context.{predictor, scale, pushSample, withHeader}
 use Rattle.block.specs.Frame.{nibbleAt, nextSample, takeNibble}
 use Rattle.block.specs.Play.{takeHeader, playFrom, play}
-use Rattle.block.specs.Sample.{sampleOf}
-use Rattle.whole.specs.Whole.{signedNibble, clamp16}
+use Rattle.block.specs.Sample.{decodeSample}
+use Rattle.whole.specs.Whole.{signedNibble, clamp}
 use Rattle.block.proofs.Worked.{to-sample, to-address, header}
 use Rattle.clip.specs.declared.Answer.the-variants.{Accepted}
 use Rattle.layout.specs.Sizes.{lastOf, blocksOf, bodyOf, sizeOf, cutDown, offsetOf, lengthOf}
@@ -25,7 +25,7 @@ use Rattle.image.proofs.Worked.{plays}
 use Rattle.round_trip.specs.Numbers.{silence, nine, heard, WorkedNumbers}
 
 heard-are : (heard 0x00 0x80 ≡ negsuc 7 ∷ []) × (heard 0x01 0x40 ≡ pos 8 ∷ [])
-unfolding play playFrom takeHeader takeNibble nextSample nibbleAt pushSample withHeader predictorOf scaleOf sampleOf signedNibble clamp16
+unfolding play playFrom takeHeader takeNibble nextSample nibbleAt pushSample withHeader predictor scale decodeSample signedNibble clamp
 heard-are = (refl, refl)
 
 sizes-are : (sizeOf 1 8 ≡ 74) × (sizeOf 14 8 ≡ 80) × (sizeOf 15 8 ≡ 98) × (sizeOf 15 16 ≡ 82)

@@ -8,7 +8,7 @@ use Rattle.whole.specs.declared.History.{History}
 use Rattle.frame.specs.Quantise.{quantise}
 use Rattle.frame.specs.Worked.{alone, frame}
 use Rattle.block.specs.Address.{addressToSample, sampleToAddress}
-use Rattle.block.specs.Context.{predictorOf, scaleOf, contextWith}
+use Rattle.block.specs.Context.{predictor, scale, contextWith}
 use Rattle.block.specs.Play.{play}
 use Rattle.whole.specs.Whole.{signedNibble}
 use Rattle.layout.specs.Sizes.{sizeOf}
@@ -36,7 +36,7 @@ pub record WorkedNumbers : Type 0 where
   -- "Back: 0 → 2; 13 → 15; 14 → 18; 28 → 34"
   pub to-addresses : (sampleToAddress 0 ≡ 2) × (sampleToAddress 13 ≡ 15) × (sampleToAddress 14 ≡ 18) × (sampleToAddress 28 ≡ 34)
   -- "Header 9C: predictor 1, scale 4096. Nibbles 7, 8, 15: 7, −8, −1"
-  pub headers : (predictorOf 0x9c ≡ 1) × (scaleOf 0x9c ≡ 4096) × (signedNibble 7 ≡ pos 7) × (signedNibble 8 ≡ negsuc 7) × (signedNibble 15 ≡ negsuc 0)
+  pub headers : (predictor 0x9c ≡ 1) × (scale 0x9c ≡ 4096) × (signedNibble 7 ≡ pos 7) × (signedNibble 8 ≡ negsuc 7) × (signedNibble 15 ≡ negsuc 0)
   -- "p = 0, D = 1024, 1025, −1024, −1025 → 0, 1, 0, −1. p = 12, D = 20,971,521 → 2"
   pub quantising : (quantise (pos 1024) 0 ≡ pos 0) × (quantise (pos 1025) 0 ≡ pos 1) × (quantise (negsuc 1023) 0 ≡ pos 0) × (quantise (negsuc 1024) 0 ≡ negsuc 0) × (quantise (pos 20971521) 12 ≡ pos 2)
   -- "Zero coefficients and history, one sample: 7 → 00 70; 8 → 00 70; −9 → 00 80 (played −8), 8 passes each; 9 → 01 40 (played 8), 16 passes"

@@ -1,6 +1,12 @@
-// What the crates of the codec share: whole-number helpers (clamping to 16 bits, division towards zero, arithmetic shift) and two samples of history.
+// What the crates of the codec share: whole-number helpers (clamping to 16 bits, division towards zero, arithmetic shift) two samples of history, and what a frame has.
 ghost use mathlib.Core.Path.{_≡_};
 ghost use Rattle.whole.specs.Whole.{clamp16, towardsZero, floored};
+
+// The samples of a frame.
+pub const SAMPLES_PER_FRAME: usize = 14;
+
+// The bytes of a frame: its header, and seven of nibbles.
+pub const BYTES_PER_FRAME: usize = 8;
 
 // The newest sample and the one before it.
 #[repr(C)]

@@ -12,13 +12,13 @@ use mir.Facts.{toZ-ofZ}
 use mir.Syntax.{w16}
 use mir.Val.{SFits}
 use Rattle.block.specs.Context.{historyWith}
-use Rattle.block.specs.Frame.{runFrom, Run, run}
+use Rattle.block.specs.inner.Nibbles.{playNibbles, Decoded, decoded}
 use Rattle.block.proofs.LawsFrame.{high-more, high-store, from-length}
 use Rattle.block.proofs.frame.play_nibbles.Statement.{statement}
 use Rattle.block.proofs.frame.play_nibbles.Tie as tie
 
-abbrev runOf : (c : tie.Start) → ℕ → Run
-runOf c n = let a = c .args in runFrom (now (a .bytes)) (2 * a .from) n (a .c0) (a .c1) (a .scale) (a .history)
+abbrev decodedOf : (c : tie.Start) → ℕ → Decoded
+decodedOf c n = let a = c .args in playNibbles (now (a .bytes)) (2 * a .from) n (a .c0) (a .c1) (a .scale) (a .history)
 
 play-pairs-requires : tie.Need-play-pairs-requires
 play-pairs-requires c κs = search needs
@@ -44,23 +44,23 @@ decode-sample-requires c κs =
     let a = c .before .before .before .before .before .before .before .before in
     (omega (arith, c .shared-slice-known2 .given (a .args .from + a .args .count / 2)), a .pre .2)
 
-mul-x : tie.Need-mul-x
-mul-x c = search needs
+mul-last : tie.Need-mul-last
+mul-last c = search needs
 
-add-x : tie.Need-add-x
-add-x c = search needs
+add-last : tie.Need-add-last
+add-last c = search needs
 
-mul-x-2 : tie.Need-mul-x-2
-mul-x-2 c = search needs
+mul-last-2 : tie.Need-mul-last-2
+mul-last-2 c = search needs
 
-slice-set-from-x : tie.Need-slice-set-from-x
-slice-set-from-x c = search needs
+slice-set-from-last : tie.Need-slice-set-from-last
+slice-set-from-last c = search needs
 
 same-length-2 : tie.Need-same-length-2
 same-length-2 c = search needs
 
 -- what `play_pairs` left
-pairs-left : (c : tie.After-play-pairs) → let s = c .before .before .before in c .play-pairs .result ≡ runOf s (2 * (s .args .count / 2)) .history
+pairs-left : (c : tie.After-play-pairs) → let s = c .before .before .before in c .play-pairs .result ≡ decodedOf s (2 * (s .args .count / 2)) .history
 pairs-left c =
     let f = c .before .before .before .fits in
     rw (toZ-ofZ (f .c0), toZ-ofZ (f .c1)) at (c .play-pairs .ensures .0)
@@ -69,7 +69,7 @@ pairs-left c =
 last : (c : tie.After-decode-sample) → let p = c .before .before .before .before .before .before in
     let s = p .before .before .before in
     let x = c .decode-sample .result in
-    runOf s (s .args .count) ≡ run (historyWith x (p .play-pairs .result .newest)) (runOf s (2 * (s .args .count / 2)) .samples ++ (x ∷ []))
+    decodedOf s (s .args .count) ≡ decoded (historyWith x (p .play-pairs .result .newest)) (decodedOf s (2 * (s .args .count / 2)) .samples ++ (x ∷ []))
 last c =
     let p = c .before .before .before .before .before .before in
     let s = p .before .before .before in
@@ -80,7 +80,7 @@ last c =
     let f0 : SFits w16 (h .newest) = record { sfits = told .given .0 .1 } in
     let f1 : SFits w16 (h .older) = record { sfits = told .given .1 .0 .1 } in
     let e : a .count ≡ 2 * (a .count / 2) + 1 = omega arith in
-    ap (runOf s) e
+    ap (decodedOf s) e
     ∙ high-more (now (a .bytes)) (a .from) (a .count / 2) (a .c0) (a .c1) (a .scale) (a .history) (h .newest) (h .older) (sym (pairs-left p)) (c .decode-sample .result)
     (rw (toZ-ofZ (f .c0), toZ-ofZ (f .c1), toZ-ofZ f0, toZ-ofZ f1) at (c .decode-sample .ensures))
 
@@ -91,7 +91,7 @@ returns-2 c =
     let a = s .args in
     let f = s .fits in
     let x = c .decode-sample .result in
-    let r = runOf s (2 * (a .count / 2)) in
+    let r = decodedOf s (2 * (a .count / 2)) in
     let l = last c in
     let xf : SFits w16 x = record { sfits = c .decode-sample .ok } in
     let hf : SFits w16 (p .play-pairs .result .newest) = record { sfits = c .before .before .struct-told2 .given .0 .1 } in
@@ -112,9 +112,9 @@ play-nibbles-spec =
     add-byte
     shared-slice-read-byte
     decode-sample-requires
-    mul-x
-    add-x
-    mul-x-2
-    slice-set-from-x
+    mul-last
+    add-last
+    mul-last-2
+    slice-set-from-last
     same-length-2
     returns-2)

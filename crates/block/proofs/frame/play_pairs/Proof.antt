@@ -11,7 +11,8 @@ use mir.Syntax.{w16}
 use mir.Val.{SFits, toZ, ofZ}
 use Rattle.whole.specs.declared.History.{History}
 use Rattle.block.specs.Context.{historyWith}
-use Rattle.block.specs.Frame.{runFrom, runNibbles, nibblesFrom, Run, run}
+use Rattle.block.specs.inner.Nibbles.{playNibbles, decodeNibbles, Decoded, decoded}
+use Rattle.block.specs.inner.Frames.{nibblesFrom}
 use Rattle.block.proofs.LawsFrame.{pair-more, pair-stores, from-length}
 use Rattle.block.proofs.frame.play_pairs.Statement.{statement}
 use Rattle.block.proofs.frame.play_pairs.Tie as tie
@@ -22,7 +23,7 @@ bits newest older = historyWith (toZ w16 newest) (toZ w16 older)
 
 abbrev Inv-loop : tie.InvT-loop
 Inv-loop bytes from pairs c0 c1 scale out₀ to newest₀ older₀ j₀ out newest older j =
-    let r = runFrom bytes (2 * from) (2 * j) (toZ w16 c0) (toZ w16 c1) scale (bits newest₀ older₀) in
+    let r = playNibbles bytes (2 * from) (2 * j) (toZ w16 c0) (toZ w16 c1) scale (bits newest₀ older₀) in
     (j ≤ pairs)
     × SFits w16 (toZ w16 newest)
     × SFits w16 (toZ w16 older)
@@ -39,7 +40,7 @@ older-fits : (c : tie.After-struct-told2 Inv-loop μ-loop) → SFits w16 (c .bef
 older-fits c = record { sfits = c .struct-told2 .given .1 .0 .1 }
 
 loop-holds : tie.Need-loop-holds Inv-loop μ-loop
-unfolding runFrom runNibbles nibblesFrom
+unfolding playNibbles decodeNibbles nibblesFrom
 loop-holds c =
     let n = newest-fits c in
     let o = older-fits c in
@@ -101,20 +102,20 @@ x-fits c = record { sfits = c .decode-sample .ok }
 y-fits : (c : tie.After-decode-sample2 Inv-loop μ-loop) → SFits w16 (c .decode-sample2 .result)
 y-fits c = record { sfits = c .decode-sample2 .ok }
 
-abbrev runOf : (c : tie.At-loop Inv-loop μ-loop) → ℕ → Run
-runOf c n =
+abbrev decodedOf : (c : tie.At-loop Inv-loop μ-loop) → ℕ → Decoded
+decodedOf c n =
     let a = c .before .before .before .before .args in
-    runFrom (now (a .bytes)) (2 * a .from) n (toZ w16 (ofZ w16 (a .c0))) (toZ w16 (ofZ w16 (a .c1))) (a .scale) (bits (ofZ w16 (a .history .newest)) (ofZ w16 (a .history .older)))
+    playNibbles (now (a .bytes)) (2 * a .from) n (toZ w16 (ofZ w16 (a .c0))) (toZ w16 (ofZ w16 (a .c1))) (a .scale) (bits (ofZ w16 (a .history .newest)) (ofZ w16 (a .history .older)))
 
-run-length : (c : tie.At-loop Inv-loop μ-loop) → length (runOf c (2 * c .loop .j) .samples) ≡ 2 * c .loop .j
-run-length c =
+decoded-length : (c : tie.At-loop Inv-loop μ-loop) → length (decodedOf c (2 * c .loop .j) .samples) ≡ 2 * c .loop .j
+decoded-length c =
     let a = c .before .before .before .before .args in
     from-length (now (a .bytes)) (2 * a .from) (toZ w16 (ofZ w16 (a .c0))) (toZ w16 (ofZ w16 (a .c1))) (a .scale) (bits (ofZ w16 (a .history .newest)) (ofZ w16 (a .history .older))) (2 * c .loop .j)
 
 turn : (c : tie.After-decode-sample2 Inv-loop μ-loop) → let l = c .before .before .before .before in
     let x = c .before .decode-sample .result in
     let y = c .decode-sample2 .result in
-    runOf l (2 * (l .loop .j + 1)) ≡ run (historyWith y x) (runOf l (2 * l .loop .j) .samples ++ (x ∷ y ∷ []))
+    decodedOf l (2 * (l .loop .j + 1)) ≡ decoded (historyWith y x) (decodedOf l (2 * l .loop .j) .samples ++ (x ∷ y ∷ []))
 turn c =
     let l = c .before .before .before .before in
     let a = l .before .before .before .before .args in
@@ -132,9 +133,9 @@ loop-again c =
       omega arith,
       rw (toZ-ofZ yf) yf,
       rw (toZ-ofZ xf) xf,
-      rw (toZ-ofZ xf, toZ-ofZ yf) (ap (λ (r : Run). r .history) e),
+      rw (toZ-ofZ xf, toZ-ofZ yf) (ap (λ (r : Decoded). r .history) e),
       rw (toZ-ofZ xf, toZ-ofZ yf, l .loop .inv .4)
-          (pair-stores (now (a .out)) (a .to) (l .loop .j) (runOf l (2 * l .loop .j) .samples) x y (run-length l) ∙ ap (λ (r : Run). sets (now (a .out)) (a .to) (r .samples)) (sym e)),
+          (pair-stores (now (a .out)) (a .to) (l .loop .j) (decodedOf l (2 * l .loop .j) .samples) x y (decoded-length l) ∙ ap (λ (r : Decoded). sets (now (a .out)) (a .to) (r .samples)) (sym e)),
     )
 
 same-length : tie.Need-same-length Inv-loop μ-loop

@@ -6,7 +6,7 @@ use mathlib.Core.Path.{subst, sym}
 use mir.ValLaws.{toZ-ofZ, ofZ-fits}
 use mir.Val.{SFits, Fits}
 use mir.Syntax.{w16, w32}
-use Rattle.whole.proofs.Sixteen.{sum, up, inner, nonneg, fits32}
+use Rattle.whole.proofs.SixteenBits.{sum, up, inner, nonneg, fits32}
 use borrow.Author.Needs.{needs}
 use Rattle.clip_list.proofs.numbers.bits.Statement.{statement}
 use Rattle.clip_list.proofs.numbers.bits.Tie as tie

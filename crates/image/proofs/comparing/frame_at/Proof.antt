@@ -1,6 +1,6 @@
 -- `frame_at` meets its contract. Assumes nothing.
 use mathlib.Core.Path.{_≡_, ap}
-use Rattle.block.specs.Frame.{Lent, frameInto}
+use Rattle.block.specs.Frame.{Lent}
 use Rattle.image.specs.declared.comparing.Frame.{Frame}
 use Rattle.image.specs.Frames.{frameAt}
 use borrow.Author.Needs.{needs}
@@ -14,7 +14,7 @@ play-frame-requires : tie.Need-play-frame-requires
 play-frame-requires c κs = search needs
 
 returns : tie.Need-returns
-unfolding frameAt frameInto
+unfolding frameAt
 returns c = ap (λ (x : Lent). record { samples = x .out; context = x .context }) (c .before .play-frame .ensures)
 
 pub frame-at-spec : {M : Type 1} → statement M

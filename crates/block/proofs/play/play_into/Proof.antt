@@ -1,4 +1,4 @@
--- `play_frames` meets its contract: after k turns the first k frames are played. Assumes nothing.
+-- `play_into` meets its contract: after k turns the first k frames are played. Assumes nothing.
 use denote.Ref.{now}
 use mathlib.Core.Path.{_≡_, refl, sym, ap, _∙_}
 use mathlib.Core.List.{[]}
@@ -8,11 +8,11 @@ use lib.ListN.{length}
 use lib.Seq.{sets, length-sets}
 use Rattle.block.specs.Address.{addressToSample}
 use Rattle.block.specs.Frame.{playing}
-use Rattle.block.specs.Play.{playFrames}
+use Rattle.block.specs.inner.Frames.{playFrames}
 use Rattle.block.proofs.LawsAddress.{room-whole, room-last}
 use Rattle.block.proofs.LawsPlay.{frame-turn, frame-end}
-use Rattle.block.proofs.play.play_frames.Statement.{statement}
-use Rattle.block.proofs.play.play_frames.Tie as tie
+use Rattle.block.proofs.play.play_into.Statement.{statement}
+use Rattle.block.proofs.play.play_into.Tie as tie
 
 abbrev Inv-loop : tie.InvT-loop
 Inv-loop bytes len coefficients out₀ current₀ k₀ left₀ out current k left =
@@ -67,7 +67,8 @@ loop-again c =
     let d = c .before .before .before in
     let l = d .before .before .before in
     let a = l .before .before .args in
-    let t = frame-turn (now (a .bytes)) (a .coefficients) (l .loop .k) (playing (a .context) []) (l .loop .current) (d .play-frame .result) (now (a .out)) (l .loop .out) _ refl (l .loop .inv .2) (l .loop .inv .3) (d .play-frame .ensures) in
+    let t = frame-turn (now (a .bytes)) (a .coefficients) (l .loop .k) (playing (a .context) []) (l .loop .current) (d .play-frame .result) (now (a .out)) (l .loop .out) _
+    refl (l .loop .inv .2) (l .loop .inv .3) (d .play-frame .ensures) in
     (omega arith, omega arith, t .0 ∙ sym (c .with-header .ensures), t .1)
 
 beyond-header-requires : tie.Need-beyond-header-requires Inv-loop μ-loop
@@ -97,10 +98,11 @@ returns c =
     let a = l .before .before .args in
     let e = rw (b .beyond-header .ensures) at (d .play-frame2 .ensures) in
     rw (l .loop .inv .1)
-    at (frame-end (now (a .bytes)) (a .coefficients) (l .loop .k) (l .loop .left) (a .context) (l .loop .current) (d .play-frame2 .result) (now (a .out)) (l .loop .out) _ (l .loop .inv .0) (omega arith) (l .loop .inv .2) (l .loop .inv .3) e)
+    at (frame-end (now (a .bytes)) (a .coefficients) (l .loop .k) (l .loop .left) (a .context) (l .loop .current) (d .play-frame2 .result) (now (a .out)) (l .loop .out) _
+    (l .loop .inv .0) (omega arith) (l .loop .inv .2) (l .loop .inv .3) e)
 
-pub play-frames-spec : {M : Type 1} → statement M
-play-frames-spec =
+pub play-into-spec : {M : Type 1} → statement M
+play-into-spec =
     tie.close
     (tie.spec
     Inv-loop
