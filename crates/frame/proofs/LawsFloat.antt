@@ -27,7 +27,8 @@ shifted q k j l h =
     let e : 2 ^ k * 2 ^ l ≡ 2 ^ (k + (l - j)) * 2 ^ j = sym (pow-add 2 k l) ∙ ap (λ (n : ℕ). 2 ^ n) (omega arith) ∙ pow-add 2 (k + (l - j)) j in
     mul-assoc q (2 ^ k) (2 ^ l) ∙ ap (λ (n : ℕ). q * n) e ∙ sym (mul-assoc q (2 ^ (k + (l - j))) (2 ^ j))
 
-digits-exact : (f : Format) (s : Bool) (q k j : ℕ) → q < 2 ^ prec f → q * 2 ^ (k + (low f - j)) < 2 ^ (low f + suc (emax f)) → j ≤ low f → HasValue (round f s (q * 2 ^ k) (2 ^ j)) s (q * 2 ^ k) (2 ^ j)
+digits-exact : (f : Format) (s : Bool) (q k j : ℕ) → q < 2 ^ prec f → q * 2 ^ (k + (low f - j)) < 2 ^ (low f + suc (emax f)) → j ≤ low f
+    → HasValue (round f s (q * 2 ^ k) (2 ^ j)) s (q * 2 ^ k) (2 ^ j)
 digits-exact f s q k j small fine J = round-exact f s (q * 2 ^ k) (2 ^ j) q (k + (low f - j)) (pow-pos j) small fine (shifted q k j (low f) J)
 
 one-lt : (p : ℕ) → 2 ≤ p → 1 < 2 ^ p

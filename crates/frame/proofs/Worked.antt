@@ -8,7 +8,7 @@ use Rattle.whole.specs.Whole.{clamp}
 use Prim.Native.Nat.{ℕ}
 use Rattle.frame.specs.Worked.{alone, frame}
 use Rattle.frame.specs.Estimate.{weigh, difference, largerMagnitude, isLowest, look, largestDifference, isSmall, halvingsWithin, halvings, maxZ, exponentOf, firstExponent}
-use Rattle.frame.specs.Quantise.{unit24, round24, nearestDown, quantise, clamp4}
+use Rattle.frame.specs.Quantise.{unit24, round24, nearestDown, quantise}
 use Rattle.frame.specs.Pass.{residual, reconstruct, codeSample, squaredDifference, next, upto, runPass}
 use Rattle.frame.specs.Search.{raiseWithin, raise, isLast, finished, searchWithin, tryCoefficients}
 use Rattle.frame.specs.Choice.{candidateAt, winner, passesOf}
@@ -21,5 +21,6 @@ quotients = (refl, refl, refl, refl, refl)
 
 -- "one sample: 7 → 00 70; 8 → 00 70; −9 → 00 80 (played −8), 8 passes each; 9 → 01 40 (played 8), 16 passes"
 pub frames : (alone (pos 7) ≡ frame 0 0x70 8 (pos 7)) × (alone (pos 8) ≡ frame 0 0x70 8 (pos 7)) × (alone (negsuc 8) ≡ frame 0 0x80 8 (negsuc 7)) × (alone (pos 9) ≡ frame 1 0x40 16 (pos 8))
-unfolding encodeFrame packFrame byteOf lowFour winner passesOf candidateAt tryCoefficients searchWithin finished isLast raise raiseWithin runPass upto next codeSample squaredDifference reconstruct residual weigh firstExponent exponentOf maxZ halvings halvingsWithin isSmall largestDifference look isLowest largerMagnitude difference clamp quantise round24 nearestDown unit24 size span climb
+unfolding encodeFrame packFrame byteOf lowFour winner passesOf candidateAt tryCoefficients searchWithin finished isLast raise raiseWithin runPass upto next codeSample squaredDifference reconstruct
+    residual weigh firstExponent exponentOf maxZ halvings halvingsWithin isSmall largestDifference look isLowest largerMagnitude difference clamp quantise round24 nearestDown unit24 size span climb
 frames = (refl, refl, refl, refl)

@@ -68,7 +68,7 @@ nibble-fits c = record { sfits = c .struct-told3 .given .0 .1 }
 sample-fits : (c : tie.After-struct-told3 Inv-loop μ-loop) → SFits w16 (c .before .code-sample .result .sample)
 sample-fits c = record { sfits = c .struct-told3 .given .1 .0 .1 }
 
-square-is : (c : tie.After-squared-difference Inv-loop μ-loop) → let s = c .before .before .before .before .before .before .before .before .before .before in let l = c .before .before .before .before .before .before .before in
+square-is : (c : tie.After-squared-difference Inv-loop μ-loop) → let l = c .before .before .before .before .before .before .before in let s = l .before .before .before in
     c .squared-difference .result
     ≡ squaredDifference (getD (s .args .t4) (l .loop .i) (pos 0)) (c .before .before .before .before .code-sample .result .sample)
 square-is c = rw (toZ-ofZ (x-fits (c .before .before .before .before .before)), toZ-ofZ (sample-fits (c .before .before .before))) at (c .squared-difference .ensures)
