@@ -1,24 +1,21 @@
 -- Laws of playing a part: what is read, bytes before and after, a block cut at a frame's start.
 use mathlib.Core.Path.{_≡_, refl, sym, ap, _∙_, subst}
 use mathlib.Core.Bool.{Bool, true, false, cond}
-use mathlib.Core.List.{List, [], _∷_, _++_, append-assoc, append-nil}
+use mathlib.Core.List.{List, [], _++_, append-assoc, append-nil}
 use mathlib.Core.Logic.{_⊎_, inl, inr, ⊎-elim}
 use Prim.Native.Nat.{ℕ, zero, suc, _+_, _-_, _*_, _/_, _%_, _≤_, _<_}
 use native.Mathlib.Nat.{add-zero, zero-add, add-suc, suc-add}
 use native.Mathlib.Omega.{arith}
 use lib.Dec.{eqb}
 use borrow.Author.Tests.{eqb-true, eqb-false}
-use lib.IntN.{ℤ, pos}
+use lib.IntN.{ℤ}
 use lib.ListN.{length, getD, drop, List·getD-append}
 use lib.Seq.{getD-drop, drop-append-seam, getD-append-add}
-use mir.Syntax.{w16}
-use mir.Val.{SFits}
 use Rattle.block.specs.declared.FrameContext.{FrameContext}
 use Rattle.block.specs.Context.{withHeader}
-use Rattle.block.specs.Frame.{nibbleAt, Playing, playing, nextSample, takeNibble}
+use Rattle.block.specs.Frame.{nibbleAt, Playing, playing, takeNibble}
 use Rattle.block.specs.inner.Frames.{nibblesFrom, playFrame, playFrames}
 use Rattle.block.specs.Play.{takeHeader, playFrom, play}
-use Rattle.block.proofs.LawsSample.{sample-fits}
 use Rattle.block.proofs.LawsPlay.{onto, at-sample, at-header, frames, repeats}
 
 cond-both : {A : Type 0} (t : Bool) {x y u v : A} → x ≡ u → y ≡ v → cond t x y ≡ cond t u v

@@ -1,15 +1,15 @@
 -- Laws of clamping.
-use mathlib.Core.Path.{_≡_, refl, sym, ap, _∙_, subst}
+use mathlib.Core.Path.{_≡_, refl, sym, subst}
 use mathlib.Core.Bool.{Bool, true, false, cond}
-use Prim.Native.Nat.{ℕ, suc, _+_, _≤_, _<_}
+use Prim.Native.Nat.{ℕ, suc, _+_, _≤_}
 use native.Mathlib.Omega.{arith}
 use lib.IntN.{ℤ, pos, negsuc, natAbs, _-ℤ_}
-use lib.Signed.{ltZ, mag}
+use lib.Signed.{ltZ}
 use borrow.Author.Tests.{ltb-false}
 use mir.Syntax.{w16}
 use mir.Val.{SFits}
 use Rattle.whole.specs.Whole.{clamp, clamp16}
-use Rattle.whole.proofs.Differences.{Diff, diff-of, diff-sub, diff-pos, diff-neg, diff-lt, diff-le, diff-abs, abs-diff, over, under}
+use Rattle.whole.proofs.Differences.{diff-of, diff-sub, diff-pos, diff-neg, diff-lt, diff-abs, abs-diff, over, under}
 
 -- ---- the three cases
 

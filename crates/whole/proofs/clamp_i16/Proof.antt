@@ -1,8 +1,5 @@
 -- `clamp_i16` meets its contract. Assumes nothing.
-use mathlib.Core.Path.{_≡_, refl, sym, ap, _∙_}
-use mathlib.Core.Bool.{Bool, true, false}
-use lib.IntN.{pos, negsuc}
-use lib.Signed.{ltZ}
+use mathlib.Core.Path.{sym}
 use mir.Facts.{toZ-ofZ}
 use mir.Val.{SFits}
 use mir.Syntax.{w16}

@@ -58,7 +58,9 @@ decode-sample-requires c κs =
     (omega (arith, c .shared-slice-known2 .given (s .args .from + c .before .before .loop .j)), s .pre .2)
 
 decode-sample-requires-2 : tie.Need-decode-sample-requires-2 Inv-loop μ-loop
-decode-sample-requires-2 c κs = (omega arith, c .before .before .before .before .before .before .before .pre .2)
+decode-sample-requires-2 c κs =
+    let s = c .before .before .before .before .before .before .before in
+    (omega arith, s .pre .2)
 
 mul-x : tie.Need-mul-x Inv-loop μ-loop
 mul-x c = omega arith
