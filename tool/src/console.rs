@@ -2,8 +2,11 @@
 
 use crate::failure::{Failure, Status};
 use crate::json::{Fields, Json};
+use crate::lines::Lines;
+use crate::paint::{Colour, Paint, Stream, knows_escapes};
+use crate::progress;
 use std::cell::RefCell;
-use std::io::{self, BufWriter, IsTerminal, Write};
+use std::io::{self, Write};
 
 /// Where the words of an answer go.
 #[derive(Clone, Copy, PartialEq, Eq)]
@@ -16,22 +19,38 @@ pub enum Words {
     Summary,
 }
 
+/// What was said, and where it goes.
+pub type Said = Vec<(Stream, Vec<u8>)>;
+
 /// How to speak.
 pub struct Console {
     pub command: &'static str,
     pub quiet: bool,
     pub json: bool,
     notes: RefCell<Vec<String>>,
+    /// Kept to be written later, where several files are worked on at once.
+    kept: Option<RefCell<Said>>,
 }
 
 impl Console {
     pub fn new(command: &'static str, quiet: bool, json: bool) -> Self {
-        Self { command, quiet, json, notes: RefCell::default() }
+        Self { command, quiet, json, notes: RefCell::default(), kept: None }
+    }
+
+    /// The same, for one of many files: what it says is kept.
+    pub fn for_one(command: &'static str, quiet: bool, json: bool) -> Self {
+        Self { kept: Some(RefCell::default()), ..Self::new(command, quiet, json) }
+    }
+
+    /// What was kept.
+    pub fn said(self) -> Said {
+        self.kept.map(RefCell::into_inner).unwrap_or_default()
     }
 
     /// Whether to show progress.
     pub fn shows_progress(&self) -> bool {
-        !self.quiet && !self.json && io::stderr().is_terminal()
+        let shows = !self.quiet && !self.json && self.kept.is_none();
+        shows && Stream::Err.is_terminal() && knows_escapes()
     }
 
     /// Says something that is no failure.
@@ -39,7 +58,8 @@ impl Console {
         if self.json {
             self.notes.borrow_mut().push(note);
         } else if !self.quiet {
-            let _ = writeln!(io::stderr(), "doilycairn: note: {note}");
+            let word = Paint::of(Stream::Err).text(Colour::Warning, "note:");
+            let _ = self.say(Stream::Err, format!("doilycairn: {word} {note}\n").into_bytes());
         }
     }
 
@@ -52,11 +72,12 @@ impl Console {
         words: impl FnOnce(&mut dyn Write) -> io::Result<()>,
     ) -> Result<Status, Failure> {
         if self.json {
-            standard_output(|out| self.object(status, fields).write_line(out))?;
+            self.lines(|out| self.object(status, fields).write_line(out))?;
         } else if place == Words::Asked || (place == Words::Status && !self.quiet) {
-            standard_output(words)?;
+            self.lines(words)?;
         } else if !self.quiet {
-            let _ = words(&mut io::stderr().lock());
+            let mut text = vec![];
+            let _ = words(&mut text).and_then(|()| self.say(Stream::Err, text));
         }
         Ok(status)
     }
@@ -70,11 +91,32 @@ impl Console {
         ]);
         let told = self.json && {
             let object = self.object(failure.status, vec![("error", error)]);
-            standard_output(|out| object.write_line(out)).is_ok()
+            self.lines(|out| object.write_line(out)).is_ok()
         };
         if !told && !failure.silent {
-            let _ = writeln!(io::stderr(), "doilycairn: {}", failure.message);
+            let word = Paint::of(Stream::Err).text(Colour::Bad, "doilycairn:");
+            let line = format!("{word} {}\n", failure.message);
+            let _ = self.say(Stream::Err, line.into_bytes());
         }
+    }
+
+    /// Writes lines to standard output.
+    fn lines(&self, words: impl FnOnce(&mut dyn Write) -> io::Result<()>) -> Result<(), Failure> {
+        if self.kept.is_none() {
+            return standard_output(words);
+        }
+        let mut text = vec![];
+        let written = words(&mut text).and_then(|()| self.say(Stream::Out, text));
+        written.map_err(|error| Failure::io("write", "standard output", &error))
+    }
+
+    /// Says it in one write, or keeps it.
+    fn say(&self, stream: Stream, text: Vec<u8>) -> io::Result<()> {
+        match &self.kept {
+            Some(kept) => kept.borrow_mut().push((stream, text)),
+            None => write(stream, &text)?,
+        }
+        Ok(())
     }
 
     /// The object: command and status, the fields, the notes.
@@ -89,11 +131,24 @@ impl Console {
     }
 }
 
+/// Writes at once what was said, where no progress is shown.
+pub fn write(stream: Stream, text: &[u8]) -> io::Result<()> {
+    progress::clear();
+    match stream {
+        Stream::Err => io::stderr().write_all(text),
+        Stream::Out => {
+            let mut out = Lines::new(io::stdout().lock());
+            out.write_all(text)?;
+            out.flush()
+        }
+    }
+}
+
 /// Writes to standard output, to its end.
 pub fn standard_output(
     words: impl FnOnce(&mut dyn Write) -> io::Result<()>,
 ) -> Result<(), Failure> {
-    let mut out = BufWriter::new(io::stdout().lock());
+    let mut out = Lines::new(io::stdout().lock());
     words(&mut out)
         .and_then(|()| out.flush())
         .map_err(|error| Failure::io("write", "standard output", &error))

@@ -25,7 +25,13 @@ use std::io::{self, Write};
 use svg::Svg;
 
 /// Draws the image; with a reference, also how far what is played is from it, up to the end of the shorter one.
-pub fn draw(image: &Image, reference: Option<&[i16]>, out: &mut dyn Write) -> io::Result<()> {
+pub fn draw(
+    name: &str,
+    image: &Image,
+    reference: Option<&[i16]>,
+    out: &mut dyn Write,
+) -> io::Result<()> {
+    let _ = name;
     let seen = walk::walk(image, reference).map_err(io::Error::other)?;
     let layout = Layout::new(&seen);
     let mut svg = Svg::begin(out, &words::title(&seen))?;

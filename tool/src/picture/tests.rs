@@ -36,7 +36,7 @@ fn encode(clip: &[i16], block_size: u32) -> Vec<u8> {
 /// The picture's text, and its elements.
 fn picture(bytes: &[u8], reference: Option<&[i16]>) -> (String, Vec<Element>) {
     let mut out = vec![];
-    draw(&Image::open(bytes).unwrap(), reference, &mut out).unwrap();
+    draw("clip.dspc", &Image::open(bytes).unwrap(), reference, &mut out).unwrap();
     let text = String::from_utf8(out).unwrap();
     let elements = xml::elements(&text);
     (text, elements)
@@ -234,9 +234,9 @@ fn exponents_above_12_have_room() {
 fn what_does_not_play_or_cannot_be_written_is_an_error() {
     let mut bytes = encode(&noise(20), 64);
     let image = Image::open(&bytes).unwrap();
-    assert!(draw(&image, None, &mut &mut [0; 100][..]).is_err());
+    assert!(draw("clip.dspc", &image, None, &mut &mut [0; 100][..]).is_err());
     bytes[16..20].copy_from_slice(&[0x80, 0, 0x80, 0]);
-    let error = draw(&Image::open(&bytes).unwrap(), None, &mut vec![]).unwrap_err();
+    let error = draw("clip.dspc", &Image::open(&bytes).unwrap(), None, &mut vec![]).unwrap_err();
     assert_eq!(error.to_string(), "a pair of coefficients is -32,768 twice (refusal 13)");
 }
 
