@@ -25,7 +25,7 @@ pub const TOPICS: [(&str, &str); 4] = [
 /// Help of the program.
 pub fn program() -> String {
     let mut text = format!("doilycairn: {ABOUT}\n\nUsage: doilycairn COMMAND [OPTIONS] FILES\n\n");
-    let calls = |c: &&Command| (format!("{} {}", c.name, c.operands.join(" ")), c.summary.into());
+    let calls = |c: &&Command| (format!("{} {}", c.name, c.usages()[0]), c.summary.into());
     table(&mut text, &command::ALL.iter().map(calls).collect::<Vec<_>>());
     text += "\nEvery command:\n";
     let mut common: Vec<(String, String)> = COMMON.iter().map(line).collect();
@@ -99,7 +99,7 @@ fn paragraph(text: &mut String, words: &str) {
 }
 
 /// Lines of at most so many letters.
-fn wrapped(words: &str, width: usize) -> Vec<String> {
+pub fn wrapped(words: &str, width: usize) -> Vec<String> {
     let mut lines = vec![String::new()];
     for word in words.split(' ') {
         let line = lines.last_mut().expect("there is a line");

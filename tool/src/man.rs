@@ -2,14 +2,21 @@
 
 use crate::command::{self, Command};
 use crate::failure::STATUSES;
-use crate::help::{ABOUT, FILES, TOPICS};
+use crate::help::{ABOUT, FILES, TOPICS, wrapped};
 use crate::options::{COMMON, Opt};
 use std::fmt::Write;
+
+/// Letters in a line of the source.
+const WIDTH: usize = 78;
+
+/// The day of the version.
+const DATE: &str = "2026-11-16";
 
 /// The page, for `man`.
 pub fn page() -> String {
     let version = env!("CARGO_PKG_VERSION");
-    let mut page = format!(".TH DOILYCAIRN 1 \"\" \"doilycairn {version}\" \"User Commands\"\n");
+    let head = format!("\"{DATE}\" \"doilycairn {version}\" \"User Commands\"");
+    let mut page = format!(".TH DOILYCAIRN 1 {head}\n");
     let names: Vec<&str> = command::ALL.iter().map(|command| command.name).collect();
     section(&mut page, "NAME");
     let _ =
@@ -74,11 +81,12 @@ fn option(page: &mut String, opt: &Opt) {
 
 /// A paragraph; a line that begins with a blank stays as it is.
 fn paragraph(page: &mut String, words: &str) {
-    page.push_str(".PP\n");
+    let first = page.lines().last().is_some_and(|line| line.starts_with(".SH"));
+    page.push_str(if first { "" } else { ".PP\n" });
     for part in words.split('\n') {
         match part.strip_prefix("  ") {
             Some(example) => {
-                let _ = writeln!(page, ".RS 4\n.nf\n{}\n.fi\n.RE", line(example));
+                let _ = writeln!(page, ".RS 4\n.nf\n{}\n.fi\n.RE", escaped(example));
             }
             None => {
                 let _ = writeln!(page, "{}", line(part));
@@ -87,10 +95,14 @@ fn paragraph(page: &mut String, words: &str) {
     }
 }
 
-/// A line of text, which no macro begins with.
+/// A text in lines, none of which begins as a macro does.
 fn line(text: &str) -> String {
-    let text = escaped(text);
-    if text.starts_with(['.', '\'']) { format!("\\&{text}") } else { text }
+    let guarded = |line: String| match line.starts_with(['.', '\'']) {
+        true => format!("\\&{line}"),
+        false => line,
+    };
+    let lines = wrapped(&escaped(text), WIDTH).into_iter().map(guarded);
+    lines.collect::<Vec<_>>().join("\n")
 }
 
 /// A text with the characters that troff gives a meaning written in another way.

@@ -7,7 +7,7 @@ use std::fmt::Write;
 const HEAD: &str = r#"# Completions of doilycairn for bash.
 
 _doilycairn() {
-    local cur=${COMP_WORDS[COMP_CWORD]} prev=${COMP_WORDS[COMP_CWORD-1]} command= words= word
+    local cur=${COMP_WORDS[COMP_CWORD]} prev=${COMP_WORDS[COMP_CWORD-1]} command='' words='' word
     for word in "${COMP_WORDS[@]:1:COMP_CWORD-1}"; do
         if [[ -z $command && $word != -* ]]; then
             command=$word

@@ -5,6 +5,7 @@ mod clicks;
 mod coefficients;
 mod damage;
 mod decode;
+mod demo;
 mod dropped;
 mod encode;
 mod followed;
