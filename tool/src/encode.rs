@@ -45,7 +45,7 @@ pub const COMMAND: Command = Command {
         ),
         flag(
             "--pad-to-frame",
-            "adds up to 13 samples of silence, so that a clip can follow: whole frames (14 samples)",
+            "holds the last sample for up to 13 more, so that a clip can follow: whole frames (14 samples)",
         ),
         flag("--cut-to-frame", "leaves out up to 13 samples at the end, so that a clip can follow"),
         flag("--verify", "plays the image before it is written and tests each sample's distance"),

@@ -35,7 +35,7 @@ pub fn wanted(args: &Args) -> Result<Framing, Failure> {
     }
 }
 
-/// Pads or cuts a clip to whole frames.
+/// Pads or cuts a clip to whole frames; the last sample is held, since a step to zero would spoil the last frame.
 pub fn apply(framing: Framing, name: &str, clip: &mut Vec<i16>) -> Result<Framed, Failure> {
     let more = clip.len() % FRAME;
     match framing {
@@ -49,7 +49,7 @@ pub fn apply(framing: Framing, name: &str, clip: &mut Vec<i16>) -> Result<Framed
         }
         Framing::Pad => {
             let added = clip.len().next_multiple_of(FRAME) - clip.len();
-            clip.resize(clip.len() + added, 0);
+            clip.resize(clip.len() + added, clip.last().copied().unwrap_or(0));
             Ok(Framed { added, left_out: 0 })
         }
         Framing::Keep => Ok(Framed::default()),
@@ -61,7 +61,7 @@ impl Framed {
         match (self.added as u64, self.left_out as u64) {
             (0, 0) => String::new(),
             (0, more) => format!("; {} left out", counted(more, "sample", "samples")),
-            (more, _) => format!("; {} of silence added", counted(more, "sample", "samples")),
+            (more, _) => format!("; {} added", counted(more, "sample", "samples")),
         }
     }
 

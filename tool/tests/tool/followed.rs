@@ -31,7 +31,7 @@ fn padded_and_cut_clips_can_be_followed() {
         {
             folder.done(&format!("encode {option} a.wav a"));
             let mut wanted = clip.clone();
-            wanted.resize(total, 0);
+            wanted.resize(total, clip[len - 1]);
             assert_eq!(folder.read("a"), image(&wanted, 32_000, 8192), "{len} {option}");
             let run = folder.done("encode --after a b.wav b");
             assert!(!run.err.contains("note"), "{}", run.err);
@@ -48,9 +48,7 @@ fn what_was_added_or_left_out_is_said() {
     let folder = Folder::new();
     folder.write("in.wav", wav(&sound(1000, 1), 32_000));
     folder.write("short.wav", wav(&sound(13, 1), 32_000));
-    assert!(
-        folder.done("encode --pad-to-frame in.wav a").err.contains("; 8 samples of silence added")
-    );
+    assert!(folder.done("encode --pad-to-frame in.wav a").err.contains("; 8 samples added"));
     assert!(folder.done("encode --cut-to-frame in.wav a").err.contains("; 6 samples left out"));
     let json = Value::of_line(&folder.done("encode --json --cut-to-frame in.wav a").out);
     assert_eq!((json.number("samples_added"), json.number("samples_left_out")), (0.0, 6.0));
@@ -75,7 +73,7 @@ fn the_readme_s_example() {
         folder.done(line);
     }
     let mut voice = clip[..1000].to_vec();
-    voice.resize(1008, 0);
+    voice.resize(1008, clip[999]);
     let coefficients = Coefficients::measure(&voice).unwrap();
     let whole = [voice, clip[1000..].to_vec()].concat();
     let wanted = image_with(&whole, 32_000, 8192, coefficients, History::default());
