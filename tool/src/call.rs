@@ -92,9 +92,10 @@ fn operands(command: &Command, args: &Args) -> Result<(), Failure> {
 
 /// Says why, and where to look.
 fn failed(console: &Console, failure: Failure) -> Status {
+    let mark = if failure.message.ends_with('?') { " See" } else { "; see" };
     let failure = match (failure.status, console.command) {
-        (Status::Usage, "") => failure.with("; see `doilycairn --help`"),
-        (Status::Usage, name) => failure.with(format!("; see `doilycairn {name} --help`")),
+        (Status::Usage, "") => failure.with(format!("{mark} `doilycairn --help`")),
+        (Status::Usage, name) => failure.with(format!("{mark} `doilycairn {name} --help`")),
         _ => failure,
     };
     console.fail(&failure);

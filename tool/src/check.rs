@@ -23,7 +23,9 @@ pub const COMMAND: Command = Command {
     operands: &["IN.dspc"],
     many: Many::Inputs,
     summary: "whether an image is sound, and else what is wrong",
-    about: "Opens and plays the image, or says by number and in words what is wrong, and which bytes look so. Of an image that plays it also says at which edges of blocks a click may be heard: where a block's stored history is not what the block before it leaves.",
+    about: "Opens and plays the image, or says by number and in words what is wrong, and which bytes look so. Of an image that \
+        plays it also says at which edges of blocks a click may be heard: where a block's stored history is not what the block before \
+        it leaves.",
     options: &[flag("--strict", "exit status 1 where a click may be heard, too"), JOBS],
     notes: "Exit status 0: it opens and plays. 1: it does not, or with --strict it has a click.",
     run,

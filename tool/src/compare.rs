@@ -46,19 +46,9 @@ fn run(args: &Args, console: &Console) -> Result<Status, Failure> {
     ]);
     let status = if same { Status::Done } else { Status::No };
     console.answer(status, fields, Words::Status, |out| match &difference {
-        None if same => {
-            writeln!(out, "the same: {}", clip_length(totals[0], first.head().rate))
-        }
+        None if same => writeln!(out, "the same: {}", clip_length(totals[0], first.head().rate)),
         None => writeln!(out, "different: {} and {} samples", count(totals[0]), count(totals[1])),
-        Some(d) => writeln!(
-            out,
-            "different: {} of {} samples; the first is sample {}, {} and {}",
-            count(d.count),
-            count(totals[0]),
-            count(d.first as u64),
-            count(d.values[0]),
-            count(d.values[1])
-        ),
+        Some(difference) => writeln!(out, "different: {}", difference.words(totals[0])),
     })
 }
 
@@ -70,6 +60,16 @@ struct Difference {
 }
 
 impl Difference {
+    fn words(&self, total: u32) -> String {
+        let [first, second] = self.values.map(count);
+        format!(
+            "{} of {} samples; the first is sample {}, {first} and {second}",
+            count(self.count),
+            count(total),
+            count(self.first as u64)
+        )
+    }
+
     fn json(&self) -> Json<'static> {
         Json::Object(vec![
             ("samples", Json::Whole(self.count as i64)),

@@ -1,11 +1,12 @@
 //! What a command says: words on standard output or standard error, or one JSON object.
 
 use crate::failure::{Failure, Status};
-use crate::json::{Fields, Json};
+use crate::json::{Fields, Json, path_fields};
 use crate::lines::Lines;
 use crate::paint::{Colour, Paint, Stream, knows_escapes};
 use crate::progress;
 use std::cell::RefCell;
+use std::ffi::{OsStr, OsString};
 use std::io::{self, Write};
 
 /// Where the words of an answer go.
@@ -28,18 +29,20 @@ pub struct Console {
     pub quiet: bool,
     pub json: bool,
     notes: RefCell<Vec<String>>,
-    /// Kept to be written later, where several files are worked on at once.
+    /// Kept to be written later, where several files are worked on at once; and the file.
     kept: Option<RefCell<Said>>,
+    input: Option<OsString>,
 }
 
 impl Console {
     pub fn new(command: &'static str, quiet: bool, json: bool) -> Self {
-        Self { command, quiet, json, notes: RefCell::default(), kept: None }
+        Self { command, quiet, json, notes: RefCell::default(), kept: None, input: None }
     }
 
     /// The same, for one of many files: what it says is kept.
-    pub fn for_one(command: &'static str, quiet: bool, json: bool) -> Self {
-        Self { kept: Some(RefCell::default()), ..Self::new(command, quiet, json) }
+    pub fn for_one(command: &'static str, quiet: bool, json: bool, input: &OsStr) -> Self {
+        let kept = Some(RefCell::default());
+        Self { kept, input: Some(input.into()), ..Self::new(command, quiet, json) }
     }
 
     /// What was kept.
@@ -90,7 +93,9 @@ impl Console {
             ("message", Json::text(&failure.message)),
         ]);
         let told = self.json && {
-            let object = self.object(failure.status, vec![("error", error)]);
+            let input = self.input.as_deref().map(|input| path_fields("input", "input_hex", input));
+            let fields = input.into_iter().flatten().chain([("error", error)]).collect();
+            let object = self.object(failure.status, fields);
             self.lines(|out| object.write_line(out)).is_ok()
         };
         if !told && !failure.silent {

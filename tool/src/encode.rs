@@ -15,7 +15,8 @@ use crate::output::{Output, What};
 use crate::settings;
 use crate::text::{clip_length, count, counted};
 use doilycairn::{Encoder, EncoderState, Image};
-use std::ffi::OsString;
+use std::ffi::{OsStr, OsString};
+use std::path::Path;
 
 pub const COMMAND: Command = Command {
     name: "encode",
@@ -41,7 +42,8 @@ pub const COMMAND: Command = Command {
         file(
             "--after",
             "A.dspc",
-            "goes on from where A ends, so that `join A.dspc OUT.dspc` loses nothing: takes A's coefficients, its last two samples as history, and block size and gain where they are not given; A has to be of whole frames (14 samples)",
+            "goes on from where A ends, so that `join A.dspc OUT.dspc` loses nothing: takes A's coefficients, its last two \
+             samples as history, and block size and gain where they are not given; A has to be of whole frames (14 samples)",
         ),
         flag(
             "--pad-to-frame",
@@ -75,7 +77,8 @@ fn one(args: &Args, job: &Job, console: &Console) -> Result<Status, Failure> {
     input::one_standard_input(&inputs)?;
     let mut wanted = settings::of(args)?;
     let framing = framing::wanted(args)?;
-    let place = Output::at(What::Image, output, &inputs, args.has("--force"), console)?;
+    let place = Output::at(What::Image, output, &inputs, args.has("--force"), console)
+        .map_err(|failure| many_meant(job, failure))?;
     let rate = settings::read(args, &mut wanted, console)?;
     let mut clip = input::clip(input, args, Some(wanted.rate), console)?;
     let name = input::name(input);
@@ -98,6 +101,16 @@ fn one(args: &Args, job: &Job, console: &Console) -> Result<Status, Failure> {
     fields.extend(state_fields(&encoder, &wanted));
     fields.extend(framed.fields());
     told(&place.name, &encoder, &framed, distances.as_ref(), fields, console)
+}
+
+/// Two files of `encode *.wav` may both have been meant as inputs.
+fn many_meant(job: &Job, failure: Failure) -> Failure {
+    let both = [job.input, job.output.as_deref().unwrap_or_default()];
+    let is_wav = |path: &OsStr| Path::new(path).extension().is_some_and(|end| end == "wav");
+    match both.into_iter().all(is_wav) {
+        true => failure.with(", --into FOLDER encodes many files"),
+        false => failure,
+    }
 }
 
 /// Says what was encoded.

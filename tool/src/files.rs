@@ -137,7 +137,7 @@ fn take<'a, 'b>(files: &'a [Job<'b>], next: &AtomicUsize) -> Option<(usize, &'a 
 
 /// One file of many. What goes wrong with it is told, and ends nothing else.
 fn one(i: usize, file: &Job, voice: Voice, work: &impl Work) -> Ended {
-    let console = Console::for_one(voice.command, voice.quiet, voice.json);
+    let console = Console::for_one(voice.command, voice.quiet, voice.json, file.input);
     let status = work(file, &console).unwrap_or_else(|failure| {
         console.fail(&failure);
         failure.status

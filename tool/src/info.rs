@@ -37,7 +37,8 @@ pub const COMMAND: Command = Command {
         JOBS,
         FORCE,
     ],
-    notes: "The bound holds for a clip that this library encoded: a sample of a frame with exponent p below 12 is within (3 * 2^p + 1) / 2 of its original, rounded down.",
+    notes: "The bound holds for a clip that this library encoded: a sample of a frame with exponent p below 12 is within \
+        (3 * 2^p + 1) / 2 of its original, rounded down.",
     run,
 };
 

@@ -58,7 +58,8 @@ pub fn words(seams: &[Seam], blocks: u32) -> Option<String> {
     let most = seams.iter().rev().max_by_key(|seam| seam.off())?;
     let [newest, older] = most.stored;
     Some(format!(
-        "at {} of {} the stored history is not what the block before leaves, and a click may be heard; most at block {}, sample {}: {newest},{older} and not {},{}",
+        "at {} of {} the stored history is not what the block before leaves, and a click may be heard; \
+         most at block {}, sample {}: {newest},{older} and not {},{}",
         count(seams.len() as u64),
         counted(blocks - 1, "block edge", "block edges"),
         count(most.block),

@@ -90,7 +90,8 @@ fn after(
     if head.total % 14 != 0 {
         let samples = count(head.total);
         console.note(format!(
-            "{}: {samples} samples: its last frame is not full, and `join` will not put a clip after it without --reencode; --pad-to-frame or --cut-to-frame makes one that can be followed",
+            "{}: {samples} samples: its last frame is not full, and `join` will not put a clip after it without --reencode; \
+             --pad-to-frame or --cut-to-frame makes one that can be followed",
             file.name
         ));
     }

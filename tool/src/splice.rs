@@ -90,7 +90,8 @@ fn follows(first: &Part, second: &Part) -> Result<(), Failure> {
         let [newest, older] = block.context.last_samples;
         if [newest, older] != before {
             let words = format!(
-                "its block {k} begins after {newest},{older} and would come after {},{}, within a block of {} bytes{}{AGAIN}",
+                "its block {} begins after {newest},{older} and would come after {},{}, within a block of {} bytes{}{AGAIN}",
+                count(k as u64),
                 before[0],
                 before[1],
                 count(second.image.head().block),

@@ -16,7 +16,7 @@ use crate::options::{FORCE, IGNORE_LENGTH, file, flag, value};
 use crate::output::{Output, What};
 use crate::seams::{self, Seam};
 use crate::text::{clip_length, count, counted};
-use doilycairn::{Block, FrameContext, Head, History, Image, Refusal};
+use doilycairn::{Block, FrameContext, Head, History, Image, Refusal, Samples};
 use part::Part;
 use std::ffi::{OsStr, OsString};
 
@@ -187,9 +187,14 @@ fn again(
     console: &Console,
 ) -> Result<(Vec<u8>, Option<String>), Failure> {
     let head = image.head();
-    let mut played = memory::room(head.total as usize)?;
-    played.extend(image.samples().map_err(|refusal| file.refused(refusal))?);
-    let [newest, older] = history(image, &played, part.from as usize);
+    let (from, len) = (part.from as usize, (part.to - part.from) as usize);
+    let mut played = image.samples().map_err(|refusal| file.refused(refusal))?;
+    let [newest, older] = history(image, &mut played, from);
+    let mut rest = vec![];
+    if recording.is_none() {
+        rest = memory::room(len)?;
+        rest.extend(played.take(len));
+    }
     let wanted = Wanted {
         rate: head.rate,
         block_size: head.block,
@@ -197,23 +202,17 @@ fn again(
         coefficients: Some(head.coefficients),
         history: History { newest, older },
     };
-    let range = part.from as usize..part.to as usize;
-    let encoder =
-        codec::encode(&file.name, &recording.unwrap_or(&played)[range], &wanted, console)?;
-    let from = if recording.is_some() {
-        "the recording".into()
-    } else {
-        format!("what {} plays", file.name)
+    let clip = recording.map_or(&rest[..], |recording| &recording[from..from + len]);
+    let encoder = codec::encode(&file.name, clip, &wanted, console)?;
+    let from = match recording {
+        Some(_) => "the recording".into(),
+        None => format!("what {} plays", file.name),
     };
     Ok((encoder.into_parts().1, Some(from)))
 }
 
-/// The two samples before a place, the newest first.
-fn history(image: &Image, played: &[i16], at: usize) -> [i16; 2] {
+/// The two samples before a place, the newest first; leaves those from there on.
+fn history(image: &Image, played: &mut Samples, at: usize) -> [i16; 2] {
     let start = image.blocks().next().map_or([0; 2], |block| block.context.last_samples);
-    match at {
-        0 => start,
-        1 => [played[0], start[0]],
-        _ => [played[at - 1], played[at - 2]],
-    }
+    played.take(at).fold(start, |[newest, _], sample| [sample, newest])
 }

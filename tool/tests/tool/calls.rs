@@ -24,7 +24,10 @@ fn options_may_stand_before_the_command() {
 fn mistyped_words_get_a_suggestion() {
     let folder = Folder::new();
     let cases = [
-        ("--verison", "unknown option '--verison'; did you mean '--version'?"),
+        (
+            "--verison",
+            "unknown option '--verison'; did you mean '--version'? See `doilycairn --help`",
+        ),
         ("--hlep", "did you mean '--help'?"),
         ("encod a b", "'encod' is no command; did you mean 'encode'?"),
         ("hepl", "did you mean 'help'?"),

@@ -75,6 +75,7 @@ fn json_has_a_line_for_each() {
         run.out.lines().map(|line| Value::of_line(&format!("{line}\n"))).collect();
     assert_eq!(lines.len(), 4);
     assert_eq!([0, 1, 2, 3].map(|i: usize| lines[i].number("status")), [0.0, 3.0, 0.0, 3.0]);
+    assert_eq!(lines[1].text("input"), "c.wav");
     assert_eq!((lines[0].text("output"), lines[2].text("output")), ("out/a.dspc", "out/b.dspc"));
     assert_eq!((lines[3].number("files"), lines[3].number("failed")), (3.0, 1.0));
 }

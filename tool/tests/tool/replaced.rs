@@ -26,6 +26,7 @@ fn recordings_are_not_written_over() {
         folder.run(line).expect(2, "b.wav is a recording (a WAV file): --force writes over it");
         assert_eq!(folder.read("b.wav"), before, "{line}");
     }
+    folder.run("encode a.wav b.wav").expect(2, "writes over it, --into FOLDER encodes many files");
     folder.done("encode --force a.wav b.wav");
     assert_eq!(folder.read("b.wav"), image(&sound(1000, 1), 32_000, 8192));
 }

@@ -19,7 +19,7 @@ fn every_frame_stays_from_the_beginning_of_one() {
     for size in [8, 80, 1024, 65_536] {
         let bytes = image(&sound(3001, 1), 32_000, size);
         folder.write("in", &bytes);
-        for from in [0, 14, 140, 154, 1400, 2996 - 2996 % 14] {
+        for from in [0, 14, 140, 154, 1400, 2996] {
             for to in [from + 1, from + 13, from + 14, from + 15, 2999, 3001]
                 .map(|to: usize| to.min(3001))
             {
@@ -56,6 +56,19 @@ fn it_is_what_encoding_with_the_history_gives() {
         };
         let wanted = image_with(&clip[from..to], 32_000, 80, coefficients, history);
         assert_eq!(folder.read("out"), wanted, "{from} {to}");
+    }
+}
+
+#[test]
+fn halves_joined_are_the_whole() {
+    let folder = Folder::new();
+    let bytes = image(&sound(3001, 6), 32_000, 80);
+    folder.write("in", &bytes);
+    for at in [14, 140, 154, 2996] {
+        folder.done(&format!("trim --to {at} in a"));
+        folder.done(&format!("trim --from {at} in b"));
+        folder.done("join a b out");
+        assert_eq!(folder.read("out"), bytes, "{at}");
     }
 }
 
