@@ -70,6 +70,8 @@ fn it_tells_which_crate_is_proved_and_what_to_open() {
     assert_eq!(crates.len(), 9, "{out}");
     assert_eq!(crates[0], "crate 1 of 9: whole, about 3 s");
     assert_eq!(crates[2], "crate 3 of 9: coefficients, about 82 s");
+    // In the order in which the checker takes them.
+    assert_eq!(crates[3], "crate 4 of 9: layout");
     assert!(crates[8] == "crate 9 of 9: doilycairn" && !out.contains("something"), "{out}");
     assert!(
         String::from_utf8(folder.read("target/demo.log")).unwrap().contains("::something: proved")
