@@ -81,6 +81,15 @@ fn any_length_is_well_formed_and_within_the_picture() {
 }
 
 #[test]
+fn a_name_may_have_any_letters() {
+    let (bytes, mut out) = (encode(&noise(20), 64), vec![]);
+    draw("a<b>&\"c'.dspc", &Image::open(&bytes).unwrap(), None, &mut out).unwrap();
+    let text = String::from_utf8(out).unwrap();
+    xml::elements(&text);
+    assert!(text.contains(">a&lt;b&gt;&amp;\"c'.dspc<"));
+}
+
+#[test]
 fn one_sample() {
     let (text, elements) = picture(&encode(&[9], 8), None);
     let words = "1 sample at 32,000 Hz (0.0 ms); 1 frame, 1 block of up to 8 bytes; gain 0.";

@@ -15,6 +15,21 @@ done
 echo "rt: written"
 "#;
 
+/// Crates, as crates.txt has them; not all are the library's.
+const CRATES: &str = "# NAME: the crates that it knows.
+whole:
+float:
+float_list: float io libc
+coefficients: whole float
+frame: whole
+block: whole
+layout: whole
+clip: whole layout frame
+image: whole layout block
+round_trip: coefficients layout clip image frame block whole
+doilycairn: coefficients layout frame block clip image whole
+";
+
 /// A builder that builds nothing; to run is to copy the files that are ready.
 const BUILDER: &str = r#"#!/bin/sh
 case $1 in
@@ -35,7 +50,7 @@ fn folder(checker: &str) -> Folder {
         fs::create_dir(folder.path(name)).unwrap();
     }
     script(&folder, "demo", include_str!("../../../demo"));
-    folder.write("crates.txt", include_str!("../../../crates.txt"));
+    folder.write("crates.txt", CRATES);
     folder.write(
         "docs/PROVING.md",
         "| crate | seconds |\n|---|---|\n| whole | 3 |\n| coefficients | 82 | 1 |\n",

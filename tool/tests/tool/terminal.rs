@@ -118,7 +118,7 @@ fn the_progress_is_gone_after_ctrl_c() {
     assert!(Screen::of(&shell.text).text().contains("\ndecoding "));
     shell.send("\x03");
     shell.wait("PROMPT> ", 2);
-    thread::sleep(Duration::from_millis(100));
+    shell.wait("\x1b[J", 1);
     shell.send("echo status $?\n");
     shell.wait("status 130", 1);
     let screen = shell.leave();
