@@ -15,6 +15,7 @@ PC = target/doilycairn.pc
 TOOL = tool/target/release/doilycairn
 PAGES = target/pages
 SHARE = $(DESTDIR)$(PREFIX)/share
+DOCUMENTS = $(wildcard LICENSE docs/FORMAT.md) NOTICE
 CARGO ?= cargo
 
 all: lib ## the library and the examples
@@ -52,12 +53,12 @@ $(PC): doilycairn.pc.in FORCE
 	@mkdir -p target
 	sed -e 's|@PREFIX@|$(PREFIX)|' -e 's|@VERSION@|$(VERSION)|' doilycairn.pc.in > $@
 
-install: $(ARCHIVE) $(PC) ## header, archive, pkg-config file and licences, and the program where it is built
+install: $(ARCHIVE) $(PC) ## header, archive, pkg-config file, licences and format, and the program where it is built
 	install -d $(DESTDIR)$(PREFIX)/include $(DESTDIR)$(PREFIX)/lib/pkgconfig $(SHARE)/doc/doilycairn
 	install -m 644 include/doilycairn.h $(DESTDIR)$(PREFIX)/include
 	install -m 644 $(ARCHIVE) $(DESTDIR)$(PREFIX)/lib
 	install -m 644 $(PC) $(DESTDIR)$(PREFIX)/lib/pkgconfig
-	install -m 644 $(wildcard LICENSE) NOTICE $(SHARE)/doc/doilycairn
+	install -m 644 $(DOCUMENTS) $(SHARE)/doc/doilycairn
 	@if [ -f $(TOOL) ]; then $(MAKE) install-tool; else echo 'The tool is not built, and not installed: run `make tool` first.'; fi
 
 # The manual page and the completions, as the program itself writes them.
@@ -73,7 +74,7 @@ install-tool: pages ## the program, its manual page and completions alone
 	install -D -m 644 $(PAGES)/bash $(SHARE)/bash-completion/completions/doilycairn
 	install -D -m 644 $(PAGES)/zsh $(SHARE)/zsh/site-functions/_doilycairn
 	install -D -m 644 $(PAGES)/fish $(SHARE)/fish/vendor_completions.d/doilycairn.fish
-	install -m 644 $(wildcard LICENSE) NOTICE $(SHARE)/doc/doilycairn
+	install -m 644 $(DOCUMENTS) $(SHARE)/doc/doilycairn
 
 clean: ## removes what was built here, but for the archive and the program
 	rm -rf $(OUT) $(PC) $(PAGES)

@@ -29,7 +29,7 @@ pub fn call(words: &[OsString]) -> Status {
     match (name.to_str(), name.to_str().and_then(command::find)) {
         (_, Some(command)) => run(command, &in_order(before, after)),
         (Some("help"), _) => topic(&words),
-        (Some("man"), _) if words.is_empty() => print(&man::page()),
+        (Some("man"), _) => manual(&words),
         (Some("completions"), _) => shell(&words),
         _ => no_command(name, json(&words)),
     }
@@ -136,6 +136,17 @@ fn topic(words: &[OsString]) -> Status {
             None => no_command(name, false),
         },
         _ => alone(&[]),
+    }
+}
+
+/// `man`.
+fn manual(words: &[OsString]) -> Status {
+    match words.first() {
+        None => print(&man::page()),
+        Some(word) => {
+            let failure = Failure::usage(format!("'{}' is one word too many", shown(word)));
+            failed(&Console::new("", false, false), failure)
+        }
     }
 }
 

@@ -7,7 +7,7 @@ use crate::paint::{Colour, Paint, Stream, knows_escapes};
 use crate::progress;
 use std::cell::RefCell;
 use std::ffi::{OsStr, OsString};
-use std::io::{self, Write};
+use std::io::{self, BufWriter, Write};
 
 /// Where the words of an answer go.
 #[derive(Clone, Copy, PartialEq, Eq)]
@@ -149,12 +149,23 @@ pub fn write(stream: Stream, text: &[u8]) -> io::Result<()> {
     }
 }
 
-/// Writes to standard output, to its end.
+/// Writes lines to standard output, to its end.
 pub fn standard_output(
     words: impl FnOnce(&mut dyn Write) -> io::Result<()>,
 ) -> Result<(), Failure> {
-    let mut out = Lines::new(io::stdout().lock());
-    words(&mut out)
+    to_end(Lines::new(io::stdout().lock()), words)
+}
+
+/// Writes bytes to standard output, to its end.
+pub fn standard_bytes(bytes: impl FnOnce(&mut dyn Write) -> io::Result<()>) -> Result<(), Failure> {
+    to_end(BufWriter::new(io::stdout().lock()), bytes)
+}
+
+fn to_end(
+    mut out: impl Write,
+    body: impl FnOnce(&mut dyn Write) -> io::Result<()>,
+) -> Result<(), Failure> {
+    body(&mut out)
         .and_then(|()| out.flush())
         .map_err(|error| Failure::io("write", "standard output", &error))
 }

@@ -13,7 +13,7 @@ pub const ABOUT: &str = "DSP ADPCM clips, the sound format of the GameCube and t
 
 /// What is to be known of files.
 pub const FILES: &str = "WAV files have one channel of 16-bit PCM; '-' is standard input or standard output. Images (.dspc) are this \
-    program's own container of a clip, described in docs/FORMAT.md; .dsp files are neither read nor written. A file is replaced as a \
+    program's own container of a clip, described in FORMAT.md; .dsp files are neither read nor written. A file is replaced as a \
     whole or not at all. Without --force no input is written over, no recording (WAV), no file that is marked read-only, and by \
     decode no image.";
 

@@ -1,12 +1,12 @@
 //! `join`: one image of two.
 
 use crate::args::Args;
-use crate::build;
 use crate::codec::{self, Wanted};
 use crate::command::{Command, Many};
 use crate::console::{Console, Words};
 use crate::encode::{state_fields, summary};
 use crate::failure::{Failure, Status};
+use crate::image_bytes;
 use crate::info;
 use crate::input::{ImageFile, one_standard_input};
 use crate::json::{Fields, Json, path_fields};
@@ -61,7 +61,7 @@ impl<'a> Part<'a> {
 
     /// The bodies of its blocks, which stand back to back.
     pub fn bodies(&self) -> &'a [u8] {
-        build::bodies(&self.image, self.bytes)
+        image_bytes::bodies(&self.image, self.bytes)
     }
 }
 

@@ -12,23 +12,31 @@ const LONGEST: usize = 1 << 22;
 pub struct Lines<W: Write> {
     inner: W,
     gathered: Vec<u8>,
+    /// Bytes of whole lines among them.
+    whole: usize,
 }
 
 impl<W: Write> Lines<W> {
     pub fn new(inner: W) -> Self {
-        Self { inner, gathered: vec![] }
+        Self { inner, gathered: vec![], whole: 0 }
     }
 }
 
 impl<W: Write> Write for Lines<W> {
     fn write(&mut self, bytes: &[u8]) -> io::Result<usize> {
+        if let Some(at) = bytes.iter().rposition(|byte| *byte == b'\n') {
+            self.whole = self.gathered.len() + at + 1;
+        }
         self.gathered.extend(bytes);
-        if self.gathered.len() > FULL {
-            let lines =
-                self.gathered.iter().rposition(|byte| *byte == b'\n').map_or(0, |at| at + 1);
-            let ready = if self.gathered.len() > LONGEST { self.gathered.len() } else { lines };
+        let ready = match self.gathered.len() {
+            ..=FULL => 0,
+            ..=LONGEST => self.whole,
+            all => all,
+        };
+        if ready > 0 {
             self.inner.write_all(&self.gathered[..ready])?;
             self.gathered.drain(..ready);
+            self.whole = 0;
         }
         Ok(bytes.len())
     }
@@ -36,6 +44,7 @@ impl<W: Write> Write for Lines<W> {
     fn flush(&mut self) -> io::Result<()> {
         self.inner.write_all(&self.gathered)?;
         self.gathered.clear();
+        self.whole = 0;
         self.inner.flush()
     }
 }

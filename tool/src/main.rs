@@ -1,7 +1,6 @@
 //! `doilycairn`: encodes, decodes, shows, checks, compares, joins and trims DSP ADPCM clips.
 
 mod args;
-mod build;
 mod call;
 mod check;
 mod codec;
@@ -18,6 +17,7 @@ mod files;
 mod findings;
 mod framing;
 mod help;
+mod image_bytes;
 mod info;
 mod input;
 mod join;

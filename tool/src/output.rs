@@ -1,6 +1,6 @@
 //! Files are written as a whole or not at all: to a temporary file beside the place, which then takes its name.
 
-use crate::console::{Console, standard_output};
+use crate::console::{Console, standard_bytes};
 use crate::failure::Failure;
 use crate::input::{NO_DSP, is_dsp};
 use crate::text::shown;
@@ -81,7 +81,7 @@ impl Output {
         body: impl FnOnce(&mut dyn Write) -> io::Result<()>,
     ) -> Result<(), Failure> {
         let written = match &self.place {
-            Place::Standard => return standard_output(body),
+            Place::Standard => return standard_bytes(body),
             Place::Special(path) => in_place(path, body),
             Place::File(path) => replace(path, body),
         };

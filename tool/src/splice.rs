@@ -1,7 +1,7 @@
 //! Joining two images without loss: the frames stay what they are, and play what they played.
 
-use crate::build::{self, context_at};
 use crate::failure::Failure;
+use crate::image_bytes::{self, context_at};
 use crate::join::Part;
 use crate::text::count;
 use doilycairn::{Block, FrameContext, Head, Refusal};
@@ -17,7 +17,7 @@ pub fn join(parts: &[Part; 2], gain: Option<u16>) -> Result<Vec<u8>, Failure> {
     let head = first.image.head();
     let contexts = contexts(first, second, shift).map_err(|r| Failure::refused(second.name, r))?;
     let total = head.total + second.image.head().total;
-    Ok(build::image(&Head { total, gain, ..*head }, &contexts, &bodies, nibbles))
+    Ok(image_bytes::image(&Head { total, gain, ..*head }, &contexts, &bodies, nibbles))
 }
 
 /// The bodies and their length in nibbles, as the library joins them; it refuses coefficients that differ.

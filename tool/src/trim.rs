@@ -3,12 +3,12 @@
 mod part;
 
 use crate::args::Args;
-use crate::build::{self, context_at};
 use crate::codec::{self, Wanted};
 use crate::command::{Command, Many};
 use crate::console::{Console, Words};
 use crate::distance::Distances;
 use crate::failure::{Failure, Status};
+use crate::image_bytes::{self, context_at};
 use crate::input::{self, ImageFile};
 use crate::json::{Fields, Json, path_fields};
 use crate::memory;
@@ -158,9 +158,10 @@ fn kept(file: &ImageFile, image: &Image, part: &Part) -> Result<Vec<u8>, Failure
     let head = Head { total: part.to - part.from, ..*image.head() };
     let (first, frames) = (part.from as usize / 14, head.total.div_ceil(14));
     let nibbles = u64::from(head.total + 2 * frames);
-    let bodies = &build::bodies(image, &file.bytes)[8 * first..][..nibbles.div_ceil(2) as usize];
+    let bodies =
+        &image_bytes::bodies(image, &file.bytes)[8 * first..][..nibbles.div_ceil(2) as usize];
     let contexts = contexts(image, first, frames as usize).map_err(|r| file.refused(r))?;
-    let bytes = build::image(&head, &contexts, bodies, nibbles);
+    let bytes = image_bytes::image(&head, &contexts, bodies, nibbles);
     let refused = |refusal| Failure::refused("the trimmed image", refusal);
     let trimmed = Image::open(&bytes).map_err(refused)?;
     let wanted = image.samples().map_err(refused)?;

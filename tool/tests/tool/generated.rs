@@ -24,6 +24,7 @@ fn the_manual_page_has_every_option() {
     for option in options(&folder) {
         assert!(page.contains(&option.replace('-', "\\-")), "{option}");
     }
+    folder.run("man encode").expect(2, "'encode' is one word too many");
     for section in ["NAME", "SYNOPSIS", "DESCRIPTION", "COMMANDS", "EXIT STATUS"] {
         assert!(page.contains(&format!("\n.SH {section}\n")), "{section}");
     }

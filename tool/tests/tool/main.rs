@@ -12,6 +12,7 @@ mod followed;
 mod generated;
 mod help;
 mod info;
+mod installed;
 mod join;
 mod json;
 mod kills;
