@@ -28,11 +28,9 @@ impl<W: Write> Write for Lines<W> {
             self.whole = self.gathered.len() + at + 1;
         }
         self.gathered.extend(bytes);
-        let ready = match self.gathered.len() {
-            ..=FULL => 0,
-            ..=LONGEST => self.whole,
-            all => all,
-        };
+        let all = self.gathered.len();
+        let whole = if all > FULL { self.whole } else { 0 };
+        let ready = if all > LONGEST { all } else { whole };
         if ready > 0 {
             self.inner.write_all(&self.gathered[..ready])?;
             self.gathered.drain(..ready);

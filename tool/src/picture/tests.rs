@@ -184,12 +184,12 @@ fn references_of_other_lengths_and_equal_ones() {
     let clip = vec![0; 100];
     let bytes = encode(&clip, 64);
     let told = |reference: &[i16]| picture(&bytes, Some(reference)).0;
-    assert!(told(&clip).contains(">Equal to the reference.<"));
-    assert!(told(&clip[1..]).contains(">Equal to the reference. The reference has 99 samples.<"));
+    assert!(told(&clip).contains(">Equal to the recording.<"));
+    assert!(told(&clip[1..]).contains(">Equal to the recording. The recording has 99 samples.<"));
     assert!(
-        told(&[5]).contains("reference: 5 at sample 0 (exponent 0, bound 2). The reference has 1")
+        told(&[5]).contains("recording: 5 at sample 0 (exponent 0, bound 2). The recording has 1")
     );
-    assert!(told(&[]).contains(">The reference has no sample.<"));
+    assert!(told(&[]).contains(">The recording has no sample.<"));
 }
 
 #[test]

@@ -93,16 +93,16 @@ fn edge_count(edges: u32) -> String {
 
 /// How far the samples are from the reference.
 fn distance(distance: &Distance, total: u32) -> String {
-    let Some(largest) = distance.largest else { return "The reference has no sample.".into() };
+    let Some(largest) = distance.largest else { return "The recording has no sample.".into() };
     if largest.size == 0 {
-        return format!("Equal to the reference.{}", lengths(distance, total));
+        return format!("Equal to the recording.{}", lengths(distance, total));
     }
     let bound = match bound(distance.exponent) {
         None => "no bound".into(),
         Some(bound) => format!("bound {}", number(bound)),
     };
     format!(
-        "Largest distance from the reference: {} at sample {} (exponent {}, {bound}).{}",
+        "Largest distance from the recording: {} at sample {} (exponent {}, {bound}).{}",
         number(largest.size),
         number(largest.at),
         distance.exponent,
@@ -114,7 +114,7 @@ fn distance(distance: &Distance, total: u32) -> String {
 fn lengths(distance: &Distance, total: u32) -> String {
     match distance.reference_len {
         len if len == total as usize => String::new(),
-        len => format!(" The reference has {} samples.", number(len as i64)),
+        len => format!(" The recording has {} samples.", number(len as i64)),
     }
 }
 
