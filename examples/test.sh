@@ -56,5 +56,7 @@ expect 2 "$bin/compare" damaged clip
 [ ! -e none ] && [ ! -e cut.raw ] && [ ! -e damaged.raw ]
 
 expect 0 "$bin/refusals"
+expect 0 "$bin/undo"
+expect 0 "$bin/floating"
 expect 0 "$bin/round_trip"
 echo "examples: all as expected"
