@@ -20,7 +20,7 @@ pub fn random_case(random: &mut Random) -> Case {
 
 /// A float with few bits set, so that ties are frequent, or with any bits; its exponent from `low` to `high`.
 fn ordinary(random: &mut Random, low: i32, high: i32) -> f64 {
-    if random.bits() % 2 == 0 { random.sparse(low, high) } else { random.float(low, high) }
+    if random.bits().is_multiple_of(2) { random.sparse(low, high) } else { random.float(low, high) }
 }
 
 /// Any bits at all: every exponent, subnormal numbers, infinities and NaNs among them.
@@ -79,8 +79,9 @@ fn edge(random: &mut Random) -> Case {
 
 /// One of the other operations. `max` and `min` of zeros of different sign are left out.
 fn other(random: &mut Random) -> Case {
-    let a = if random.bits() % 2 == 0 { special(random) } else { ordinary(random, -3, 54) };
-    let b = if random.bits() % 4 == 0 { a } else { special(random) };
+    let a =
+        if random.bits().is_multiple_of(2) { special(random) } else { ordinary(random, -3, 54) };
+    let b = if random.bits().is_multiple_of(4) { a } else { special(random) };
     match random.bits() % 4 {
         0 => Abs(a),
         1 if a != 0.0 || b != 0.0 => Max(a, b),
