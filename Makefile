@@ -9,7 +9,7 @@ CXXFLAGS ?= -O2 -g
 LIB_DIR = target/staticlib
 ARCHIVE = $(LIB_DIR)/libdoilycairn.a
 OUT = target/examples
-EXAMPLES = $(OUT)/encode $(OUT)/play $(OUT)/compare $(OUT)/refusals $(OUT)/round_trip
+EXAMPLES = $(OUT)/encode $(OUT)/play $(OUT)/compare $(OUT)/refusals $(OUT)/undo $(OUT)/floating $(OUT)/round_trip
 WARNINGS = -Wall -Wextra -Wconversion -pedantic
 PC = target/doilycairn.pc
 TOOL = tool/target/release/doilycairn
@@ -32,7 +32,7 @@ examples: $(EXAMPLES) ## the examples in C and C++
 
 $(OUT)/%: examples/%.c examples/support.c examples/support.h include/doilycairn.h $(ARCHIVE)
 	@mkdir -p $(OUT)
-	$(CC) -std=c11 $(WARNINGS) $(CFLAGS) -Iinclude $< examples/support.c $(ARCHIVE) -o $@
+	$(CC) -std=c11 $(WARNINGS) $(CFLAGS) -Iinclude $< examples/support.c $(ARCHIVE) -lm -o $@
 
 $(OUT)/round_trip: examples/round_trip.cpp include/doilycairn.h $(ARCHIVE)
 	@mkdir -p $(OUT)
