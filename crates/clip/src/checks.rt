@@ -99,8 +99,8 @@ pub(crate) fn close_answer(e: Encoder, room: usize) -> Answer
     }
     let n = e.fed;
     let total = e.total;
-    let shape = encoder_shape(e);
-    if room < image_size(shape) {
+    let clip = encoder_shape(e);
+    if room < image_size(clip) {
         return Answer::Refused(Refusal::ImageTooShort);
     }
     let closed = e.closed;
@@ -139,8 +139,8 @@ pub(crate) fn start_answer(g: Start, room: usize) -> Answer
     if !coefficients_ok(coefficients) {
         return Answer::Refused(Refusal::CoefficientOutside);
     }
-    let shape = shape_of(total, cut_down(wanted));
-    if room < image_size(shape) {
+    let asked = shape_of(total, cut_down(wanted));
+    if room < image_size(asked) {
         return Answer::Refused(Refusal::ImageTooShort);
     }
     Answer::Accepted

@@ -12,6 +12,7 @@ mod text;
 use clip::Answer;
 use clip::Encoder;
 use clip::Encoding;
+use clip::starting::Start;
 use numbers::least;
 use record::add;
 use record::coefficients_of;
@@ -58,15 +59,15 @@ fn answered(done: Encoding, image: &[u8], shown: bool) -> State {
 fn start(record: &[u8; 90], image: &mut [u8], shown: bool) -> State {
     let coefficients = coefficients_of(record);
     let history = history_of(record);
-    let done = clip::start(
-        double_word(record, 4),
-        double_word(record, 8),
-        double_word(record, 12),
-        word(record, 16) as u16,
-        coefficients,
-        history,
-        image,
-    );
+    let given = Start {
+        total: double_word(record, 4),
+        rate: double_word(record, 8),
+        block: double_word(record, 12),
+        gain: word(record, 16) as u16,
+        coefficients: coefficients,
+        history: history,
+    };
+    let done = clip::start(given, image);
     answered(done, image, shown)
 }
 
