@@ -2,7 +2,7 @@
 pub mod coefficients;
 mod frame;
 mod join;
-mod play;
+pub mod play;
 mod sample;
 
 use whole::History;

@@ -28,8 +28,8 @@ fn beyond_header(left: usize) -> usize
     if left < 2 { 0 } else { left - 2 }
 }
 
-// Plays a block of `len` nibbles: whole frames while more nibbles follow, then the last frame.
-pub(crate) fn play_into(
+// Plays a block of `len` nibbles: whole frames while more nibbles follow, then the last frame. It is internal: crate image calls it.
+pub fn play_into(
     bytes: &[u8],
     len: usize,
     coefficients: [i16; 16],

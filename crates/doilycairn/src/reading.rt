@@ -12,9 +12,7 @@ use image::Answer;
 use image::Head;
 use image::PlayAnswer;
 use image::SameAnswer;
-use image::bodies::read_context;
-use layout::fields::get32;
-use layout::sizes::entry_place;
+use image::bodies::read_entry;
 
 // What opening returns.
 #[repr(C)]
@@ -93,13 +91,12 @@ fn body_at(image: &[u8], k: usize) -> Body
     requires { ⌜ Found (now image) k ⌝ }
     ensures { λ r. ⌜ r ≡ bodyAt (now (image .entry)) k ⌝ }
 {
-    let at = entry_place(k);
-    let offset = get32(image, at);
-    let nibbles = get32(image, at + 4);
-    let context = read_context(image, k);
+    let entry = read_entry(image, k);
+    let nibbles = entry.nibbles;
+    let context = entry.context;
     Body {
         code: 0,
-        offset: offset,
+        offset: entry.offset,
         bytes: nibbles / 2 + nibbles % 2,
         nibbles: nibbles,
         context: context,

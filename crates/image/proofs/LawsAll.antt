@@ -20,31 +20,30 @@ use Rattle.whole.specs.Frames.{framesOf}
 use Rattle.layout.proofs.SizeLaws.{frames-some, blocks-all}
 use Rattle.whole.specs.Outcome.{Outcome, accepted, refused}
 use Rattle.whole.proofs.Outcomes.{failed}
+use Rattle.image.specs.Opening.{openAnswer}
 use Rattle.image.specs.Reading.{shapeIn, totalIn, blockIn, blocksIn, coefficientsIn, lengthIn}
 use Rattle.image.specs.inner.Asked.{Opens, Found, Playable, AllPlayable}
 use Rattle.image.specs.Bodies.{bodyIn}
-use Rattle.image.specs.Playing.{contextIn, PlayEffect, playEffect}
+use Rattle.image.specs.Playing.{contextIn, PlayEffect, playEffect, roomAnswer}
 use Rattle.image.specs.Sameness.{blockSamples, samplesFrom, samplesIn, compareAnswer}
-use Rattle.image.specs.WholeImage.{allAnswer, contextAfter, allInto, playAll}
-use Rattle.image.proofs.OpenImages.{}
+use Rattle.image.specs.WholeImage.{allAnswer, contextAfter, allInto, playAll, playAllBy}
+use Rattle.image.proofs.OpenImages.{opened, opens}
 use Rattle.image.proofs.Joined.{samples-snoc, samples-count}
-use Rattle.image.proofs.LawsBody.{and-then}
+use Rattle.image.proofs.LawsBody.{room-accepted, room-accepts, and-then}
 use Rattle.image.proofs.LawsPlayed.{block-count}
-use Rattle.image.proofs.LawsSame.{compare-accepted, compare-accepts}
 
 -- ---- what an accepted call tells
 
 pub all-accepted : (l : List ℕ) (room : ℕ) → allAnswer l room ≡ accepted tt → AllPlayable l room
 unfolding allAnswer
 all-accepted l room p =
-    let a = and-then (compareAnswer l) _ p in
-    let c = compare-accepted l (a .0) in
-    let d = failed (ltb room (totalIn l)) 14 (accepted tt) (a .1) in
-    record { opens = c .opens; pairs = c .pairs; enough = ltb-false room (totalIn l) (d .0) }
+    let a = and-then (openAnswer l) _ p in
+    let r = room-accepted (coefficientsIn l) (totalIn l) room (a .1) in
+    record { opens = opened l (a .0); pairs = r .0; enough = r .1 }
 
 pub all-accepts : (l : List ℕ) (room : ℕ) → AllPlayable l room → allAnswer l room ≡ accepted tt
 unfolding allAnswer
-all-accepts l room p = rw (compare-accepts l (record { opens = p .opens; pairs = p .pairs }), le-ltb room (totalIn l) (p .enough))
+all-accepts l room p = rw (opens l (p .opens), room-accepts (coefficientsIn l) (totalIn l) room (p .pairs) (p .enough))
 
 -- ---- runs of stores from the start
 
@@ -186,6 +185,11 @@ module _ (l : List ℕ) (out : List ℤ) (p : AllPlayable l (length out)) where
   pub all-made : (n : ℕ) (x : Lent) → n ≡ totalIn l → x ≡ allInto l out → playEffect (accepted n) x ≡ playAll l out
   unfolding playAll
   all-made n x en e = rw (all-accepts l (length out) p, en, e)
+
+  -- the same of an image that opens
+  pub opened-made : (n : ℕ) (x : Lent) → n ≡ totalIn l → x ≡ allInto l out
+      → playEffect (accepted n) x ≡ playAllBy (roomAnswer (coefficientsIn l) (totalIn l) (length out)) l out
+  opened-made n x en e = rw (en, e, room-accepts (coefficientsIn l) (totalIn l) (length out) (p .pairs) (p .enough))
 
   -- its answer, and the output after it: the samples, and what stood beyond them
   pub all-answered : playAll l out .outcome ≡ accepted (totalIn l)

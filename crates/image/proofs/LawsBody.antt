@@ -25,7 +25,7 @@ use Rattle.image.specs.Reading.{shapeIn, totalIn, blockIn, blocksIn, coe
 use Rattle.image.specs.Opening.{andThen, openAnswer}
 use Rattle.image.specs.inner.Asked.{Found, Playable}
 use Rattle.image.specs.Bodies.{blockAnswer, bodyIn, blockBody}
-use Rattle.image.specs.Playing.{contextIn, playAnswer}
+use Rattle.image.specs.Playing.{contextIn, roomAnswer, playAnswer}
 use Rattle.whole.proofs.Outcomes.{not-both, failed}
 use Rattle.image.proofs.OpenImages.{opened, opens}
 use Rattle.image.proofs.Places.{Within, within}
@@ -90,17 +90,27 @@ block-accepts l k f =
     let lt : k < blocksIn l = subst (λ (x : ℕ). k < x) (sym (f .opens .head .blocks)) (f .block) in
     rw (opens l (f .opens), lt-leb (blocksIn l) k lt)
 
+pub room-accepted : (cs : List ℤ) (n room : ℕ) → roomAnswer cs n room ≡ accepted tt → (lowestPair cs ≡ false) × (n ≤ room)
+unfolding roomAnswer
+room-accepted cs n room p =
+    let c = failed (lowestPair cs) 13 _ p in
+    let d = failed (ltb room n) 14 (accepted tt) (c .1) in
+    (c .0, ltb-false room n (d .0))
+
+pub room-accepts : (cs : List ℤ) (n room : ℕ) → lowestPair cs ≡ false → n ≤ room → roomAnswer cs n room ≡ accepted tt
+unfolding roomAnswer
+room-accepts cs n room p h = rw (p, le-ltb room n h)
+
 pub play-accepted : (l : List ℕ) (k room : ℕ) → playAnswer l k room ≡ accepted tt → Playable l k room
 unfolding playAnswer
 play-accepted l k room p =
     let a = and-then (blockAnswer l k) _ p in
-    let c = failed (lowestPair (coefficientsIn l)) 13 _ (a .1) in
-    let d = failed (ltb room (addressToSample (lengthIn l k))) 14 (accepted tt) (c .1) in
-    record { found = block-accepted l k (a .0); pairs = c .0; enough = ltb-false room (addressToSample (lengthIn l k)) (d .0) }
+    let r = room-accepted (coefficientsIn l) (addressToSample (lengthIn l k)) room (a .1) in
+    record { found = block-accepted l k (a .0); pairs = r .0; enough = r .1 }
 
 pub play-accepts : (l : List ℕ) (k room : ℕ) → Playable l k room → playAnswer l k room ≡ accepted tt
 unfolding playAnswer
-play-accepts l k room p = rw (block-accepts l k (p .found), p .pairs, le-ltb room (addressToSample (lengthIn l k)) (p .enough))
+play-accepts l k room p = rw (block-accepts l k (p .found), room-accepts (coefficientsIn l) (addressToSample (lengthIn l k)) room (p .pairs) (p .enough))
 
 -- ---- a block that was found
 

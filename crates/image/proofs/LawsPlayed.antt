@@ -8,17 +8,16 @@ use lib.ListN.{length, drop}
 use Rattle.block.specs.declared.FrameContext.{FrameContext}
 use Rattle.block.specs.Address.{addressToSample}
 use Rattle.block.specs.Frame.{Lent, lent}
-use Rattle.block.specs.Play as Block
 use Rattle.block.specs.Play.{playInto}
-use Rattle.block.proofs.LawsCalls.{play-done, play-out}
+use Rattle.block.proofs.LawsCalls.{play-out}
 use Rattle.block.proofs.LawsPlay.{play-count}
-use Rattle.whole.specs.Outcome.{Outcome, accepted}
+use Rattle.whole.specs.Outcome.{accepted}
 use Rattle.image.specs.Reading.{coefficientsIn, lengthIn}
 use Rattle.image.specs.inner.Asked.{Found, Playable}
 use Rattle.image.specs.Bodies.{bodyIn}
-use Rattle.image.specs.Playing.{contextIn, playAnswer, PlayEffect, playEffect, play}
+use Rattle.image.specs.Playing.{contextIn, roomAnswer, playAnswer, PlayEffect, playEffect, playBy, play}
 use Rattle.image.specs.Sameness.{blockSamples}
-use Rattle.image.proofs.LawsBody.{play-accepts, found-good, found-some}
+use Rattle.image.proofs.LawsBody.{room-accepts, play-accepts, found-some}
 
 module _ (l : List ℕ) (k : ℕ) (out : List ℤ) (p : Playable l k (length out)) where
   abbrev pub leaves : Lent
@@ -29,19 +28,10 @@ module _ (l : List ℕ) (k : ℕ) (out : List ℤ) (p : Playable l k (length out
   unfolding play
   play-leaves = rw (play-accepts l k (length out) p)
 
-  -- what the call of playing bytes left, with what was read for it
-  pub bytes-made : (n : ℕ) (cs : List ℤ) (c after : FrameContext) (body : List ℕ) (o : Outcome ℕ) (left : List ℤ)
-      → n ≡ lengthIn l k → cs ≡ coefficientsIn l → c ≡ contextIn l k → body ≡ bodyIn l k
-      → Block.playEffect o (lent after left) ≡ Block.playBytes body n cs c out → lent after left ≡ leaves
-  bytes-made n cs c after body o left en ec ex eb e =
-      let d : Block.playEffect (accepted (addressToSample (lengthIn l k))) leaves ≡ Block.playBytes (bodyIn l k) (lengthIn l k) (coefficientsIn l) (contextIn l k) out =
-      play-done (bodyIn l k) (lengthIn l k) (coefficientsIn l) (contextIn l k) out (addressToSample (lengthIn l k)) leaves (found-good l k (p .found)) (p .pairs) (p .enough) refl refl in
-      let q : Block.playEffect o (lent after left) ≡ Block.playEffect (accepted (addressToSample (lengthIn l k))) leaves = (rw (en, ec, ex, eb) at e) ∙ sym d in
-      ap (λ (x : Block.PlayEffect). lent (x .context) (x .out)) q
-
-  -- the call's effect, with the count that was worked out
-  pub play-made : (n s : ℕ) (x : Lent) → n ≡ lengthIn l k → s ≡ addressToSample n → x ≡ leaves → playEffect (accepted s) x ≡ play l k out
-  play-made n s x en es e = rw (es, en, e) play-leaves
+  -- the call's effect on a block that was found, with the count that was worked out
+  pub found-made : (n : ℕ) (x : Lent) → n ≡ addressToSample (lengthIn l k) → x ≡ leaves
+      → playEffect (accepted n) x ≡ playBy (roomAnswer (coefficientsIn l) (addressToSample (lengthIn l k)) (length out)) l k out
+  found-made n x en e = rw (en, e, room-accepts (coefficientsIn l) (addressToSample (lengthIn l k)) (length out) (p .pairs) (p .enough))
 
   -- the output after an accepted call: the block's samples, and what stood beyond them
   pub play-output : play l k out .out ≡ blockSamples l k ++ drop (addressToSample (lengthIn l k)) out

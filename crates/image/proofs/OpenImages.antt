@@ -17,7 +17,7 @@ use Rattle.layout.proofs.LimitLaws.{both-true, numbers-sound}
 use Rattle.whole.specs.Outcome.{Outcome, accepted, refused}
 use Rattle.image.specs.Reading.{shapeIn, totalIn, rateIn, blockIn, zeroIn, blocksIn, offsetIn, lengthIn, headerIn, entryZeroIn}
 use Rattle.image.specs.Opening.{markOk, numbersFit, headOk, entryOk, entriesOk, openAnswer}
-use Rattle.image.specs.inner.Asked.{Headed, Entry, Opens}
+use Rattle.image.specs.inner.Asked.{Headed, EntryFits, Opens}
 
 -- ---- the numbers
 
@@ -86,7 +86,7 @@ head-right l h =
 -- ---- the entries
 
 module _ (l : List ℕ) (s : Shape) where
-  pub entry-says : (j : ℕ) → entryOk l s j ≡ true → Entry l s j
+  pub entry-says : (j : ℕ) → entryOk l s j ≡ true → EntryFits l s j
   unfolding entryOk
   entry-says j h =
       let o = both-true (eqb (offsetIn l j) (blockOffset s j)) _ h in
@@ -99,7 +99,7 @@ module _ (l : List ℕ) (s : Shape) where
         header = eqb-true (headerIn l j) (getD l (blockOffset s j) 0) (z .1);
       }
 
-  pub entry-fits : (j : ℕ) → Entry l s j → entryOk l s j ≡ true
+  pub entry-fits : (j : ℕ) → EntryFits l s j → entryOk l s j ≡ true
   unfolding entryOk
   entry-fits j e =
       rw (
@@ -109,16 +109,16 @@ module _ (l : List ℕ) (s : Shape) where
         eq-eqb (headerIn l j) (getD l (blockOffset s j) 0) (e .header),
       )
 
-  pub entries-say : (j k : ℕ) → entriesOk l s j k ≡ true → (i : ℕ) → j ≤ i → i < j + k → Entry l s i
+  pub entries-say : (j k : ℕ) → entriesOk l s j k ≡ true → (i : ℕ) → j ≤ i → i < j + k → EntryFits l s i
   unfolding entriesOk
   entries-say j zero h i p q = absurd (omega arith)
   entries-say j (suc k) h i p q = go (entries-say (suc j) k (both-true (entryOk l s j) _ h .1) i) (both-true (entryOk l s j) _ h .0) (eqb i j) refl
     where
-      go : (suc j ≤ i → i < suc j + k → Entry l s i) → entryOk l s j ≡ true → (t : Bool) → eqb i j ≡ t → Entry l s i
+      go : (suc j ≤ i → i < suc j + k → EntryFits l s i) → entryOk l s j ≡ true → (t : Bool) → eqb i j ≡ t → EntryFits l s i
       go rec e true z = entry-says i (ap (entryOk l s) (eqb-true i j z) ∙ e)
       go rec e false z = let d = eqb-false i j z in rec (omega (arith, p, d)) (omega arith)
 
-  pub entries-fit : (j k : ℕ) → ((i : ℕ) → j ≤ i → i < j + k → Entry l s i) → entriesOk l s j k ≡ true
+  pub entries-fit : (j k : ℕ) → ((i : ℕ) → j ≤ i → i < j + k → EntryFits l s i) → entriesOk l s j k ≡ true
   unfolding entriesOk
   entries-fit j zero f = refl
   entries-fit j (suc k) f = rw (entry-fits j (f j (omega arith) (omega arith))) (entries-fit (suc j) k (λ i p q. f i (omega arith) (omega arith)))

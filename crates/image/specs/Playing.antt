@@ -12,9 +12,10 @@ use Rattle.block.specs.Context.{historyWith, contextWith, newContext}
 use Rattle.block.specs.Frame.{Lent, lent}
 use Rattle.block.specs.Play.{playInto}
 use Rattle.block.specs.Refusals.{lowestPair}
+use Rattle.image.specs.declared.bodies.Entry.{Entry}
 use Rattle.image.specs.declared.PlayAnswer.{PlayAnswer}
 use Rattle.image.specs.declared.PlayAnswer.the-variants.{Played, Refused}
-use Rattle.image.specs.Reading.{coefficientsIn, lengthIn, headerIn, newestIn, olderIn}
+use Rattle.image.specs.Reading.{coefficientsIn, offsetIn, lengthIn, headerIn, newestIn, olderIn}
 use Rattle.image.specs.Opening.{code, andThen}
 use Rattle.image.specs.Bodies.{blockAnswer, bodyIn}
 
@@ -22,13 +23,18 @@ use Rattle.image.specs.Bodies.{blockAnswer, bodyIn}
 unfoldable pub contextIn : List ℕ → ℕ → FrameContext
 contextIn l k = contextWith (headerIn l k) (historyWith (newestIn l k) (olderIn l k))
 
+-- what block k's entry says, its context put together
+abbrev pub readEntry : List ℕ → ℕ → Entry
+readEntry l k = record { offset = offsetIn l k; nibbles = lengthIn l k; context = contextIn l k }
+
+-- codes 13, 14: for so many samples and an output of some room
+unfoldable pub roomAnswer : List ℤ → ℕ → ℕ → Outcome Unit
+roomAnswer cs n room = cond (lowestPair cs) (refused 13) (cond (ltb room n) (refused 14) (accepted tt))
+
 -- codes 15, 16, 17, 13, 14
 unfoldable pub playAnswer : List ℕ → ℕ → ℕ → Outcome Unit
-playAnswer l k room =
-    andThen (blockAnswer l k)
-    (cond (lowestPair (coefficientsIn l)) (refused 13)
-    (cond (ltb room (addressToSample (lengthIn l k))) (refused 14)
-    (accepted tt)))
+unfolding roomAnswer
+playAnswer l k room = andThen (blockAnswer l k) (roomAnswer (coefficientsIn l) (addressToSample (lengthIn l k)) room)
 
 -- what an answer of playing says: the sample count, or the refusal's number
 abbrev pub playOutcome : PlayAnswer → Outcome ℕ

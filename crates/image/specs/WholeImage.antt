@@ -1,8 +1,6 @@
 -- Playing a whole image. Definitions only.
-use mathlib.Core.Bool.{cond}
 use mathlib.Core.List.{List}
 use Prim.Native.Nat.{ℕ, _-_}
-use lib.Dec.{ltb}
 use lib.IntN.{ℤ}
 use lib.ListN.{length}
 use lib.Seq.{sets}
@@ -12,14 +10,15 @@ use Rattle.block.specs.Context.{newContext}
 use Rattle.block.specs.Frame.{Lent, lent}
 use Rattle.block.specs.Play as Block
 use Rattle.image.specs.Reading.{totalIn, blocksIn, coefficientsIn, lengthIn}
-use Rattle.image.specs.Opening.{andThen}
+use Rattle.image.specs.Opening.{andThen, openAnswer}
 use Rattle.image.specs.Bodies.{bodyIn}
-use Rattle.image.specs.Playing.{contextIn, PlayEffect, playEffect}
-use Rattle.image.specs.Sameness.{samplesIn, compareAnswer}
+use Rattle.image.specs.Playing.{contextIn, roomAnswer, PlayEffect, playEffect}
+use Rattle.image.specs.Sameness.{samplesIn}
 
 -- codes 15, 16, 13, 14
 unfoldable pub allAnswer : List ℕ → ℕ → Outcome Unit
-allAnswer l room = andThen (compareAnswer l) (cond (ltb room (totalIn l)) (refused 14) (accepted tt))
+unfolding roomAnswer
+allAnswer l room = andThen (openAnswer l) (roomAnswer (coefficientsIn l) (totalIn l) room)
 
 -- the context that block k leaves, played from its entry
 unfoldable pub contextAfter : List ℕ → ℕ → FrameContext

@@ -8,7 +8,7 @@ ghost use Rattle.image.specs.inner.Asked.{Opens, Source, Turn, Pair};
 ghost use Rattle.image.specs.inner.ByFrames.{frameSamples, contextBefore, playedFrame, nextFrame};
 ghost use Rattle.image.specs.Sameness.{equalSamples, samplesIn, sameSound};
 use crate::Head;
-use crate::bodies::read_context;
+use crate::bodies::read_entry;
 use crate::heading::read_head;
 use crate::heading::shape_of;
 use block::FrameContext;
@@ -50,7 +50,9 @@ fn context_before(
 {
     let per = block / 8;
     if i % per == 0 {
-        return read_context(image, i / per);
+        let entry = read_entry(image, i / per);
+        let context = entry.context;
+        return context;
     }
     before.with_header(image[bodies + 8 * i])
 }

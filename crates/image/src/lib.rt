@@ -15,19 +15,16 @@ mod heading;
 mod playing;
 
 use block::FrameContext;
-use block::address_to_sample;
 use bodies::find_body;
-use bodies::read_length;
-use checks::all_answer;
+use bodies::read_entry;
 use checks::both_answer;
 use checks::open_answer;
-use checks::play_answer;
 use comparing::same_sound;
-use heading::read_coefficients;
 use heading::read_head;
 use layout::fields::get32;
-use playing::play_block;
-use playing::play_blocks;
+use playing::play_found;
+use playing::play_opened;
+use playing::refused_playback;
 
 // Why a call is refused.
 pub enum Refusal {
@@ -151,7 +148,10 @@ pub fn block_body<'a>(image: &'a [u8], k: u32) -> &'a [u8]
 {
     let answer = block_answer(image, k);
     match answer {
-        Answer::Accepted => find_body(image, k as usize),
+        Answer::Accepted => {
+            let entry = read_entry(image, k as usize);
+            find_body(image, entry.offset as usize, entry.nibbles as usize)
+        }
         Answer::Refused(_) => &image[..0],
     }
 }
@@ -160,24 +160,10 @@ pub fn block_body<'a>(image: &'a [u8], k: u32) -> &'a [u8]
 pub fn play(image: &[u8], k: u32, out: &mut [i16]) -> Playback
     ensures { λ r. ⌜ playEffect (playOutcome (r .answer)) (lent (r .context) (now (out .exit))) ≡ play (now (image .entry)) k (now (out .entry)) ⌝ }
 {
-    let answer = play_answer(image, k, out.len());
+    let answer = block_answer(image, k);
     match answer {
-        Answer::Accepted => {
-            let nibbles = read_length(image, k as usize);
-            let coefficients = read_coefficients(image);
-            let after = play_block(image, k as usize, nibbles, coefficients, out);
-            Playback {
-                answer: PlayAnswer::Played(address_to_sample(nibbles)),
-                context: after,
-            }
-        }
-        Answer::Refused(why) => {
-            let context = FrameContext::new();
-            Playback {
-                answer: PlayAnswer::Refused(why),
-                context: context,
-            }
-        }
+        Answer::Accepted => play_found(image, k as usize, out),
+        Answer::Refused(why) => refused_playback(why),
     }
 }
 
@@ -185,23 +171,10 @@ pub fn play(image: &[u8], k: u32, out: &mut [i16]) -> Playback
 pub fn play_all(image: &[u8], out: &mut [i16]) -> Playback
     ensures { λ r. ⌜ playEffect (playOutcome (r .answer)) (lent (r .context) (now (out .exit))) ≡ playAll (now (image .entry)) (now (out .entry)) ⌝ }
 {
-    let answer = all_answer(image, out.len());
+    let answer = open_answer(image);
     match answer {
-        Answer::Accepted => {
-            let total = get32(image, 4);
-            let after = play_blocks(image, out);
-            Playback {
-                answer: PlayAnswer::Played(total as u64),
-                context: after,
-            }
-        }
-        Answer::Refused(why) => {
-            let context = FrameContext::new();
-            Playback {
-                answer: PlayAnswer::Refused(why),
-                context: context,
-            }
-        }
+        Answer::Accepted => play_opened(image, out),
+        Answer::Refused(why) => refused_playback(why),
     }
 }
 

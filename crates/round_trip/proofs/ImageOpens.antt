@@ -26,7 +26,7 @@ use Rattle.round_trip.proofs.FramesPlayed.{Audible, contextBefore, hist
 use Rattle.whole.specs.Outcome.{accepted}
 use Rattle.image.specs.Reading.{shapeIn, totalIn, rateIn, blockIn, gainIn, zeroIn, blocksIn, signedAt, coefficientsUpTo, coefficientsIn, offsetIn, lengthIn, headerIn, newestIn, olderIn, entryZeroIn}
 use Rattle.image.specs.Opening.{markOk, openAnswer}
-use Rattle.image.specs.inner.Asked.{Headed, Entry, Opens}
+use Rattle.image.specs.inner.Asked.{Headed, EntryFits, Opens}
 use Rattle.image.specs.Playing.{contextIn}
 use Rattle.image.proofs.OpenImages.{opens}
 
@@ -122,7 +122,7 @@ module _ (g : Start) (F : Fine g) (xs : List ℤ) (rest : List ℕ) where
         ap (λ (k : ℕ). getD image k 0) e
         ∙ read.body-at g F xs (framesOf (g .total)) rest (j * (g .block / 8)) 0 first-frame (omega arith) (omega (arith, p .2))
 
-    pub entry-made : Entry image (startShape g) j
+    pub entry-made : EntryFits image (startShape g) j
     unfolding offsetIn lengthIn entryZeroIn
     entry-made =
         record {

@@ -26,7 +26,7 @@ pub record Headed (l : List ℕ) : Type 0 where
   pub size : imageSize (shapeIn l) ≤ length l
 
 -- an entry that 16 does not refuse
-pub record Entry (l : List ℕ) (s : Shape) (j : ℕ) : Type 0 where
+pub record EntryFits (l : List ℕ) (s : Shape) (j : ℕ) : Type 0 where
   pub offset : offsetIn l j ≡ blockOffset s j
   pub nibbles : lengthIn l j ≡ blockLength s j
   pub zeros : entryZeroIn l j ≡ 0
@@ -34,7 +34,7 @@ pub record Entry (l : List ℕ) (s : Shape) (j : ℕ) : Type 0 where
 
 pub record Opens (l : List ℕ) : Type 0 where
   pub head : Headed l
-  pub entries : (j : ℕ) → j < blockCount (shapeIn l) → Entry l (shapeIn l) j
+  pub entries : (j : ℕ) → j < blockCount (shapeIn l) → EntryFits l (shapeIn l) j
 
 -- the image opens and has a block k
 pub record Found (l : List ℕ) (k : ℕ) : Type 0 where

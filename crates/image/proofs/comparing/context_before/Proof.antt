@@ -1,9 +1,10 @@
 -- `context_before` meets its contract. Assumes nothing.
 use borrow.Author.Needs.{needs}
 use denote.Ref.{now}
-use mathlib.Core.Path.{_≡_}
+use mathlib.Core.Path.{_≡_, ap}
 use native.Mathlib.Omega.{arith}
 use borrow.Author.Tests.{eq-eqb, ne-eqb}
+use Rattle.image.specs.declared.bodies.Entry.{Entry}
 use Rattle.image.specs.inner.ByFrames.{framePlaceIn, contextBefore}
 use Rattle.image.proofs.FramePlaces.{placed, place-made, first-found}
 use Rattle.image.proofs.comparing.context_before.Statement.{statement}
@@ -12,15 +13,15 @@ use Rattle.image.proofs.comparing.context_before.Tie as tie
 rem-if1 : tie.Need-rem-if1
 rem-if1 c = search needs
 
-div-read-context : tie.Need-div-read-context
-div-read-context c = search needs
+div-read-entry : tie.Need-div-read-entry
+div-read-entry c = search needs
 
-read-context-requires : tie.Need-read-context-requires
-read-context-requires c κs = first-found (now (c .before .before .args .image)) _ _ _ (c .before .before .pre) (c .if1 .taken)
+read-entry-requires : tie.Need-read-entry-requires
+read-entry-requires c κs = first-found (now (c .before .before .args .image)) _ _ _ (c .before .before .pre) (c .if1 .taken)
 
 returns : tie.Need-returns
 unfolding contextBefore
-returns c = rw (c .read-context .ensures, ← c .before .before .before .pre .size, eq-eqb _ _ (c .before .if1 .taken))
+returns c = rw (ap (λ (e : Entry). e .context) (c .before .read-entry .ensures), ← c .before .before .before .before .pre .size, eq-eqb _ _ (c .before .before .if1 .taken))
 
 mul-with-header : tie.Need-mul-with-header
 mul-with-header c = let p = placed (now (c .before .before .args .image)) _ _ _ (c .before .before .pre) in omega (arith, p .frames)
@@ -45,8 +46,8 @@ context-before-spec =
     tie.close
     (tie.spec
     rem-if1
-    div-read-context
-    read-context-requires
+    div-read-entry
+    read-entry-requires
     returns
     mul-with-header
     add-with-header
