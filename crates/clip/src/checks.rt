@@ -15,6 +15,8 @@ use layout::limits::numbers_ok;
 use layout::sizes::cut_down;
 use layout::sizes::frames;
 use layout::sizes::image_size;
+use whole::MOST_SAMPLES;
+use whole::SAMPLES_PER_FRAME;
 
 // The shape of a clip of N samples in blocks of B bytes, with no entries after those of its blocks.
 pub(crate) fn shape_of(total: u32, block: u32) -> Shape
@@ -121,7 +123,7 @@ pub(crate) fn start_answer(g: Start, room: usize) -> Answer
     if total < 1 {
         return Answer::Refused(Refusal::BadSampleCount);
     }
-    if total > 14_680_064 {
+    if total > MOST_SAMPLES {
         return Answer::Refused(Refusal::BadSampleCount);
     }
     let rate = g.rate;
@@ -155,5 +157,5 @@ pub(crate) fn encoded_frames(n: usize, total: usize, closed: bool) -> usize
     if closed {
         return frames(total);
     }
-    n / 14
+    n / SAMPLES_PER_FRAME
 }

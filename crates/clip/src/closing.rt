@@ -12,6 +12,7 @@ use crate::contents::put_mark;
 use crate::feeding::store;
 use frame::encode_frame;
 use frame::history_after;
+use whole::SAMPLES_PER_FRAME;
 
 // A frame whose samples from place m on are zero.
 fn padded(frame: [i16; 14], m: usize) -> [i16; 14]
@@ -20,7 +21,7 @@ fn padded(frame: [i16; 14], m: usize) -> [i16; 14]
 {
     let mut f = frame;
     let mut j: usize = m;
-    while j < 14 {
+    while j < SAMPLES_PER_FRAME {
         f[j] = 0;
         j += 1;
     }

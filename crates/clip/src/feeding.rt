@@ -14,7 +14,9 @@ use layout::Shape;
 use layout::fields::put_part;
 use layout::sizes::bodies_place;
 use layout::sizes::entry_place;
+use whole::BYTES_PER_FRAME;
 use whole::History;
+use whole::SAMPLES_PER_FRAME;
 
 // Stores a frame's first k bytes at its place, and its block's context where it is a block's first.
 pub(crate) fn store(
@@ -28,8 +30,8 @@ pub(crate) fn store(
     requires { ⌜ Room shape q k (length (now image)) ⌝ }
     ensures { λ _. ⌜ now (image .exit) ≡ store shape q (take k bytes) history (now (image .entry)) ⌝ }
 {
-    put_part(image, bodies_place(shape) + 8 * q, bytes, k);
-    let per = shape.block / 8;
+    put_part(image, bodies_place(shape) + BYTES_PER_FRAME * q, bytes, k);
+    let per = shape.block / BYTES_PER_FRAME;
     if q % per == 0 {
         put_context(image, entry_place(q / per) + 8, bytes[0], history);
     }
@@ -58,7 +60,7 @@ fn encode_full(
     let done = encode_frame(history, frame, coefficients);
     let bytes = done.bytes;
     let samples = done.samples;
-    let after = history_after(history, samples, 14);
+    let after = history_after(history, samples, SAMPLES_PER_FRAME);
     store(image, shape, q, bytes, 8, history);
     Encoded {
         history: after,

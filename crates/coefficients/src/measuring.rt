@@ -10,12 +10,14 @@ use crate::Answer;
 use crate::CoefficientCalculator;
 use crate::Refusal;
 use crate::framing::process_frame;
+use whole::MOST_SAMPLES;
+use whole::SAMPLES_PER_FRAME;
 
 // Whether the counts are those of some measured samples.
 fn valid(n: u32, r: u32) -> bool
     ensures { λ q. ⌜ q ≡ Measure.valid n r ⌝ }
 {
-    if n > 14_680_064 {
+    if n > MOST_SAMPLES {
         return false;
     }
     r <= n / 14
@@ -26,7 +28,7 @@ fn needed(n: usize) -> usize
     requires { ⌜ n ≤ 14680064 ⌝ }
     ensures { λ q. ⌜ q ≡ Measure.needed n ⌝ }
 {
-    2 * ((n + 13) / 14)
+    2 * ((n + 13) / SAMPLES_PER_FRAME)
 }
 
 // Whether a piece of some length on a store of some size is refused.
@@ -64,8 +66,8 @@ fn shift(h: &mut [i16; 28])
     ensures { λ _. ⌜ now (h .exit) ≡ Measure.shift (now (h .entry)) ⌝ }
 {
     let mut i: usize = 0;
-    while i < 14 {
-        let x = h[14 + i];
+    while i < SAMPLES_PER_FRAME {
+        let x = h[SAMPLES_PER_FRAME + i];
         h[i] = x;
         i += 1;
     }
@@ -78,7 +80,7 @@ fn push(n: u32, r: usize, h: &mut [i16; 28], x: i16, s: &mut [f64]) -> usize
         ≡ Measure.push (Measure.measuring (Measure.calculator n r (now (h .entry))) (now (s .entry))) x ⌝ }
 {
     let k = (n % 14) as usize;
-    let at = 14 + k;
+    let at = SAMPLES_PER_FRAME + k;
     h[at] = x;
     if k == 13 {
         let q = process_frame(h, s, r);
@@ -120,7 +122,7 @@ fn padded(h: [i16; 28], k: usize) -> [i16; 28]
     ensures { λ q. ⌜ q ≡ Measure.padded h k ⌝ }
 {
     let mut g = h;
-    let mut i = 14 + k;
+    let mut i = SAMPLES_PER_FRAME + k;
     while i < 28 {
         g[i] = 0;
         i += 1;

@@ -5,6 +5,7 @@ ghost use Rattle.doilycairn.specs.Sizes.{imageSize};
 use layout::Shape;
 use layout::sizes::cut_down;
 use layout::sizes::image_size;
+use whole::MOST_SAMPLES;
 
 // The numbers of the store that measuring so many samples needs.
 #[no_mangle]
@@ -22,7 +23,7 @@ pub extern "C" fn doilycairn_image_size(total: u32, block_size: u32) -> u64
     if total < 1 {
         return 0;
     }
-    if total > 14_680_064 {
+    if total > MOST_SAMPLES {
         return 0;
     }
     if block_size < 8 {

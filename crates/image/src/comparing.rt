@@ -17,6 +17,8 @@ use block::play_frame;
 use layout::sizes::bodies_place;
 use layout::sizes::frames;
 use layout::sizes::last_samples;
+use whole::BYTES_PER_FRAME;
+use whole::SAMPLES_PER_FRAME;
 
 // A frame's samples, and the context after them.
 pub(crate) struct Frame {
@@ -32,7 +34,7 @@ fn frame_samples(total: usize, i: usize) -> usize
 {
     let f = frames(total);
     if i + 1 < f {
-        return 14;
+        return SAMPLES_PER_FRAME;
     }
     last_samples(total)
 }
@@ -48,13 +50,13 @@ fn context_before(
     requires { ⌜ Source (now image) block bodies i ⌝ }
     ensures { λ r. ⌜ r ≡ contextBefore (now (image .entry)) i before ⌝ }
 {
-    let per = block / 8;
+    let per = block / BYTES_PER_FRAME;
     if i % per == 0 {
         let entry = read_entry(image, i / per);
         let context = entry.context;
         return context;
     }
-    before.with_header(image[bodies + 8 * i])
+    before.with_header(image[bodies + BYTES_PER_FRAME * i])
 }
 
 // `count` samples of the frame at a byte.
@@ -85,7 +87,13 @@ fn next_frame(image: &[u8], head: Head, i: usize, count: usize, before: FrameCon
     let bodies = bodies_place(shape_of(head.total, head.block));
     let coefficients = head.coefficients;
     let context = context_before(image, block, bodies, i, before);
-    played_frame(image, bodies + 8 * i, count, coefficients, context)
+    played_frame(
+        image,
+        bodies + BYTES_PER_FRAME * i,
+        count,
+        coefficients,
+        context,
+    )
 }
 
 // Whether the first `count` samples are equal.

@@ -7,6 +7,8 @@ ghost use Rattle.whole.specs.Frames.{framesOf};
 use crate::ENTRY_BYTES;
 use crate::HEAD_BYTES;
 use crate::Shape;
+use whole::BYTES_PER_FRAME;
+use whole::SAMPLES_PER_FRAME;
 
 // Frames of n samples, the last one filled. It is internal: clip and image call it.
 pub fn frames(n: usize) -> usize
@@ -14,7 +16,7 @@ pub fn frames(n: usize) -> usize
     ensures same { λ r. ⌜ r ≡ framesOf n ⌝ }
     ensures most { λ r. ⌜ r ≤ 1048576 ⌝ }
 {
-    (n + 13) / 14
+    (n + 13) / SAMPLES_PER_FRAME
 }
 
 // Samples in the last frame. It is internal: image calls it.
@@ -23,7 +25,7 @@ pub fn last_samples(total: usize) -> usize
     ensures same { λ r. ⌜ r ≡ lastSamples total ⌝ }
     ensures most { λ r. ⌜ r ≤ 14 ⌝ }
 {
-    total - 14 * (frames(total) - 1)
+    total - SAMPLES_PER_FRAME * (frames(total) - 1)
 }
 
 // Blocks of a clip. It is internal: clip and image call it.
@@ -33,7 +35,7 @@ pub fn block_count(shape: Shape) -> usize
     ensures most { λ r. ⌜ r ≤ 1048576 ⌝ }
 {
     let block = shape.block;
-    (8 * frames(shape.total) + block - 1) / block
+    (BYTES_PER_FRAME * frames(shape.total) + block - 1) / block
 }
 
 // Bytes of a clip's bodies. It is internal: clip calls it.
@@ -42,7 +44,7 @@ pub fn body_bytes(total: usize) -> usize
     ensures same { λ r. ⌜ r ≡ bodyBytes total ⌝ }
     ensures most { λ r. ⌜ r ≤ 8388608 ⌝ }
 {
-    8 * (frames(total) - 1) + 1 + (last_samples(total) + 1) / 2
+    BYTES_PER_FRAME * (frames(total) - 1) + 1 + (last_samples(total) + 1) / 2
 }
 
 // Where block j's entry stands. It is internal: clip, image and doilycairn call it.
@@ -82,7 +84,7 @@ pub fn block_length(shape: Shape, j: usize) -> usize
     ensures same { λ r. ⌜ r ≡ blockLength shape j ⌝ }
     ensures most { λ r. ⌜ r < 4294967296 ⌝ }
 {
-    let per = shape.block / 8;
+    let per = shape.block / BYTES_PER_FRAME;
     let total = shape.total;
     let f = frames(total);
     let first = j * per;
