@@ -1,30 +1,27 @@
--- `print_bytes` is safe and ends. Assumes nothing.
+-- `print_samples` is safe and ends. Assumes nothing.
 use Prim.Native.Nat.{_-_, _≤_}
 use lib.ListN.{length}
 use borrow.Author.Needs.{needs}
-use Rattle.image_list.proofs.text.print_bytes.Statement.{statement}
-use Rattle.image_list.proofs.text.print_bytes.Tie as tie
+use Rattle.replay.proofs.print_samples.Statement.{statement}
+use Rattle.replay.proofs.print_samples.Tie as tie
 
 abbrev Inv-loop : tie.InvT-loop
-Inv-loop bytes i₀ i = i ≤ length bytes
+Inv-loop samples i₀ i = i ≤ length samples
 
 abbrev μ-loop : tie.MeasureT-loop
-μ-loop bytes i₀ i = length bytes - i
-
-slice-aggregate-write-all : tie.Need-slice-aggregate-write-all Inv-loop μ-loop
-slice-aggregate-write-all c = search needs
-
-write-all-requires : tie.Need-write-all-requires Inv-loop μ-loop
-write-all-requires c κs = search needs
+μ-loop samples i₀ i = length samples - i
 
 loop-holds : tie.Need-loop-holds Inv-loop μ-loop
 loop-holds c = search needs
 
-shared-slice-read-wide : tie.Need-shared-slice-read-wide Inv-loop μ-loop
-shared-slice-read-wide c = search needs
+mul-bits16 : tie.Need-mul-bits16 Inv-loop μ-loop
+mul-bits16 c = search needs
 
-wide-requires : tie.Need-wide-requires Inv-loop μ-loop
-wide-requires c κs = search needs
+shared-slice-copy-out-bits16 : tie.Need-shared-slice-copy-out-bits16 Inv-loop μ-loop
+shared-slice-copy-out-bits16 c = search needs
+
+bits16-requires : tie.Need-bits16-requires Inv-loop μ-loop
+bits16-requires c κs = search needs
 
 cast-print-hex : tie.Need-cast-print-hex Inv-loop μ-loop
 cast-print-hex c = search needs
@@ -44,17 +41,16 @@ loop-again c = search needs
 returns : tie.Need-returns Inv-loop μ-loop
 returns c = search needs
 
-pub print-bytes-spec : {M : Type 1} → statement M
-print-bytes-spec =
+pub print-samples-spec : {M : Type 1} → statement M
+print-samples-spec =
     tie.close
     (tie.spec
     Inv-loop
     μ-loop
-    slice-aggregate-write-all
-    write-all-requires
     loop-holds
-    shared-slice-read-wide
-    wide-requires
+    mul-bits16
+    shared-slice-copy-out-bits16
+    bits16-requires
     cast-print-hex
     print-hex-requires
     add-i
