@@ -81,6 +81,14 @@ pub fn add_samples(line: &[u8], at: usize, count: usize, piece: &mut [i16], pend
     end
 }
 
+// The pattern of a float, one and the same for every NaN.
+pub fn float_bits(x: f64) -> u64 {
+    if x != x {
+        return 0x7ff8_0000_0000_0000;
+    }
+    f64::to_bits(x)
+}
+
 // A byte as a number of 64 bits.
 fn wide(x: u8) -> u64 {
     x as u64

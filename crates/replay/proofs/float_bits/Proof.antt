@@ -1,11 +1,11 @@
--- `bits_of` is safe. Assumes nothing.
+-- `float_bits` is safe. Assumes nothing.
 use mathlib.Core.Path.{_≡_, subst}
 use mathlib.Core.Bool.{Bool, true, false, not}
 use borrow.Author.Needs.{needs}
 use lib.Dec.{T}
 use lib.Ieee.{Float, nan, inf, fin, isNan, ne, eq}
-use Rattle.float_list.proofs.bits_of.Statement.{statement}
-use Rattle.float_list.proofs.bits_of.Tie as tie
+use Rattle.replay.proofs.float_bits.Statement.{statement}
+use Rattle.replay.proofs.float_bits.Tie as tie
 
 -- what equals itself is no NaN
 no-nan : (x : Float) → ne x x ≡ false → T (not (isNan x))
@@ -23,5 +23,5 @@ float-to-bits-result c = no-nan _ (c .if1 .left)
 returns-2 : tie.Need-returns-2
 returns-2 c = search needs
 
-pub bits-of-spec : {M : Type 1} → statement M
-bits-of-spec = tie.close (tie.spec returns float-to-bits-result returns-2)
+pub float-bits-spec : {M : Type 1} → statement M
+float-bits-spec = tie.close (tie.spec returns float-to-bits-result returns-2)
