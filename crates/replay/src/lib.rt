@@ -2,6 +2,9 @@
 ghost use mathlib.Core.Path.{_≡_};
 ghost use Prim.Native.Nat.{_+_, _*_, _≤_, _<_};
 ghost use lib.ListN.{length};
+ghost use mir.Syntax.{w16};
+ghost use mir.Val.{toZ};
+ghost use Rattle.replay.specs.Digits.{digit, byte, word, doubleWord, quadWord};
 
 // The smaller of two numbers.
 pub fn least(a: usize, b: usize) -> usize
@@ -12,6 +15,7 @@ pub fn least(a: usize, b: usize) -> usize
 
 // The number of a hexadecimal digit: 0 to 9 for the characters 48 to 57, 10 to 15 for the characters 97 to 102.
 pub fn digit(c: u8) -> u8
+    ensures value { λ r. ⌜ r ≡ digit c ⌝ }
     ensures below { λ r. ⌜ r < 16 ⌝ }
     ensures figure { λ r. ⌜ ((48 ≤ c) → (c ≤ 57) → r + 48 ≡ c) ⌝ }
     ensures letter { λ r. ⌜ ((97 ≤ c) → (c ≤ 102) → r + 87 ≡ c) ⌝ }
@@ -25,7 +29,7 @@ pub fn digit(c: u8) -> u8
 // The number of the two digits from a place on.
 pub fn byte(line: &[u8], at: usize) -> u8
     requires { ⌜ at + 2 ≤ length (now line) ⌝ }
-    ensures { λ r. ⌜ r < 256 ⌝ }
+    ensures { λ r. ⌜ r ≡ byte (now (line .entry)) at ⌝ }
 {
     digit(line[at]) * 16 + digit(line[at + 1])
 }
@@ -33,7 +37,7 @@ pub fn byte(line: &[u8], at: usize) -> u8
 // The number of the four digits from a place on.
 pub fn word(line: &[u8], at: usize) -> u16
     requires { ⌜ at + 4 ≤ length (now line) ⌝ }
-    ensures { λ r. ⌜ r < 65536 ⌝ }
+    ensures { λ r. ⌜ r ≡ word (now (line .entry)) at ⌝ }
 {
     byte(line, at) as u16 * 256 + byte(line, at + 2) as u16
 }
@@ -41,7 +45,7 @@ pub fn word(line: &[u8], at: usize) -> u16
 // The number of the eight digits from a place on.
 pub fn double_word(line: &[u8], at: usize) -> u32
     requires { ⌜ at + 8 ≤ length (now line) ⌝ }
-    ensures { λ r. ⌜ r < 4294967296 ⌝ }
+    ensures { λ r. ⌜ r ≡ doubleWord (now (line .entry)) at ⌝ }
 {
     word(line, at) as u32 * 65536 + word(line, at + 4) as u32
 }
@@ -49,6 +53,7 @@ pub fn double_word(line: &[u8], at: usize) -> u32
 // The number of the sixteen digits from a place on.
 pub fn quad_word(line: &[u8], at: usize) -> u64
     requires { ⌜ at + 16 ≤ length (now line) ⌝ }
+    ensures { λ r. ⌜ r ≡ quadWord (now (line .entry)) at ⌝ }
 {
     double_word(line, at) as u64 * 4294967296 + double_word(line, at + 8) as u64
 }
@@ -56,6 +61,7 @@ pub fn quad_word(line: &[u8], at: usize) -> u64
 // The signed number of the four digits from a place on.
 pub fn sample(line: &[u8], at: usize) -> i16
     requires { ⌜ at + 4 ≤ length (now line) ⌝ }
+    ensures { λ r. ⌜ r ≡ toZ w16 (word (now (line .entry)) at) ⌝ }
 {
     layout::fields::signed16(word(line, at))
 }
