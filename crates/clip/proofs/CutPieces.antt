@@ -24,6 +24,7 @@ use Rattle.clip.proofs.Pieces.{going-next}
 pub record Kept (s t : Left) : Type 0 where
   pub closed : t .encoder .closed ≡ s .encoder .closed
   pub rate : t .encoder .rate ≡ s .encoder .rate
+  pub total : t .encoder .total ≡ s .encoder .total
 
 push-kept : (s : Left) (x : ℤ) → Kept s (push s x)
 unfolding push
@@ -42,15 +43,41 @@ push-kept s x = go (eqb (s .encoder .fed % 14) 13)
         → Kept s (cond t
         (left (moved e (e .fed + 1) (historyAfter (e .history) (c .samples) 14) noFrame (e .passes + c .passes) (e .closed)) (store (encoderShape e) (e .fed / 14) (c .bytes) (e .history) (s .bytes)))
         (left (moved e (e .fed + 1) (e .history) f (e .passes) (e .closed)) (s .bytes)))
-    go true = record { closed = refl; rate = refl }
-    go false = record { closed = refl; rate = refl }
+    go true = record { closed = refl; rate = refl; total = refl }
+    go false = record { closed = refl; rate = refl; total = refl }
 
 piece-kept : (xs : List ℤ) (s : Left) → Kept s (feedAll s xs)
-piece-kept [] s = record { closed = refl; rate = refl }
+piece-kept [] s = record { closed = refl; rate = refl; total = refl }
 piece-kept (x ∷ xs) s =
     let a = push-kept s x in
     let b = piece-kept xs (push s x) in
-    record { closed = b .closed ∙ a .closed; rate = b .rate ∙ a .rate }
+    record { closed = b .closed ∙ a .closed; rate = b .rate ∙ a .rate; total = b .total ∙ a .total }
+
+-- each sample counts
+push-fed : (s : Left) (x : ℤ) → push s x .encoder .fed ≡ s .encoder .fed + 1
+unfolding push
+push-fed s x = go (eqb (s .encoder .fed % 14) 13)
+  where
+    e : Encoder
+    e = s .encoder
+
+    f : List ℤ
+    f = set (s .encoder .frame) (s .encoder .fed % 14) x
+
+    c : EncodedFrame
+    c = encodeFrame (s .encoder .history) (set (s .encoder .frame) (s .encoder .fed % 14) x) (s .encoder .coefficients)
+
+    go : (t : Bool)
+        → cond t
+        (left (moved e (e .fed + 1) (historyAfter (e .history) (c .samples) 14) noFrame (e .passes + c .passes) (e .closed)) (store (encoderShape e) (e .fed / 14) (c .bytes) (e .history) (s .bytes)))
+        (left (moved e (e .fed + 1) (e .history) f (e .passes) (e .closed)) (s .bytes)) .encoder .fed
+        ≡ s .encoder .fed + 1
+    go true = refl
+    go false = refl
+
+piece-fed : (xs : List ℤ) (s : Left) → feedAll s xs .encoder .fed ≡ s .encoder .fed + length xs
+piece-fed [] s = omega arith
+piece-fed (x ∷ xs) s = omega (arith, piece-fed xs (push s x), push-fed s x)
 
 -- the samples of a piece in turn
 piece-going : (xs : List ℤ) (s : Left) (i m : ℕ) → i + length xs ≤ m → Going (s .encoder) i m (length (s .bytes))
@@ -97,22 +124,57 @@ answered : (e : Encoder) (xs : List ℤ) (l : List ℕ) → feed e xs l .outcome
 unfolding feed
 answered e xs l = answer-by (feedAnswer e (length xs) (length l)) (left e l) xs
 
--- Feeding a piece cut in two is feeding its parts in turn.
-pub feed-cut : (e : Encoder) (a b : List ℤ) (l : List ℕ) → feed e (a ++ b) l .outcome ≡ accepted tt → feed e (a ++ b) l ≡ (let o = feed e a l in feed (o .encoder) b (o .bytes))
-feed-cut e a b l ok =
-    let w = sym (answered e (a ++ b) l) ∙ ok in
-    let g = feed-accepted e (length (a ++ b)) (length l) w in
-    let o = feed-open e (length (a ++ b)) (length l) w in
-    let n = length-append a b in
-    let r = g .rest in
-    let first : Going e 0 (length a) (length l) = record { limits = g .limits; within = g .within; rest = omega arith; count = g .count; size = g .size } in
-    let s = feedAll (left e l) a in
-    let p = piece-going a (left e l) 0 (length (a ++ b)) (omega arith) g in
-    let k = piece-kept a (left e l) in
-    let q = p .0 .rest in
-    let second : Going (s .encoder) 0 (length b) (length (s .bytes)) =
-    record { limits = p .0 .limits; within = p .0 .within; rest = omega arith; count = p .0 .count; size = omega (arith, p .0 .size, p .1) } in
-    accepted-by e (a ++ b) l w
-    ∙ ap (effect (accepted tt)) (foldl-append push (left e l) a b)
-    ∙ sym (ap (λ (v : Effect). feed (v .encoder) b (v .bytes)) (accepted-by e a l (going-accepts e (length a) (length l) (o .1) (o .0) first))
-    ∙ accepted-by (s .encoder) b (s .bytes) (going-accepts (s .encoder) (length b) (length (s .bytes)) (λ z. o .1 (sym (k .rate) ∙ z)) (k .closed ∙ o .0) second))
+-- ---- two parts
+
+module _ (e : Encoder) (a b : List ℤ) (l : List ℕ) where
+  -- the state and the image after the first part
+  abbrev half : Left
+  half = feedAll (left e l) a
+
+  -- where the whole piece is accepted, the parts can be fed in turn
+  parts : feed e (a ++ b) l .outcome ≡ accepted tt → (feedAnswer e (length a) (length l) ≡ accepted tt) × (feedAnswer (half .encoder) (length b) (length (half .bytes)) ≡ accepted tt)
+  parts ok =
+      let w = sym (answered e (a ++ b) l) ∙ ok in
+      let g = feed-accepted e (length (a ++ b)) (length l) w in
+      let o = feed-open e (length (a ++ b)) (length l) w in
+      let n = length-append a b in
+      let r = g .rest in
+      let first : Going e 0 (length a) (length l) = record { limits = g .limits; within = g .within; rest = omega arith; count = g .count; size = g .size } in
+      let p = piece-going a (left e l) 0 (length (a ++ b)) (omega arith) g in
+      let k = piece-kept a (left e l) in
+      let q = p .0 .rest in
+      let second : Going (half .encoder) 0 (length b) (length (half .bytes)) =
+      record { limits = p .0 .limits; within = p .0 .within; rest = omega arith; count = p .0 .count; size = omega (arith, p .0 .size, p .1) } in (
+        going-accepts e (length a) (length l) (o .1) (o .0) first,
+        going-accepts (half .encoder) (length b) (length (half .bytes)) (λ z. o .1 (sym (k .rate) ∙ z)) (k .closed ∙ o .0) second,
+      )
+
+  -- Where a piece is accepted, so are its parts in turn.
+  pub cut-accepted : feed e (a ++ b) l .outcome ≡ accepted tt → (feed e a l .outcome ≡ accepted tt) × ((let o = feed e a l in feed (o .encoder) b (o .bytes)) .outcome ≡ accepted tt)
+  cut-accepted ok =
+      let p = parts ok in (
+        answered e a l ∙ p .0,
+        ap (λ (v : Effect). feed (v .encoder) b (v .bytes) .outcome) (accepted-by e a l (p .0)) ∙ answered (half .encoder) b (half .bytes) ∙ p .1,
+      )
+
+  -- Where two parts are accepted in turn, so is the piece.
+  pub joined-accepted : feed e a l .outcome ≡ accepted tt → (let o = feed e a l in feed (o .encoder) b (o .bytes)) .outcome ≡ accepted tt → feed e (a ++ b) l .outcome ≡ accepted tt
+  joined-accepted p q =
+      let w = sym (answered e a l) ∙ p in
+      let g = feed-accepted e (length a) (length l) w in
+      let o = feed-open e (length a) (length l) w in
+      let v = sym (answered (half .encoder) b (half .bytes)) ∙ sym (ap (λ (z : Effect). feed (z .encoder) b (z .bytes) .outcome) (accepted-by e a l w)) ∙ q in
+      let r = feed-accepted (half .encoder) (length b) (length (half .bytes)) v .rest in
+      let f = piece-fed a (left e l) in
+      let t = piece-kept a (left e l) .total in
+      let n = length-append a b in
+      let both : Going e 0 (length (a ++ b)) (length l) = record { limits = g .limits; within = g .within; rest = omega arith; count = g .count; size = g .size } in
+      answered e (a ++ b) l ∙ going-accepts e (length (a ++ b)) (length l) (o .1) (o .0) both
+
+  -- Feeding a piece cut in two is feeding its parts in turn.
+  pub feed-cut : feed e (a ++ b) l .outcome ≡ accepted tt → feed e (a ++ b) l ≡ (let o = feed e a l in feed (o .encoder) b (o .bytes))
+  feed-cut ok =
+      let p = parts ok in
+      accepted-by e (a ++ b) l (sym (answered e (a ++ b) l) ∙ ok)
+      ∙ ap (effect (accepted tt)) (foldl-append push (left e l) a b)
+      ∙ sym (ap (λ (v : Effect). feed (v .encoder) b (v .bytes)) (accepted-by e a l (p .0)) ∙ accepted-by (half .encoder) b (half .bytes) (p .1))

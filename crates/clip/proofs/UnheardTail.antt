@@ -9,11 +9,14 @@ use lib.Dec.{eqb}
 use lib.IntN.{ℤ, pos}
 use lib.ListN.{length, take, set, replicate, length-set, length-replicate, drop-of-length-le}
 use lib.Seq.{sets, sets-eq, take-all, take-suc, take-set-le, getD-set-same}
+use Rattle.layout.specs.Fields.{mark}
+use Rattle.frame.specs.declared.EncodedFrame.{EncodedFrame}
 use Rattle.frame.specs.Frame.{encodeFrame, historyAfter}
 use Rattle.whole.specs.Outcome.{Outcome, accepted, refused}
 use Rattle.clip.specs.declared.Encoder.{Encoder}
+use Rattle.clip.specs.Runs.{Call, feeds, closes, seen, callEffect, leftBy, run}
 use Rattle.clip.specs.Unheard.{framed, Alike}
-use Rattle.clip.specs.Encoding.{encoderShape, Left, left, store, moved, noFrame, push, feedAll, finish, valid, feedAnswer, feedBy, feed, closeAnswer, closeBy, close}
+use Rattle.clip.specs.Encoding.{Effect, encoderShape, Left, left, store, moved, noFrame, push, feedAll, finish, valid, feedAnswer, feedBy, feed, closeAnswer, closeBy, close}
 
 -- ---- lists
 
@@ -122,3 +125,66 @@ close-by (refused n) e f l s = refl
 pub close-unheard : (e : Encoder) (f : List ℤ) (l : List ℕ) → Alike (e .fed) (e .frame) f → close e l .bytes ≡ close (framed e f) l .bytes
 unfolding close closeAnswer valid
 close-unheard e f l s = close-by (closeAnswer e (length l)) e f l s
+
+-- ---- lists of calls
+
+-- the same outcome, and again states that differ in such a frame at most
+record CallUnheard (o p : Effect) : Type 0 where
+  outcome : o .outcome ≡ p .outcome
+  left-alike : Unheard (leftBy o) (leftBy p)
+
+feed-call-by : (a : Outcome Unit) (xs : List ℤ) (s t : Left) → Unheard s t → CallUnheard (feedBy a s xs) (feedBy a t xs)
+feed-call-by (accepted a) xs s t u = record { outcome = refl; left-alike = piece-unheard xs s t u }
+feed-call-by (refused n) xs s t u = record { outcome = refl; left-alike = u }
+
+feed-call : (e : Encoder) (l : List ℕ) (f : List ℤ) (xs : List ℤ) → Alike (e .fed) (e .frame) f → CallUnheard (feed e xs l) (feed (framed e f) xs l)
+unfolding feed feedAnswer valid
+feed-call e l f xs s = feed-call-by (feedAnswer e (length xs) (length l)) xs (left e l) (left (framed e f) l) (record { bytes = refl; frames = s; state = refl })
+
+-- the end leaves no sample in the unfinished frame
+end-alike : (e : Encoder) (l : List ℕ) → Unheard (finish (left e l)) (finish (left e l))
+unfolding finish
+end-alike e l = go (eqb (e .fed % 14) 0)
+  where
+    z : EncodedFrame
+    z = encodeFrame (e .history) (sets (e .frame) (e .fed % 14) (replicate (14 - e .fed % 14) (pos 0))) (e .coefficients)
+
+    whole : Left
+    whole = left (moved e (e .fed) (e .history) noFrame (e .passes) true) (sets l 0 mark)
+
+    short : Left
+    short =
+        left (moved e (e .fed) (historyAfter (e .history) (z .samples) (e .fed % 14)) noFrame (e .passes + z .passes) true)
+        (sets (store (encoderShape e) (e .fed / 14) (take (1 + (e .fed % 14 + 1) / 2) (z .bytes)) (e .history) l) 0 mark)
+
+    go : (t : Bool) → Unheard (cond t whole short) (cond t whole short)
+    go true = record { bytes = refl; frames = record { first = refl; second = refl; same = refl }; state = refl }
+    go false = record { bytes = refl; frames = record { first = refl; second = refl; same = refl }; state = refl }
+
+close-call-by : (a : Outcome Unit) (e : Encoder) (l : List ℕ) (f : List ℤ) → Alike (e .fed) (e .frame) f → CallUnheard (closeBy a (left e l)) (closeBy a (left (framed e f) l))
+close-call-by (accepted u) e l f s =
+    record { outcome = refl; left-alike = subst (λ (v : Left). Unheard (finish (left e l)) v) (end-unheard e l f s) (end-alike e l) }
+close-call-by (refused n) e l f s = record { outcome = refl; left-alike = record { bytes = refl; frames = s; state = refl } }
+
+close-call : (e : Encoder) (l : List ℕ) (f : List ℤ) → Alike (e .fed) (e .frame) f → CallUnheard (close e l) (close (framed e f) l)
+unfolding close closeAnswer valid
+close-call e l f s = close-call-by (closeAnswer e (length l)) e l f s
+
+call-unheard : (k : Call) (s t : Left) → Unheard s t → CallUnheard (callEffect s k) (callEffect t k)
+call-unheard (feeds p) s t u =
+    subst (λ (v : Left). CallUnheard (callEffect s (feeds p)) (callEffect v (feeds p))) (same-both s t u) (feed-call (s .encoder) (s .bytes) (t .encoder .frame) p (u .frames))
+call-unheard closes s t u =
+    subst (λ (v : Left). CallUnheard (callEffect s closes) (callEffect v closes)) (same-both s t u) (close-call (s .encoder) (s .bytes) (t .encoder .frame) (u .frames))
+
+calls-unheard : (size : ℕ) (ks : List Call) (s t : Left) → Unheard s t → run size s ks ≡ run size t ks
+unfolding run
+calls-unheard size [] s t u = refl
+calls-unheard size (k ∷ ks) s t u =
+    let c = call-unheard k s t u in
+    let n = ap (λ (e : Encoder). e .passes) (c .left-alike .state) in
+    let r = calls-unheard size ks (leftBy (callEffect s k)) (leftBy (callEffect t k)) (c .left-alike) in
+    λ i. seen (c .outcome i) (n i) (take size (c .left-alike .bytes i)) ∷ r i
+
+-- What stands past the samples fed is never heard: for every list of calls, refused ones included, answers, passes and images are the same.
+pub runs-unheard : (e : Encoder) (f : List ℤ) (l : List ℕ) → Alike (e .fed) (e .frame) f → (size : ℕ) (ks : List Call) → run size (left e l) ks ≡ run size (left (framed e f) l) ks
+runs-unheard e f l s size ks = calls-unheard size ks (left e l) (left (framed e f) l) (record { bytes = refl; frames = s; state = refl })

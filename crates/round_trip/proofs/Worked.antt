@@ -2,7 +2,9 @@
 use mathlib.Core.Path.{_≡_, refl, ap, _∙_}
 use mathlib.Core.Bool.{true}
 use mathlib.Core.List.{List, [], _∷_, _++_}
-use Prim.Native.Nat.{ℕ, _≤_}
+use Prim.Native.Nat.{ℕ, _+_, _-_, _*_, _/_, _≤_, _<_}
+use native.Mathlib.Nat.{le-div-iff-mul-le, div-lt-iff-lt-mul}
+use native.Mathlib.Omega.{arith}
 use borrow.Author.Tests.{le-ltb}
 use lib.IntN.{pos, negsuc}
 use lib.ListN.{length, drop, replicate}
@@ -28,9 +30,21 @@ heard-are : (heard 0x00 0x80 ≡ negsuc 7 ∷ []) × (heard 0x01 0x40 ≡ pos 8 
 unfolding play playFrom takeHeader takeNibble nextSample nibbleAt pushSample withHeader predictor scale decodeSample signedNibble clamp
 heard-are = (refl, refl)
 
-sizes-are : (imageSize (shape 1 8) ≡ 74) × (imageSize (shape 14 8) ≡ 80) × (imageSize (shape 15 8) ≡ 98) × (imageSize (shape 15 16) ≡ 82)
+-- one frame is one block, whatever the block size
+one-block : (b : ℕ) → 8 ≤ b → (8 * 1 + b - 1) / b ≡ 1
+one-block b h =
+    let z : 0 < b = omega arith in
+    let lo : 1 ≤ (8 * 1 + b - 1) / b = le-div-iff-mul-le {x = 1} {y = 8 * 1 + b - 1} z .1 (omega arith) in
+    let hi : (8 * 1 + b - 1) / b < 2 = div-lt-iff-lt-mul {x = 8 * 1 + b - 1} {y = 2} z .1 (omega arith) in
+    omega arith
+
+sizes-any : (b : ℕ) → 8 ≤ b → (imageSize (shape 1 b) ≡ 74) × (imageSize (shape 14 b) ≡ 80)
 unfolding imageSize bodyBytes blockCount lastSamples framesOf
-sizes-are = (refl, refl, refl, refl)
+sizes-any b h = let k = one-block b h in (omega (arith, k), omega (arith, k))
+
+sizes-are : (imageSize (shape 15 8) ≡ 98) × (imageSize (shape 15 16) ≡ 82)
+unfolding imageSize bodyBytes blockCount lastSamples framesOf
+sizes-are = (refl, refl)
 
 started : (l : List ℕ) → 74 ≤ length l → start ofNine l .outcome ≡ accepted tt
 unfolding start startAnswer coefficientsOk pairsOk pairOk imageSize bodyBytes blockCount lastSamples framesOf cutDown
@@ -50,6 +64,7 @@ worked =
       quantising = quotients;
       encoding = frames;
       playing = heard-are;
+      sizes-any = sizes-any;
       sizes = sizes-are;
       image =
           λ l h.

@@ -48,8 +48,9 @@ pub record WorkedNumbers : Type 0 where
   pub encoding : (alone (pos 7) ≡ frame 0x00 0x70 8 (pos 7)) × (alone (pos 8) ≡ frame 0x00 0x70 8 (pos 7)) × (alone (negsuc 8) ≡ frame 0x00 0x80 8 (negsuc 7)) × (alone (pos 9) ≡ frame 0x01 0x40 16 (pos 8))
   -- "(played −8)", "(played 8)"
   pub playing : (heard 0x00 0x80 ≡ negsuc 7 ∷ []) × (heard 0x01 0x40 ≡ pos 8 ∷ [])
-  -- "S: N = 1, 74; N = 14, 80; N = 15, 98 with B = 8, 82 with B = 16"
-  pub sizes : (imageSize (shape 1 8) ≡ 74) × (imageSize (shape 14 8) ≡ 80) × (imageSize (shape 15 8) ≡ 98) × (imageSize (shape 15 16) ≡ 82)
+  -- "S: N = 1, 74; N = 14, 80", with any B of 8 bytes or more; "N = 15, 98 with B = 8, 82 with B = 16"
+  pub sizes-any : (b : ℕ) → 8 ≤ b → (imageSize (shape 1 b) ≡ 74) × (imageSize (shape 14 b) ≡ 80)
+  pub sizes : (imageSize (shape 15 8) ≡ 98) × (imageSize (shape 15 16) ≡ 82)
   -- the image of that sample 9, in any buffer that has room for it; and what is heard of it
   pub image : (l : List ℕ) → 74 ≤ length l → after (leftBy (start ofNine l)) (feeds (pos 9 ∷ []) ∷ closes ∷ []) .bytes ≡ nine ++ drop 74 l
   pub sound : samplesIn nine ≡ pos 8 ∷ []
