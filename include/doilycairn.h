@@ -215,7 +215,7 @@ doilycairn_finished doilycairn_finish(doilycairn_calculator calculator, double *
 doilycairn_frame doilycairn_encode_frame(doilycairn_history history, const int16_t samples[14], const int16_t coefficients[16]);
 
 /*
- * Starts a clip of `total` samples: writes the doilycairn_image_size(total, block_size) bytes of its image, without the mark, contexts and bodies.
+ * Starts a clip of `total` samples: writes the doilycairn_image_size(total, block_size) bytes of its image, with zeros for the mark, contexts and bodies.
  * `image`: at least that many bytes, the same buffer for all calls of a run; bytes after them are never touched.
  * Refused by 4, 5, 6, 7, 8.
  */
@@ -223,7 +223,8 @@ doilycairn_encoding doilycairn_start(uint32_t total, uint32_t rate, uint32_t blo
                                      doilycairn_history history, uint8_t *image, size_t image_len);
 
 /*
- * Feeds a piece, of any length: the next samples of the clip. Each frame that it fills is encoded to its place.
+ * Feeds a piece, of any length: the next samples of the clip. Each frame that it fills is encoded to its place, and a block's first frame fills
+ * its entry's context; no other byte is written.
  * Refused by 1, 8, 9, 10.
  */
 doilycairn_encoding doilycairn_feed(doilycairn_encoder encoder, const int16_t *piece, size_t piece_len, uint8_t *image, size_t image_len);

@@ -33,7 +33,7 @@ pub fn put32(buf: &mut [u8], at: usize, v: u32)
     buf[at + 3] = (v % 256) as u8;
 }
 
-// The bits of a signed number.
+// internal: the bits of a signed number.
 pub fn bits16(x: i16) -> u16
     ensures { λ r. ⌜ r ≡ ofZ w16 x ⌝ }
 {

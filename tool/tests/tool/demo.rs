@@ -53,7 +53,7 @@ fn folder(checker: &str) -> Folder {
     folder.write("crates.txt", CRATES);
     folder.write(
         "docs/PROVING.md",
-        "| crate | seconds |\n|---|---|\n| whole | 3 |\n| coefficients | 82 | 1 |\n",
+        "| crate | seconds |\n|---|---|\n| whole | 3 |\n| float | — |\n| coefficients | 82 | 1 |\n",
     );
     script(&folder, "bin/rt", checker);
     script(&folder, "bin/cargo", BUILDER);
