@@ -45,7 +45,9 @@ struct Shell {
 impl Shell {
     fn start(folder: &Folder) -> Self {
         let mut script = Command::new("script");
-        script.args(["-qfec", "bash --norc --noprofile -i", "/dev/null"]);
+        // A caller in the background may ignore SIGINT, and a shell hands that on.
+        let bash = "env --default-signal=INT bash --norc --noprofile -i";
+        script.args(["-qfec", bash, "/dev/null"]);
         script.env("TERM", "xterm").env_remove("PROMPT_COMMAND");
         script.stdin(Stdio::piped()).stdout(Stdio::piped()).current_dir(&folder.0);
         let mut child = script.spawn().expect("script, of util-linux, is here");
