@@ -9,24 +9,30 @@ CXXFLAGS ?= -O2 -g
 LIB_DIR = target/staticlib
 ARCHIVE = $(LIB_DIR)/libdoilycairn.a
 OUT = target/examples
-EXAMPLES = $(OUT)/encode $(OUT)/play $(OUT)/compare $(OUT)/refusals $(OUT)/round_trip
+EXAMPLES = $(OUT)/encode $(OUT)/play $(OUT)/compare $(OUT)/refusals $(OUT)/undo $(OUT)/floating $(OUT)/round_trip
 WARNINGS = -Wall -Wextra -Wconversion -pedantic
 PC = target/doilycairn.pc
 TOOL = tool/target/release/doilycairn
+PAGES = target/pages
+SHARE = $(DESTDIR)$(PREFIX)/share
+DOCUMENTS = $(wildcard LICENSE docs/FORMAT.md) NOTICE
 CARGO ?= cargo
 
-all: lib
+all: lib ## the library and the examples
 	$(MAKE) examples
 
-# Proves the library and writes the archive; quick where nothing changed.
-lib:
+help: ## this list
+	@echo 'make [TARGET] [PREFIX=/usr/local] [DESTDIR=] [LIB_DIR=$(LIB_DIR)]'
+	@sed -n 's/^\([a-z-]*\):.*## \(.*\)/  \1\t\2/p' Makefile | expand -t 16
+
+lib: ## proves the library and writes the archive; quick where nothing changed
 	rt staticlib doilycairn
 
-examples: $(EXAMPLES)
+examples: $(EXAMPLES) ## the examples in C and C++
 
 $(OUT)/%: examples/%.c examples/support.c examples/support.h include/doilycairn.h $(ARCHIVE)
 	@mkdir -p $(OUT)
-	$(CC) -std=c11 $(WARNINGS) $(CFLAGS) -Iinclude $< examples/support.c $(ARCHIVE) -o $@
+	$(CC) -std=c11 $(WARNINGS) $(CFLAGS) -Iinclude $< examples/support.c $(ARCHIVE) -lm -o $@
 
 $(OUT)/round_trip: examples/round_trip.cpp include/doilycairn.h $(ARCHIVE)
 	@mkdir -p $(OUT)
@@ -35,13 +41,11 @@ $(OUT)/round_trip: examples/round_trip.cpp include/doilycairn.h $(ARCHIVE)
 $(ARCHIVE):
 	@echo 'There is no $(ARCHIVE): run `make lib`, or name its folder with LIB_DIR=.' >&2; exit 1
 
-# The command-line program; proves and writes the archive first where there is none.
-tool:
+tool: ## the command-line program; proves and writes the archive first where there is none
 	@test -f $(ARCHIVE) || $(MAKE) lib
 	DOILYCAIRN_LIB_DIR=$(abspath $(LIB_DIR)) $(CARGO) build --release --offline --manifest-path tool/Cargo.toml --target-dir tool/target
 
-# The examples end to end.
-test: examples
+test: examples ## the examples end to end
 	examples/test.sh $(OUT)
 
 # Written anew each time, since PREFIX may differ.
@@ -49,19 +53,31 @@ $(PC): doilycairn.pc.in FORCE
 	@mkdir -p target
 	sed -e 's|@PREFIX@|$(PREFIX)|' -e 's|@VERSION@|$(VERSION)|' doilycairn.pc.in > $@
 
-install: $(ARCHIVE) $(PC)
-	install -d $(DESTDIR)$(PREFIX)/include $(DESTDIR)$(PREFIX)/lib/pkgconfig
+install: $(ARCHIVE) $(PC) ## header, archive, pkg-config file, licences and format, and the program where it is built
+	install -d $(DESTDIR)$(PREFIX)/include $(DESTDIR)$(PREFIX)/lib/pkgconfig $(SHARE)/doc/doilycairn
 	install -m 644 include/doilycairn.h $(DESTDIR)$(PREFIX)/include
 	install -m 644 $(ARCHIVE) $(DESTDIR)$(PREFIX)/lib
 	install -m 644 $(PC) $(DESTDIR)$(PREFIX)/lib/pkgconfig
+	install -m 644 $(DOCUMENTS) $(SHARE)/doc/doilycairn
 	@if [ -f $(TOOL) ]; then $(MAKE) install-tool; else echo 'The tool is not built, and not installed: run `make tool` first.'; fi
 
-install-tool:
-	install -d $(DESTDIR)$(PREFIX)/bin
-	install -m 755 $(TOOL) $(DESTDIR)$(PREFIX)/bin
+# The manual page and the completions, as the program itself writes them.
+pages:
+	@mkdir -p $(PAGES)
+	$(TOOL) man > $(PAGES)/doilycairn.1
+	for shell in bash zsh fish; do $(TOOL) completions $$shell > $(PAGES)/$$shell || exit 1; done
 
-clean:
-	rm -rf $(OUT) $(PC)
+install-tool: pages ## the program, its manual page and completions alone
+	install -d $(DESTDIR)$(PREFIX)/bin $(SHARE)/man/man1 $(SHARE)/doc/doilycairn
+	install -m 755 $(TOOL) $(DESTDIR)$(PREFIX)/bin
+	install -m 644 $(PAGES)/doilycairn.1 $(SHARE)/man/man1
+	install -D -m 644 $(PAGES)/bash $(SHARE)/bash-completion/completions/doilycairn
+	install -D -m 644 $(PAGES)/zsh $(SHARE)/zsh/site-functions/_doilycairn
+	install -D -m 644 $(PAGES)/fish $(SHARE)/fish/vendor_completions.d/doilycairn.fish
+	install -m 644 $(DOCUMENTS) $(SHARE)/doc/doilycairn
+
+clean: ## removes what was built here, but for the archive and the program
+	rm -rf $(OUT) $(PC) $(PAGES)
 
 FORCE:
-.PHONY: all lib examples tool test install install-tool clean FORCE
+.PHONY: all help lib examples tool test install install-tool pages clean FORCE

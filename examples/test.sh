@@ -56,5 +56,17 @@ expect 2 "$bin/compare" damaged clip
 [ ! -e none ] && [ ! -e cut.raw ] && [ ! -e damaged.raw ]
 
 expect 0 "$bin/refusals"
+# The image that docs/FORMAT.md explains byte by byte.
+expect 0 "$bin/encode" shown 20 15
+shown=445350430000001400007d00000000080890fd83072cffc9$(printf '%048d' 0)0000000000000002
+shown=${shown}0000005800000010001b00000000000000000060000000080016fd08fc480000
+shown=${shown}1b8000000000001016c63120
+if [ "$(od -An -v -tx1 shown | tr -d ' \n')" != "$shown" ]; then
+    echo "failed: the image is not the one in docs/FORMAT.md" >&2
+    exit 1
+fi
+
+expect 0 "$bin/undo"
+expect 0 "$bin/floating"
 expect 0 "$bin/round_trip"
 echo "examples: all as expected"

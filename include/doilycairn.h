@@ -3,17 +3,34 @@
  *
  * Link with libdoilycairn.a (x86-64 Linux), which needs only memcpy and memset of the C library. Works in C11 and C++17.
  *
- * Every call is a pure function of its arguments: no global state, no allocation, no I/O, no strings. Calls may run on any
- * number of threads at once, as long as no buffer that one of them writes is used by another.
+ * Every call is a function of its arguments: no global state, no allocation, no I/O, no strings. One thing is taken as given: the
+ * floating-point environment that a C program starts with, in which results are rounded to the nearest number. After
+ * fesetround(FE_UPWARD), say, records and coefficients come out differently; put FE_TONEAREST back around doilycairn_process
+ * and doilycairn_finish. The other calls use no floating point. Flushing subnormal numbers to zero does not matter for what
+ * doilycairn_process has measured. Calls may run on any number of threads at once, as long as no buffer that one of them
+ * writes is used by another.
  *
- * States go in and out by value. The one that a call was given stays valid: undo is keeping it.
+ * States go in and out by value. The one that a call was given stays valid: undo is keeping it, and going on with the same buffer.
  *
  * Every answer has a `code`: 0 accepted, or the number of the first test that failed (enum doilycairn_code). A refused call
  * writes to no buffer; the rest of its answer is as the call's comment says.
  *
- * Buffers are lent for the length of the call. A length counts elements (samples, numbers or bytes). Pointers are not NULL, also
- * where the length is 0, and are aligned for their type. A buffer that a call writes overlaps no other argument.
- * The library tests lengths and contents, but cannot test that a pointer has that many elements behind it.
+ * A state and its buffer belong together: the store for a doilycairn_calculator, the image for a doilycairn_encoder, each as the calls on
+ * that state left it. No call can test that they do. With another store the coefficients are those of whatever numbers stand
+ * there; each c0 is then within +-4,096 and each c1 within +-2,048, or is -32,768 where a NaN stood in the store. With another image
+ * the frames go to the places that the state's own total, block and fed tell, within the image size of that state, and neither
+ * head nor table is written again: the image may open and play something else, or may not open.
+ *
+ * Code 1 finds a state whose numbers contradict each other, and no more. A state that was forged or altered and passes (another
+ * history, another frame, fewer records or passes, more samples fed) is taken at its word. No call then reads or
+ * writes outside its buffers, and each still answers as its definition says of that state; but what comes out is no clip's, and
+ * closing may leave an image that opens. `closed` is 0 or 1; a state that was read from a file or a network needs that tested
+ * before it is a bool, since any other byte there is undefined behaviour in C and here.
+ *
+ * Buffers are lent for the length of the call. A length counts elements (samples, numbers or bytes). Pointers are not NULL, not even
+ * where the length is 0 (as the data() of an empty std::vector may be), and are aligned for their type. A buffer that a call
+ * writes overlaps no other argument; those that are only read may overlap each other. The library tests lengths and contents, but
+ * cannot test pointers: with NULL, with overlapping buffers or with fewer elements than the length says, the behaviour is undefined.
  */
 #ifndef DOILYCAIRN_H
 #define DOILYCAIRN_H
@@ -43,7 +60,7 @@ extern "C" {
 /* What `code` says. Tests run in the sequence that each call's comment gives. */
 enum doilycairn_code {
     DOILYCAIRN_ACCEPTED = 0,
-    DOILYCAIRN_INVALID_STATE = 1,       /* a state that no run of calls gives */
+    DOILYCAIRN_INVALID_STATE = 1,       /* a state whose numbers no run of calls gives; not every forged state is found, see above */
     DOILYCAIRN_TOO_MANY_SAMPLES = 2,    /* measuring: more than 14,680,064 samples in all */
     DOILYCAIRN_STORE_TOO_SHORT = 3,     /* measuring, coefficients: fewer numbers than doilycairn_store_size says */
     DOILYCAIRN_BAD_SAMPLE_COUNT = 4,    /* starting: 0 samples, or above 14,680,064 */
@@ -89,7 +106,7 @@ typedef struct {
     doilycairn_history history;
     int16_t frame[14]; /* the frame that is not yet full */
     uint32_t passes;   /* of the scale search, over all frames so far */
-    bool closed;
+    bool closed;       /* 0 or 1, no other byte */
 } doilycairn_encoder;
 
 /* What playing carries from frame to frame. */
@@ -176,7 +193,9 @@ uint64_t doilycairn_image_size(uint32_t total, uint32_t block_size);
 doilycairn_calculator doilycairn_new(void);
 
 /*
- * Measures a piece, of any length: the next samples of the clip. Writes a record for each frame that the piece fills, unless the frame is nearly silent.
+ * Measures a piece, of any length: the next samples of the clip. Writes a record for each frame that the piece fills and that has one. A frame
+ * has none where the sum of its squares is 10 or less, where its samples and the two before it do not tell the two taps of a predictor apart (one
+ * steady level, say), and where the predictor that fits best is unstable.
  * `records`: the store, the same for all calls of a run, with at least doilycairn_store_size(samples so far, the piece counted) numbers.
  * Refused by 1, 2, 3.
  */
@@ -196,7 +215,7 @@ doilycairn_finished doilycairn_finish(doilycairn_calculator calculator, double *
 doilycairn_frame doilycairn_encode_frame(doilycairn_history history, const int16_t samples[14], const int16_t coefficients[16]);
 
 /*
- * Starts a clip of `total` samples: writes the doilycairn_image_size(total, block_size) bytes of its image, without the mark, contexts and bodies.
+ * Starts a clip of `total` samples: writes the doilycairn_image_size(total, block_size) bytes of its image, with zeros for the mark, contexts and bodies.
  * `image`: at least that many bytes, the same buffer for all calls of a run; bytes after them are never touched.
  * Refused by 4, 5, 6, 7, 8.
  */
@@ -204,7 +223,8 @@ doilycairn_encoding doilycairn_start(uint32_t total, uint32_t rate, uint32_t blo
                                      doilycairn_history history, uint8_t *image, size_t image_len);
 
 /*
- * Feeds a piece, of any length: the next samples of the clip. Each frame that it fills is encoded to its place.
+ * Feeds a piece, of any length: the next samples of the clip. Each frame that it fills is encoded to its place, and a block's first frame fills
+ * its entry's context; no other byte is written.
  * Refused by 1, 8, 9, 10.
  */
 doilycairn_encoding doilycairn_feed(doilycairn_encoder encoder, const int16_t *piece, size_t piece_len, uint8_t *image, size_t image_len);
@@ -244,7 +264,10 @@ doilycairn_playback doilycairn_play(const uint8_t *image, size_t image_len, uint
  */
 doilycairn_playback doilycairn_play_all(const uint8_t *image, size_t image_len, int16_t *out, size_t out_len);
 
-/* Whether two images have equally many samples and play the same ones. Refused by 15, 16, 13 of the first, then of the second. */
+/*
+ * Whether two images have equally many samples and play the same ones. Rate and gain do not count, nor do coefficients, block size and the
+ * bytes: compare the heads too where these matter. Refused by 15, 16, 13 of the first, then of the second.
+ */
 doilycairn_comparison doilycairn_same(const uint8_t *first, size_t first_len, const uint8_t *second, size_t second_len);
 
 /* ---- Blocks without an image ---- */

@@ -4,7 +4,7 @@
 use std::path::{Path, PathBuf};
 use std::{env, fs};
 
-/// The files that are copied, from `unplug/src` of the folder that UNPLUG_SRC names.
+/// The files that are copied, from `unplug/src` of the copy of unplug that UNPLUG_SRC names.
 const COPIED: [&str; 9] = [
     "audio/cue.rs",
     "audio/format.rs",
@@ -44,10 +44,21 @@ fn folder(name: &str) -> PathBuf {
     PathBuf::from(env::var_os(name).unwrap())
 }
 
-/// The folder with the Rust files; a relative path counts from the repository's root.
+/// The copy of unplug that UNPLUG_SRC names; a relative path counts from the repository's root.
 fn unplug_src(package: &Path) -> PathBuf {
-    let given = env::var_os("UNPLUG_SRC").filter(|name| !name.is_empty());
-    package.join("../..").join(given.unwrap_or("../shared/docs/src".into()))
+    match env::var_os("UNPLUG_SRC").filter(|name| !name.is_empty()) {
+        Some(given) => package.join("../..").join(given),
+        None => missing("UNPLUG_SRC is not set"),
+    }
+}
+
+/// Ends the build with what is missing and what to do.
+fn missing(what: &str) -> ! {
+    eprintln!("error: {what}");
+    eprintln!("This package compares with the Rust codec of https://github.com/adierking/unplug.");
+    eprintln!("Set UNPLUG_SRC to the folder of a copy of that repository at commit f6268d160b,");
+    eprintln!("the one that holds unplug/src. compare/README.md says which files are read.");
+    std::process::exit(1)
 }
 
 /// Copies the files named, byte for byte.
@@ -55,12 +66,8 @@ fn copy(names: &[&str], from: &Path, to: &Path) {
     for name in names {
         let (source, place) = (from.join(name), to.join(name));
         println!("cargo::rerun-if-changed={}", source.display());
-        let bytes = fs::read(&source).unwrap_or_else(|error| {
-            panic!(
-                "{}: {error} (UNPLUG_SRC names the folder that holds unplug/src)",
-                source.display()
-            )
-        });
+        let bytes = fs::read(&source)
+            .unwrap_or_else(|error| missing(&format!("{}: {error}", source.display())));
         fs::create_dir_all(place.parent().unwrap()).unwrap();
         fs::write(place, bytes).unwrap();
     }

@@ -68,7 +68,7 @@ pub struct EncoderState {
 }
 
 impl EncoderState {
-    /// Starts a clip: writes its image, without the mark, contexts and bodies. Bytes after the image are never touched.
+    /// Starts a clip: writes its image, with zeros for the mark, contexts and bodies. Bytes after the image are never touched.
     pub fn start(start: &Start, image: &mut [u8]) -> Result<Self, Refusal> {
         Self::answer(ffi::start(start, image))
     }

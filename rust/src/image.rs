@@ -62,6 +62,8 @@ impl<'a> Image<'a> {
     }
 
     /// Block `k`, from 0 on.
+    ///
+    /// Each call tests the whole head and table again, all K entries: for every block in turn use [`blocks`](Self::blocks), which does not.
     pub fn block(&self, k: u32) -> Result<Block<'a>, Refusal> {
         let body = ffi::block_body(self.bytes, k);
         Refusal::check(body.code)?;
@@ -77,6 +79,9 @@ impl<'a> Image<'a> {
     }
 
     /// Plays block `k` from its own context.
+    ///
+    /// Each call tests the whole head and table again, all K entries: for every block in turn use [`play`](Self::play), or [`Block::play`]
+    /// of each of [`blocks`](Self::blocks).
     pub fn play_block(&self, k: u32, out: &mut [i16]) -> Result<Played, Refusal> {
         Played::answer(ffi::play(self.bytes, k, out))
     }
@@ -98,7 +103,7 @@ impl<'a> Image<'a> {
         Ok(out)
     }
 
-    /// Whether the other image has equally many samples and plays the same ones.
+    /// Whether the other image has equally many samples and plays the same ones. Rate and gain do not count.
     pub fn same(&self, other: &Image) -> Result<bool, Refusal> {
         same(self.bytes, other.bytes)
     }
@@ -126,7 +131,7 @@ impl<'a> Image<'a> {
     }
 }
 
-/// Whether two images have equally many samples and play the same ones, whatever their bytes.
+/// Whether two images have equally many samples and play the same ones, whatever their bytes. Rate, gain, coefficients and block size do not count.
 pub fn same(first: &[u8], second: &[u8]) -> Result<bool, Refusal> {
     let comparison = ffi::same(first, second);
     Refusal::check(comparison.code)?;

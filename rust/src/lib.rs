@@ -25,9 +25,22 @@
 //! # Ok::<(), doilycairn::Refusal>(())
 //! ```
 //!
-//! Every call is a pure function of its arguments; there is no global state, and all types are `Send` and `Sync`. A refused call
+//! Every call is a function of its arguments; there is no global state, and all types are `Send` and `Sync`. A refused call
 //! gives a [`Refusal`] and alters neither state nor buffer. States ([`Calculator`], [`EncoderState`]) are plain values: undo is keeping the
-//! older one. What the library's calls do is proved; this crate passes them slices with their lengths and turns codes into [`Refusal`]s.
+//! older one, and going on with the same buffer. What the library's calls do is proved; this crate passes them slices with their lengths and
+//! turns codes into [`Refusal`]s.
+//!
+//! # What a state goes with
+//!
+//! A state belongs to the store or image that it was measured or fed with. No call can test that, nor that a state was not altered in a way that its
+//! numbers do not show: [`Refusal::InvalidState`] finds numbers that contradict each other, and no more. With another buffer, or with an altered state that
+//! passes, every call is still safe and does what its definition says of what it was given, but what comes out is no clip's.
+//!
+//! # The floating-point environment
+//!
+//! Measuring rounds to the nearest number, as Rust programs do unless foreign code has set another rounding (`fesetround` of C). Then records and
+//! coefficients come out differently. Rust itself takes the default environment as given. The other calls use no floating point. Flushing subnormal
+//! numbers to zero does not matter for what [`Calculator::process`] has measured.
 //!
 //! # Linking
 //!

@@ -130,22 +130,25 @@ impl<S: Store> Measure<S> {
         self.calculator
     }
 
-    /// Measures the next piece, of any length.
+    /// Measures the next piece, of any length. A refused call leaves the store as it was, its length too.
     pub fn process(&mut self, piece: &[i16]) -> Result<(), Refusal> {
-        let store = self.store.lend(wanted(self.calculator.samples, piece.len()));
+        let store = self.store.lend(wanted(self.calculator, piece.len()));
         self.calculator = self.calculator.process(piece, store)?;
         Ok(())
     }
 
     /// The coefficients of all that was measured so far. Measuring can go on after it.
     pub fn coefficients(&mut self) -> Result<Coefficients, Refusal> {
-        self.calculator.finish(self.store.lend(wanted(self.calculator.samples, 0)))
+        self.calculator.finish(self.store.lend(wanted(self.calculator, 0)))
     }
 }
 
-/// The numbers that a store needs after `more` samples; none where so many are refused.
-fn wanted(samples: u32, more: usize) -> usize {
-    match u32::try_from(more).ok().and_then(|more| samples.checked_add(more)) {
+/// The numbers that a store needs after `more` samples; none where the call is refused whatever the store.
+fn wanted(calculator: Calculator, more: usize) -> usize {
+    if calculator.process(&[], &mut []) == Err(Refusal::InvalidState) {
+        return 0;
+    }
+    match u32::try_from(more).ok().and_then(|more| calculator.samples.checked_add(more)) {
         Some(all) if all <= MAX_SAMPLES => store_size(all),
         _ => 0,
     }

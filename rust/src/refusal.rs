@@ -8,7 +8,7 @@ use std::fmt;
 #[non_exhaustive]
 #[repr(u32)]
 pub enum Refusal {
-    /// A state that no run of calls gives.
+    /// A state whose numbers no run of calls gives. Not every altered state is found.
     InvalidState = 1,
     /// Measuring: more than [`MAX_SAMPLES`](crate::MAX_SAMPLES) samples in all.
     TooManySamples = 2,

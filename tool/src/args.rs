@@ -1,38 +1,12 @@
 //! The words of a command line: options and operands.
 
 use crate::failure::Failure;
-use crate::text::shown;
+use crate::options::{COMMON, Opt};
+use crate::suggest::nearest;
+use crate::text::{count, shown};
 use std::ffi::{OsStr, OsString};
 use std::ops::RangeInclusive;
 use std::os::unix::ffi::OsStrExt;
-
-/// An option that a command knows.
-#[derive(Clone, Copy)]
-pub struct Opt {
-    /// With its two dashes.
-    pub name: &'static str,
-    /// Its short form, with one dash.
-    pub short: &'static str,
-    /// Whether a value follows, as the next word or after `=`.
-    pub value: bool,
-}
-
-/// An option without a value.
-pub const fn flag(name: &'static str) -> Opt {
-    Opt { name, short: "", value: false }
-}
-
-/// An option with a value.
-pub const fn value(name: &'static str) -> Opt {
-    Opt { name, short: "", value: true }
-}
-
-/// The options of every command.
-pub const COMMON: [Opt; 3] = [
-    Opt { name: "--quiet", short: "-q", value: false },
-    Opt { name: "--help", short: "-h", value: false },
-    flag("--json"),
-];
 
 /// What was given.
 #[derive(Debug, Default)]
@@ -66,9 +40,9 @@ impl Args {
         let (name, joined) = split(word);
         let known = |opt: &&Opt| name == opt.name.as_bytes() || name == opt.short.as_bytes();
         let Some(opt) = options.iter().chain(&COMMON).find(known) else {
-            return Err(Failure::usage(format!("unknown option '{}'", shown(word))));
+            return Err(unknown(word, options.iter().chain(&COMMON)));
         };
-        let value = match (opt.value, joined) {
+        let value = match (opt.value.is_some(), joined) {
             (false, None) => OsString::new(),
             (false, Some(_)) => {
                 return Err(Failure::usage(format!("{} takes no value", opt.name)));
@@ -79,7 +53,7 @@ impl Args {
                 .cloned()
                 .ok_or_else(|| Failure::usage(format!("{} lacks its value", opt.name)))?,
         };
-        if opt.value && self.value(opt.name).is_some() {
+        if opt.value.is_some() && self.value(opt.name).is_some() {
             return Err(Failure::usage(format!("{} is given twice", opt.name)));
         }
         self.given.push((opt.name, value));
@@ -104,9 +78,17 @@ impl Args {
             None => Err(Failure::usage(format!(
                 "{name}: '{}' is not a number from {} to {}",
                 shown(value),
-                range.start(),
-                range.end()
+                count(*range.start()),
+                count(*range.end())
             ))),
+        }
+    }
+
+    /// At least one operand.
+    pub fn expect_some(&self, name: &str) -> Result<(), Failure> {
+        match self.operands.is_empty() {
+            true => Err(Failure::usage(format!("{name} is missing"))),
+            false => Ok(()),
         }
     }
 
@@ -122,8 +104,18 @@ impl Args {
     }
 }
 
+/// An option that is none, and what it may have meant.
+pub fn unknown<'a>(word: &OsStr, known: impl Iterator<Item = &'a Opt>) -> Failure {
+    let failure = Failure::usage(format!("unknown option '{}'", shown(word)));
+    let name = String::from_utf8_lossy(split(word).0).into_owned();
+    match nearest(&name, known.map(|opt| opt.name)) {
+        Some(meant) => failure.with(format!("; did you mean '{meant}'?")),
+        None => failure,
+    }
+}
+
 /// An option's name, and what stands after `=`.
-fn split(word: &OsStr) -> (&[u8], Option<&OsStr>) {
+pub fn split(word: &OsStr) -> (&[u8], Option<&OsStr>) {
     let bytes = word.as_bytes();
     match bytes.iter().position(|&byte| byte == b'=') {
         Some(at) if bytes.starts_with(b"--") => {
@@ -148,8 +140,9 @@ fn number(text: &str) -> Option<u64> {
 #[cfg(test)]
 mod tests {
     use super::*;
+    use crate::options::{flag, value};
 
-    const OPTIONS: [Opt; 2] = [flag("--raw"), value("--rate")];
+    const OPTIONS: [Opt; 2] = [flag("--raw", "no head"), value("--rate", "HZ", "a rate")];
 
     fn parse(words: &[&str]) -> Result<Args, Failure> {
         let words: Vec<OsString> = words.iter().map(Into::into).collect();
@@ -171,6 +164,8 @@ mod tests {
     fn what_is_wrong_is_said() {
         let message = |words: &[&str]| parse(words).unwrap_err().message;
         assert_eq!(message(&["--what"]), "unknown option '--what'");
+        let wrong = "unknown option '--rat=5'; did you mean '--rate'?";
+        assert_eq!(message(&["--rat=5"]), wrong);
         assert_eq!(message(&["--raw=1"]), "--raw takes no value");
         assert_eq!(message(&["--rate"]), "--rate lacks its value");
         assert_eq!(message(&["--rate", "1", "--rate", "2"]), "--rate is given twice");

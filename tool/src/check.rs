@@ -1,16 +1,18 @@
 //! `check`: whether an image opens and plays, and else what is wrong.
 
 use crate::args::Args;
-use crate::command::Command;
+use crate::command::{Command, Many};
 use crate::console::{Console, Words};
-use crate::decode::plays;
 use crate::failure::{Failure, Status};
+use crate::files::{self, Job};
 use crate::findings::{Finding, findings};
-use crate::input::ImageFile;
+use crate::input::{ImageFile, NO_DSP, is_dsp};
 use crate::json::{Json, path_fields};
-use crate::text::{count, counted};
+use crate::options::{JOBS, flag};
+use crate::paint::{Colour, Paint, Stream};
+use crate::seams::{self, Seam};
+use crate::text::{clip_length, count, counted};
 use doilycairn::{Head, Image, Refusal};
-use std::ffi::OsStr;
 use std::io::{self, Write};
 
 /// Findings that are told in words.
@@ -19,57 +21,75 @@ const TOLD: usize = 10;
 pub const COMMAND: Command = Command {
     name: "check",
     operands: &["IN.dspc"],
-    options: &[],
-    help: include_str!("help/check.txt"),
+    many: Many::Inputs,
+    summary: "whether an image is sound, and else what is wrong",
+    about: "Opens and plays the image, or says by number and in words what is wrong, and which bytes look so. Of an image that \
+        plays it also says at which edges of blocks a click may be heard: where a block's stored history is not what the block before \
+        it leaves.",
+    options: &[flag("--strict", "exit status 1 where a click may be heard, too"), JOBS],
+    notes: "Exit status 0: it opens and plays. 1: it does not, or with --strict it has a click.",
     run,
 };
 
 fn run(args: &Args, console: &Console) -> Result<Status, Failure> {
-    let input = args.operands[0].as_os_str();
-    let file = ImageFile::read(input)?;
+    files::inputs(args, console, |job, console| one(args, job, console))
+}
+
+fn one(args: &Args, job: &Job, console: &Console) -> Result<Status, Failure> {
+    let file = ImageFile::read(job.input)?;
     match tested(&file.bytes) {
-        Ok((head, after)) => sound(input, &file.name, &head, after, console),
+        Ok((head, seams)) => sound(job, &file, &head, &seams, args.has("--strict"), console),
         Err(refusal) => {
             let found = all_findings(&file.bytes, refusal);
-            damaged(input, &file.name, refusal, &found, console)
+            damaged(job, &file, refusal, &found, console)
         }
     }
 }
 
-/// Says that it opens and plays.
+/// Says that it opens and plays, and where it may click.
 fn sound(
-    input: &OsStr,
-    name: &str,
+    job: &Job,
+    file: &ImageFile,
     head: &Head,
-    after: usize,
+    seams: &[Seam],
+    strict: bool,
     console: &Console,
 ) -> Result<Status, Failure> {
-    let mut fields = path_fields("input", "input_hex", input);
+    let size = doilycairn::image_size(head.total, head.block).unwrap_or(file.bytes.len());
+    let after = file.after(size);
+    let mut fields = path_fields("input", "input_hex", job.input);
     fields.extend([
         ("sound", Json::Bool(true)),
         ("refusal", Json::Null),
         ("bytes_after", Json::Whole(after as i64)),
+        ("clicks", Json::list(seams.iter().map(Seam::json))),
     ]);
-    console.answer(Status::Done, fields, Words::Status, |out| {
-        let samples = counted(head.total, "sample", "samples");
+    let status = if strict && !seams.is_empty() { Status::No } else { Status::Done };
+    console.answer(status, fields, Words::Status, |out| {
+        let paint = Paint::of(Stream::Out);
+        let clip = clip_length(head.total, head.rate);
         let blocks = counted(head.blocks, "block", "blocks");
-        writeln!(out, "{name}: opens and plays: {samples} in {blocks}")?;
+        let good = paint.text(Colour::Good, "opens and plays");
+        writeln!(out, "{}: {good}: {clip} in {blocks}", file.name)?;
+        if let Some(words) = seams::words(seams, head.blocks) {
+            writeln!(out, "  {}: {words}", paint.text(Colour::Warning, "clicks"))?;
+        }
         match after {
             0 => Ok(()),
-            _ => writeln!(out, "  {} after the image", counted(after as u64, "byte", "bytes")),
+            _ => writeln!(out, "  {} after the image", counted(after, "byte", "bytes")),
         }
     })
 }
 
 /// Says what is wrong.
 fn damaged(
-    input: &OsStr,
-    name: &str,
+    job: &Job,
+    file: &ImageFile,
     refusal: Refusal,
     found: &[Finding],
     console: &Console,
 ) -> Result<Status, Failure> {
-    let mut fields = path_fields("input", "input_hex", input);
+    let mut fields = path_fields("input", "input_hex", job.input);
     fields.extend([
         ("sound", Json::Bool(false)),
         ("refusal", Json::Whole(refusal.number().into())),
@@ -77,18 +97,19 @@ fn damaged(
         ("findings", Json::list(found.iter().map(finding_json))),
     ]);
     console.answer(Status::No, fields, Words::Status, |out| {
-        writeln!(out, "{name}: {refusal}")?;
+        let words = Paint::of(Stream::Out).text(Colour::Bad, &refusal.to_string());
+        writeln!(out, "{}: {words}", file.name)?;
+        if is_dsp(job.input) {
+            writeln!(out, "  {NO_DSP}")?;
+        }
         tell(found, out)
     })
 }
 
-/// Opens and plays: the head, and the count of bytes after the image.
-fn tested(bytes: &[u8]) -> Result<(Head, usize), Refusal> {
+/// Opens and plays: the head, and the seams that are off.
+fn tested(bytes: &[u8]) -> Result<(Head, Vec<Seam>), Refusal> {
     let image = Image::open(bytes)?;
-    plays(&image)?;
-    let head = *image.head();
-    let size = doilycairn::image_size(head.total, head.block).unwrap_or(bytes.len());
-    Ok((head, bytes.len() - size))
+    Ok((*image.head(), seams::seams(&image)?))
 }
 
 /// What looks wrong in the head or the table, or the pair that cannot be played.

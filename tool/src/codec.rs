@@ -2,6 +2,7 @@
 
 use crate::console::Console;
 use crate::failure::Failure;
+use crate::memory;
 use crate::progress::Progress;
 use crate::text::count;
 use doilycairn::{Coefficients, Encoder, History, Measure, Refusal, Start};
@@ -33,36 +34,33 @@ pub fn encode(
     let total = u32::try_from(clip.len()).unwrap_or(u32::MAX);
     let Wanted { rate, block_size, gain, history, .. } = *wanted;
     let coefficients = wanted.coefficients.unwrap_or_default();
-    let start = Start { total, rate, block_size, gain, coefficients, history };
-    run(clip, start, wanted.coefficients.is_none(), console)
-        .map_err(|refusal| refused(name, refusal, &start))
-}
-
-fn run(
-    clip: &[i16],
-    mut start: Start,
-    measured: bool,
-    console: &Console,
-) -> Result<Encoder, Refusal> {
-    if measured {
+    let mut start = Start { total, rate, block_size, gain, coefficients, history };
+    if wanted.coefficients.is_none() {
         // What would be refused after measuring is refused before it.
-        Encoder::start(&start)?;
-        start.coefficients = measure(clip, console)?;
+        started(name, &start)?;
+        start.coefficients = measure(name, clip, console)?;
     }
-    let mut encoder = Encoder::start(&start)?;
-    feed(&mut encoder, clip, console)?;
+    let mut encoder = started(name, &start)?;
+    feed(&mut encoder, clip, console).map_err(|refusal| refused(name, refusal, &start))?;
     Ok(encoder)
 }
 
-fn measure(clip: &[i16], console: &Console) -> Result<Coefficients, Refusal> {
+fn started(name: &str, start: &Start) -> Result<Encoder, Failure> {
+    let image = memory::zeros(start.image_size().unwrap_or(0))?;
+    Encoder::start_in(start, image).map_err(|refusal| refused(name, refusal, start))
+}
+
+fn measure(name: &str, clip: &[i16], console: &Console) -> Result<Coefficients, Failure> {
+    let refused = |refusal| Failure::refused(name, refusal);
     let mut progress = Progress::new(console, "measuring", clip.len());
-    let mut measure = Measure::new();
+    let mut store = memory::zeros(doilycairn::store_size(clip.len() as u32))?;
+    let mut measure = Measure::with_store(&mut store[..]);
     for (i, piece) in clip.chunks(PIECE).enumerate() {
-        measure.process(piece)?;
+        measure.process(piece).map_err(refused)?;
         progress.at(i * PIECE + piece.len());
     }
     progress.last_step("choosing coefficients");
-    measure.coefficients()
+    measure.coefficients().map_err(refused)
 }
 
 fn feed(encoder: &mut Encoder, clip: &[i16], console: &Console) -> Result<(), Refusal> {
@@ -79,7 +77,6 @@ fn refused(name: &str, refusal: Refusal, start: &Start) -> Failure {
     let failure = Failure::refused(name, refusal);
     match refusal {
         Refusal::BadSampleCount => failure.with(format!("; it has {}", count(start.total))),
-        Refusal::BadBlockSize => failure.with(format!("; --block-size is {}", start.block_size)),
         Refusal::CoefficientOutside => failure.with(outside(&start.coefficients)),
         _ => failure,
     }
@@ -91,7 +88,8 @@ fn outside(coefficients: &Coefficients) -> String {
         !(-4096..=4096).contains(&c0) || !(-2048..=2048).contains(&c1)
     };
     let words = |(pair, (c0, c1))| {
-        format!("; pair {pair} is {c0}, {c1}, and the limits are ±4,096 and ±2,048")
+        let (c0, c1) = (count(c0), count(c1));
+        format!("; pair {pair} is {c0} and {c1}, and the limits are ±4,096 and ±2,048")
     };
     coefficients.pairs().into_iter().enumerate().find(is_out).map(words).unwrap_or_default()
 }

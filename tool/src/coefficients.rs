@@ -23,7 +23,7 @@ fn parse(text: &str) -> Result<Coefficients, String> {
         for word in line.split(is_gap).filter(|word| !word.is_empty()) {
             let number = word.parse::<i16>().map_err(|_| {
                 let shown: String = word.chars().take(20).flat_map(char::escape_debug).collect();
-                format!("line {}: '{shown}' is not a number from -32768 to 32767", i + 1)
+                format!("line {}: '{shown}' is not a number from -32,768 to 32,767", i + 1)
             })?;
             numbers.push(number);
         }
@@ -51,7 +51,7 @@ mod tests {
         assert_eq!(parse("1 2 3"), Err("3 coefficients; sixteen are needed".into()));
         assert_eq!(parse(""), Err("0 coefficients; sixteen are needed".into()));
         let wrong = parse("1 2\n3 4x\n").unwrap_err();
-        assert_eq!(wrong, "line 2: '4x' is not a number from -32768 to 32767");
+        assert_eq!(wrong, "line 2: '4x' is not a number from -32,768 to 32,767");
         assert!(parse("40000").is_err());
         assert!(parse(&"1 ".repeat(17)).is_err());
     }

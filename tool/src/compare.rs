@@ -1,19 +1,22 @@
 //! `same`: whether two images sound the same.
 
 use crate::args::Args;
-use crate::command::Command;
+use crate::command::{Command, Many};
 use crate::console::{Console, Words};
 use crate::failure::{Failure, Status};
 use crate::input::{ImageFile, one_standard_input};
 use crate::json::{Json, path_fields};
-use crate::text::{count, counted};
+use crate::text::{clip_length, count};
 use doilycairn::{Image, Refusal};
 
 pub const COMMAND: Command = Command {
     name: "same",
     operands: &["A.dspc", "B.dspc"],
+    many: Many::No,
+    summary: "whether two images sound the same",
+    about: "Compares what two images play: as many samples, and the same ones. Block sizes, gain and rate may differ.",
     options: &[],
-    help: include_str!("help/same.txt"),
+    notes: "Exit status 0: the same. 1: different.",
     run,
 };
 
@@ -43,17 +46,9 @@ fn run(args: &Args, console: &Console) -> Result<Status, Failure> {
     ]);
     let status = if same { Status::Done } else { Status::No };
     console.answer(status, fields, Words::Status, |out| match &difference {
-        None if same => writeln!(out, "the same: {}", counted(totals[0], "sample", "samples")),
+        None if same => writeln!(out, "the same: {}", clip_length(totals[0], first.head().rate)),
         None => writeln!(out, "different: {} and {} samples", count(totals[0]), count(totals[1])),
-        Some(d) => writeln!(
-            out,
-            "different: {} of {} samples; the first is sample {}, {} and {}",
-            count(d.count),
-            count(totals[0]),
-            count(d.first as u64),
-            d.values[0],
-            d.values[1]
-        ),
+        Some(difference) => writeln!(out, "different: {}", difference.words(totals[0])),
     })
 }
 
@@ -65,6 +60,16 @@ struct Difference {
 }
 
 impl Difference {
+    fn words(&self, total: u32) -> String {
+        let [first, second] = self.values.map(count);
+        format!(
+            "{} of {} samples; the first is sample {}, {first} and {second}",
+            count(self.count),
+            count(total),
+            count(self.first as u64)
+        )
+    }
+
     fn json(&self) -> Json<'static> {
         Json::Object(vec![
             ("samples", Json::Whole(self.count as i64)),

@@ -1,9 +1,13 @@
 //! What a command says: words on standard output or standard error, or one JSON object.
 
 use crate::failure::{Failure, Status};
-use crate::json::{Fields, Json};
+use crate::json::{Fields, Json, path_fields};
+use crate::lines::Lines;
+use crate::paint::{Colour, Paint, Stream, knows_escapes};
+use crate::progress;
 use std::cell::RefCell;
-use std::io::{self, BufWriter, IsTerminal, Write};
+use std::ffi::{OsStr, OsString};
+use std::io::{self, BufWriter, Write};
 
 /// Where the words of an answer go.
 #[derive(Clone, Copy, PartialEq, Eq)]
@@ -16,22 +20,40 @@ pub enum Words {
     Summary,
 }
 
+/// What was said, and where it goes.
+pub type Said = Vec<(Stream, Vec<u8>)>;
+
 /// How to speak.
 pub struct Console {
     pub command: &'static str,
     pub quiet: bool,
     pub json: bool,
     notes: RefCell<Vec<String>>,
+    /// Kept to be written later, where several files are worked on at once; and the file.
+    kept: Option<RefCell<Said>>,
+    input: Option<OsString>,
 }
 
 impl Console {
     pub fn new(command: &'static str, quiet: bool, json: bool) -> Self {
-        Self { command, quiet, json, notes: RefCell::default() }
+        Self { command, quiet, json, notes: RefCell::default(), kept: None, input: None }
+    }
+
+    /// The same, for one of many files: what it says is kept.
+    pub fn for_one(command: &'static str, quiet: bool, json: bool, input: &OsStr) -> Self {
+        let kept = Some(RefCell::default());
+        Self { kept, input: Some(input.into()), ..Self::new(command, quiet, json) }
+    }
+
+    /// What was kept.
+    pub fn said(self) -> Said {
+        self.kept.map(RefCell::into_inner).unwrap_or_default()
     }
 
     /// Whether to show progress.
     pub fn shows_progress(&self) -> bool {
-        !self.quiet && !self.json && io::stderr().is_terminal()
+        let shows = !self.quiet && !self.json && self.kept.is_none();
+        shows && Stream::Err.is_terminal() && knows_escapes()
     }
 
     /// Says something that is no failure.
@@ -39,7 +61,8 @@ impl Console {
         if self.json {
             self.notes.borrow_mut().push(note);
         } else if !self.quiet {
-            let _ = writeln!(io::stderr(), "doilycairn: note: {note}");
+            let word = Paint::of(Stream::Err).text(Colour::Warning, "note:");
+            let _ = self.say(Stream::Err, format!("doilycairn: {word} {note}\n").into_bytes());
         }
     }
 
@@ -52,11 +75,12 @@ impl Console {
         words: impl FnOnce(&mut dyn Write) -> io::Result<()>,
     ) -> Result<Status, Failure> {
         if self.json {
-            standard_output(|out| self.object(status, fields).write_line(out))?;
+            self.lines(|out| self.object(status, fields).write_line(out))?;
         } else if place == Words::Asked || (place == Words::Status && !self.quiet) {
-            standard_output(words)?;
+            self.lines(words)?;
         } else if !self.quiet {
-            let _ = words(&mut io::stderr().lock());
+            let mut text = vec![];
+            let _ = words(&mut text).and_then(|()| self.say(Stream::Err, text));
         }
         Ok(status)
     }
@@ -69,12 +93,35 @@ impl Console {
             ("message", Json::text(&failure.message)),
         ]);
         let told = self.json && {
-            let object = self.object(failure.status, vec![("error", error)]);
-            standard_output(|out| object.write_line(out)).is_ok()
+            let input = self.input.as_deref().map(|input| path_fields("input", "input_hex", input));
+            let fields = input.into_iter().flatten().chain([("error", error)]).collect();
+            let object = self.object(failure.status, fields);
+            self.lines(|out| object.write_line(out)).is_ok()
         };
         if !told && !failure.silent {
-            let _ = writeln!(io::stderr(), "doilycairn: {}", failure.message);
+            let word = Paint::of(Stream::Err).text(Colour::Bad, "doilycairn:");
+            let line = format!("{word} {}\n", failure.message);
+            let _ = self.say(Stream::Err, line.into_bytes());
         }
+    }
+
+    /// Writes lines to standard output.
+    fn lines(&self, words: impl FnOnce(&mut dyn Write) -> io::Result<()>) -> Result<(), Failure> {
+        if self.kept.is_none() {
+            return standard_output(words);
+        }
+        let mut text = vec![];
+        let written = words(&mut text).and_then(|()| self.say(Stream::Out, text));
+        written.map_err(|error| Failure::io("write", "standard output", &error))
+    }
+
+    /// Says it in one write, or keeps it.
+    fn say(&self, stream: Stream, text: Vec<u8>) -> io::Result<()> {
+        match &self.kept {
+            Some(kept) => kept.borrow_mut().push((stream, text)),
+            None => write(stream, &text)?,
+        }
+        Ok(())
     }
 
     /// The object: command and status, the fields, the notes.
@@ -89,12 +136,36 @@ impl Console {
     }
 }
 
-/// Writes to standard output, to its end.
+/// Writes at once what was said, where no progress is shown.
+pub fn write(stream: Stream, text: &[u8]) -> io::Result<()> {
+    progress::clear();
+    match stream {
+        Stream::Err => io::stderr().write_all(text),
+        Stream::Out => {
+            let mut out = Lines::new(io::stdout().lock());
+            out.write_all(text)?;
+            out.flush()
+        }
+    }
+}
+
+/// Writes lines to standard output, to its end.
 pub fn standard_output(
     words: impl FnOnce(&mut dyn Write) -> io::Result<()>,
 ) -> Result<(), Failure> {
-    let mut out = BufWriter::new(io::stdout().lock());
-    words(&mut out)
+    to_end(Lines::new(io::stdout().lock()), words)
+}
+
+/// Writes bytes to standard output, to its end.
+pub fn standard_bytes(bytes: impl FnOnce(&mut dyn Write) -> io::Result<()>) -> Result<(), Failure> {
+    to_end(BufWriter::new(io::stdout().lock()), bytes)
+}
+
+fn to_end(
+    mut out: impl Write,
+    body: impl FnOnce(&mut dyn Write) -> io::Result<()>,
+) -> Result<(), Failure> {
+    body(&mut out)
         .and_then(|()| out.flush())
         .map_err(|error| Failure::io("write", "standard output", &error))
 }

@@ -1,47 +1,86 @@
 //! `encode`: from samples to an image.
 
-use crate::args::{Args, flag, value};
+use crate::args::Args;
 use crate::codec::{self, Wanted};
-use crate::command::Command;
+use crate::command::{Command, Many};
 use crate::console::{Console, Words};
 use crate::distance::Distances;
 use crate::failure::{Failure, Status};
+use crate::files::{self, Job};
+use crate::framing::{self, Framed};
 use crate::input;
 use crate::json::{Fields, Json, path_fields};
-use crate::output::Output;
+use crate::options::{FORCE, IGNORE_LENGTH, INTO, JOBS, RAW, file, flag, value};
+use crate::output::{Output, What};
 use crate::settings;
-use crate::text::{count, counted};
+use crate::text::{clip_length, count, counted};
 use doilycairn::{Encoder, EncoderState, Image};
-use std::ffi::OsString;
+use std::ffi::{OsStr, OsString};
+use std::path::Path;
 
 pub const COMMAND: Command = Command {
     name: "encode",
     operands: &["IN.wav", "OUT.dspc"],
+    many: Many::Into,
+    summary: "from samples to an image",
+    about: "Measures the clip, encodes it and writes its image.",
     options: &[
-        value("--block-size"),
-        value("--gain"),
-        value("--history"),
-        value("--coefficients"),
-        value("--after"),
-        flag("--verify"),
-        flag("--raw"),
-        value("--rate"),
-        flag("--ignore-length"),
-        flag("--force"),
+        INTO,
+        JOBS,
+        value(
+            "--block-size",
+            "BYTES",
+            "bytes of a block, 8 to 65,536, cut down to a multiple of 8; 8,192 if not given",
+        ),
+        value("--gain", "NUMBER", "kept in the image, 0 to 65,535; 0 if not given"),
+        value("--history", "NEWEST,OLDER", "the two samples before the clip; 0,0 if not given"),
+        file(
+            "--coefficients",
+            "FILE",
+            "sixteen numbers as text (c0 and c1 of each pair in turn), or an image to take them from; measured if not given",
+        ),
+        file(
+            "--after",
+            "A.dspc",
+            "goes on from where A ends, so that `join A.dspc OUT.dspc` loses nothing: takes A's coefficients, its last two \
+             samples as history, and block size and gain where they are not given; A has to be of whole frames (14 samples)",
+        ),
+        flag(
+            "--pad-to-frame",
+            "holds the last sample for up to 13 more, so that a clip can follow: whole frames (14 samples)",
+        ),
+        flag("--cut-to-frame", "leaves out up to 13 samples at the end, so that a clip can follow"),
+        flag("--verify", "plays the image before it is written and tests each sample's distance"),
+        RAW,
+        value("--rate", "HZ", "with --raw: samples a second"),
+        IGNORE_LENGTH,
+        FORCE,
     ],
-    help: include_str!("help/encode.txt"),
+    notes: "A clip has 1 to 14,680,064 samples. Encoding the longest takes less than 64 MB of memory.",
     run,
 };
 
 fn run(args: &Args, console: &Console) -> Result<Status, Failure> {
-    let [input, output] = [0, 1].map(|i| args.operands[i].as_os_str());
+    let standard = |name: &&str| args.value(name).is_some_and(|value| value == "-");
+    match ["--coefficients", "--after"].into_iter().find(standard) {
+        Some(name) if args.has("--into") => {
+            Err(Failure::usage(format!("{name}: standard input cannot serve many files")))
+        }
+        _ => files::with_output(args, console, "dspc", |job, console| one(args, job, console)),
+    }
+}
+
+fn one(args: &Args, job: &Job, console: &Console) -> Result<Status, Failure> {
+    let (input, output) = (job.input, job.output.as_deref().unwrap_or_default());
     let given = ["--coefficients", "--after"].into_iter().filter_map(|name| args.value(name));
     let inputs: Vec<OsString> = [input].into_iter().chain(given).map(Into::into).collect();
     input::one_standard_input(&inputs)?;
     let mut wanted = settings::of(args)?;
-    let place = Output::at(output, &inputs, args.has("--force"), console)?;
-    let rate = settings::read(args, &mut wanted)?;
-    let clip = input::clip(input, args, Some(wanted.rate))?;
+    let framing = framing::wanted(args)?;
+    let place = Output::at(What::Image, output, &inputs, args.has("--force"), console)
+        .map_err(|failure| many_meant(job, failure))?;
+    let rate = settings::read(args, &mut wanted, console)?;
+    let mut clip = input::clip(input, args, Some(wanted.rate), console)?;
     let name = input::name(input);
     wanted.rate = clip.rate;
     if let Some(rate) = rate.filter(|rate| *rate != clip.rate) {
@@ -49,7 +88,9 @@ fn run(args: &Args, console: &Console) -> Result<Status, Failure> {
             format!("rate {}, and the clip before it has {}", count(clip.rate), count(rate));
         return Err(Failure::input(&name, words));
     }
-    let encoder = codec::encode(&name, &clip.samples, &wanted, console)?;
+    let framed = framing::apply(framing, &name, &mut clip.samples)?;
+    let encoder = codec::encode(&name, &clip.samples, &wanted, console)
+        .map_err(|failure| settings::blamed(args, failure))?;
     let distances = match args.has("--verify") {
         true => Some(verified(&name, &encoder, &clip.samples)?),
         false => None,
@@ -58,14 +99,41 @@ fn run(args: &Args, console: &Console) -> Result<Status, Failure> {
     let mut fields = path_fields("input", "input_hex", input);
     fields.extend(path_fields("output", "output_hex", output));
     fields.extend(state_fields(&encoder, &wanted));
-    let verify = distances.as_ref().map_or(Json::Null, |d| Json::Object(d.fields()));
+    fields.extend(framed.fields());
+    told(&place.name, &encoder, &framed, distances.as_ref(), fields, console)
+}
+
+/// Two files of `encode *.wav` may both have been meant as inputs.
+fn many_meant(job: &Job, failure: Failure) -> Failure {
+    let both = [job.input, job.output.as_deref().unwrap_or_default()];
+    let is_wav = |path: &OsStr| Path::new(path).extension().is_some_and(|end| end == "wav");
+    match both.into_iter().all(is_wav) {
+        true => failure.with(", --into FOLDER encodes many files"),
+        false => failure,
+    }
+}
+
+/// Says what was encoded.
+fn told(
+    place: &str,
+    encoder: &Encoder,
+    framed: &Framed,
+    distances: Option<&Distances>,
+    mut fields: Fields,
+    console: &Console,
+) -> Result<Status, Failure> {
+    let verify = distances.map_or(Json::Null, |d| Json::Object(d.fields()));
     fields.push(("verify", verify));
     console.answer(Status::Done, fields, Words::Summary, |out| {
-        writeln!(out, "{}: {}", place.name, summary(&encoder))?;
-        match &distances {
-            Some(d) => writeln!(out, "verified: the largest distance is {}", count(d.largest().0)),
-            None => Ok(()),
-        }
+        let largest = distances
+            .map(|d| format!("; verified: the largest distance is {}", count(d.largest().0)));
+        writeln!(
+            out,
+            "{place}: {}{}{}",
+            summary(encoder),
+            framed.words(),
+            largest.unwrap_or_default()
+        )
     })
 }
 
@@ -91,11 +159,11 @@ fn verified(name: &str, encoder: &Encoder, clip: &[i16]) -> Result<Distances, Fa
 
 /// What was encoded, in words.
 pub fn summary(encoder: &Encoder) -> String {
-    let EncoderState { total, block, .. } = encoder.state();
+    let EncoderState { total, block, rate, .. } = encoder.state();
     let size = encoder.image().len();
     format!(
         "{} in {} of {} bytes, image of {} bytes ({:.2} to 1)",
-        counted(total, "sample", "samples"),
+        clip_length(total, rate),
         counted((8 * total.div_ceil(14)).div_ceil(block), "block", "blocks"),
         count(block),
         count(size as u64),

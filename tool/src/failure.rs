@@ -3,7 +3,7 @@
 use doilycairn::Refusal;
 use std::io;
 
-/// The exit statuses, as `doilycairn --help` lists them.
+/// The exit statuses, as [`STATUSES`] lists them.
 #[derive(Clone, Copy, Debug, PartialEq, Eq)]
 #[repr(u8)]
 pub enum Status {
@@ -17,9 +17,19 @@ pub enum Status {
     Input = 3,
     /// The library refused, by a number.
     Refused = 4,
-    /// Reading or writing failed.
+    /// Reading or writing failed, or memory is short.
     Io = 5,
 }
+
+/// What the exit statuses mean, from 0 on.
+pub const STATUSES: [&str; 6] = [
+    "done; the answer is yes",
+    "the answer is no: the clips differ (same), the image is not sound or, with --strict, has a click (check), a sample is beyond its bound (encode --verify)",
+    "the command line is wrong",
+    "an input is not what the command takes: no WAV file of that kind, no coefficients, clips that do not fit together",
+    "the library refuses, by the number that the message names (`doilycairn help refusals` lists them)",
+    "reading or writing failed, or memory is short",
+];
 
 /// Why a command failed.
 #[derive(Debug)]
@@ -57,6 +67,11 @@ impl Failure {
     pub fn io(doing: &str, name: &str, error: &io::Error) -> Self {
         let silent = doing == "write" && error.kind() == io::ErrorKind::BrokenPipe;
         Self { silent, ..Self::new(Status::Io, format!("cannot {doing} {name}: {error}")) }
+    }
+
+    /// Memory is short.
+    pub fn memory(message: String) -> Self {
+        Self::new(Status::Io, message)
     }
 
     /// The same, with more words.

@@ -20,8 +20,11 @@ pub struct Finding {
 impl fmt::Display for Finding {
     fn fmt(&self, f: &mut fmt::Formatter) -> fmt::Result {
         match self.block {
-            Some(block) => write!(f, "byte {}, block {block}: {}", self.byte, self.words),
-            None => write!(f, "byte {}: {}", self.byte, self.words),
+            Some(block) => {
+                let (byte, block) = (count(self.byte as u64), count(block as u64));
+                write!(f, "byte {byte}, block {block}: {}", self.words)
+            }
+            None => write!(f, "byte {}: {}", count(self.byte as u64), self.words),
         }
     }
 }
@@ -132,7 +135,8 @@ fn entry(bytes: &[u8], k: usize, offset: usize, nibbles: usize) -> Vec<Finding> 
     if header != [0, first] {
         let [high, low] = [header[0], header[1]];
         let words = format!(
-            "its header is {high:02x} {low:02x} and its body at byte {offset} begins with {first:02x}"
+            "its header is {high:02x} {low:02x} and its body at byte {} begins with {first:02x}",
+            count(offset as u64)
         );
         add(at + 8, words);
     }

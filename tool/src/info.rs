@@ -1,14 +1,17 @@
 //! `info`: what an image holds.
 
-use crate::args::{Args, flag, value};
-use crate::command::Command;
+use crate::args::Args;
+use crate::command::{Command, Many};
 use crate::console::{Console, Words};
 use crate::distance::Distances;
 use crate::failure::{Failure, Status};
+use crate::files::{self, Job};
 use crate::input::{self, ImageFile};
 use crate::json::{Fields, Json, path_fields};
-use crate::output::Output;
+use crate::options::{FORCE, IGNORE_LENGTH, JOBS, file, flag};
+use crate::output::{Output, What};
 use crate::picture;
+use crate::seams::{self, Seam};
 use crate::survey::Survey;
 use crate::tables;
 use crate::text::count;
@@ -18,15 +21,24 @@ use std::ffi::{OsStr, OsString};
 pub const COMMAND: Command = Command {
     name: "info",
     operands: &["IN.dspc"],
+    many: Many::Inputs,
+    summary: "what an image holds, and how near it is to a WAV file",
+    about: "Shows head, blocks, coefficients, how many frames use each predictor and exponent, and at which edges of blocks a click may be heard.",
     options: &[
-        flag("--blocks"),
-        value("--against"),
-        value("--svg"),
-        flag("--raw"),
-        flag("--ignore-length"),
-        flag("--force"),
+        flag("--blocks", "lists the blocks with their contexts"),
+        file(
+            "--against",
+            "REF.wav",
+            "the largest distance from these samples, by exponent, beside the proved bound",
+        ),
+        flag("--raw", "REF.wav has no head: 16-bit little-endian samples"),
+        IGNORE_LENGTH,
+        file("--svg", "OUT.svg", "draws a picture"),
+        JOBS,
+        FORCE,
     ],
-    help: include_str!("help/info.txt"),
+    notes: "The bound holds for a clip that this library encoded: a sample of a frame with exponent p below 12 is within \
+        (3 * 2^p + 1) / 2 of its original, rounded down.",
     run,
 };
 
@@ -36,60 +48,78 @@ pub struct Known<'a> {
     pub image: Image<'a>,
     pub size: usize,
     /// Bytes of the file after the image.
-    pub after: usize,
+    pub after: u64,
     pub survey: Survey,
     /// The context after the last sample; none where the image does not play.
     pub end: Option<FrameContext>,
+    /// Edges of blocks where a click may be heard.
+    pub seams: Vec<Seam>,
     pub distances: Option<Distances>,
     pub blocks: bool,
 }
 
 fn run(args: &Args, console: &Console) -> Result<Status, Failure> {
-    let input = args.operands[0].as_os_str();
+    let single = ["--against", "--svg"].into_iter().find(|name| args.has(name));
+    match single.filter(|_| args.operands.len() > 1) {
+        Some(name) => Err(Failure::usage(format!("{name} goes with one image"))),
+        None => files::inputs(args, console, |job, console| one(args, job, console)),
+    }
+}
+
+fn one(args: &Args, job: &Job, console: &Console) -> Result<Status, Failure> {
+    let input = job.input;
     let against = args.value("--against");
     let inputs: Vec<OsString> = [input].into_iter().chain(against).map(Into::into).collect();
     input::one_standard_input(&inputs)?;
-    let svg = match args.value("--svg") {
-        Some(path) => Some(Output::at(path, &inputs, args.has("--force"), console)?),
-        None => None,
-    };
+    let force = args.has("--force");
+    let svg =
+        args.value("--svg").map(|path| Output::at(What::Picture, path, &inputs, force, console));
+    let svg = svg.transpose()?;
     let file = ImageFile::read(input)?;
     let image = file.open()?;
-    let reference = match against {
-        Some(path) => Some(reference(path, args, &image, console)?),
-        None => None,
-    };
+    let reference = against.map(|path| reference(path, args, &image, console)).transpose()?;
     let refused = |refusal| file.refused(refusal);
-    let distances = reference.as_ref().map(|clip| Distances::of(&image, clip)).transpose();
     if let Some(place) = svg {
         crate::decode::plays(&image).map_err(refused)?;
-        place.write(|out| picture::draw(&image, reference.as_deref(), out))?;
+        place.write(|out| picture::draw(&file.name, &image, reference.as_deref(), out))?;
     }
-    let head = image.head();
-    let size = image_size(head.total, head.block).unwrap_or(file.bytes.len());
-    let known = Known {
-        name: file.name.clone(),
-        image,
-        size,
-        after: file.bytes.len() - size,
-        survey: Survey::of(&image),
-        end: end(&image),
-        distances: distances.map_err(refused)?,
-        blocks: args.has("--blocks"),
-    };
+    let distances = reference.as_ref().map(|clip| Distances::of(&image, clip)).transpose();
+    let known = known(&file, image, distances.map_err(refused)?, args.has("--blocks"));
     let mut fields = path_fields("input", "input_hex", input);
     fields.extend(known.fields());
     console.answer(Status::Done, fields, Words::Asked, |out| tables::write(&known, out))
 }
 
+/// Looks at an image.
+fn known<'a>(
+    file: &ImageFile,
+    image: Image<'a>,
+    distances: Option<Distances>,
+    blocks: bool,
+) -> Known<'a> {
+    let head = image.head();
+    let size = image_size(head.total, head.block).unwrap_or(file.bytes.len());
+    Known {
+        name: file.name.clone(),
+        size,
+        after: file.after(size),
+        survey: Survey::of(&image),
+        end: end(&image),
+        seams: seams::seams(&image).unwrap_or_default(),
+        image,
+        distances,
+        blocks,
+    }
+}
+
 /// The samples to compare with: as many as the image has.
-fn reference(
+pub fn reference(
     path: &OsStr,
     args: &Args,
     image: &Image,
     console: &Console,
 ) -> Result<Vec<i16>, Failure> {
-    let clip = input::clip(path, args, None)?;
+    let clip = input::clip(path, args, None, console)?;
     let head = image.head();
     if clip.samples.len() != head.total as usize {
         let (has, wanted) = (count(clip.samples.len() as u64), count(head.total));
@@ -134,6 +164,7 @@ impl Known<'_> {
             ("coefficients", Json::numbers(head.coefficients.0)),
             ("frames_by_predictor", Json::numbers(self.survey.pairs.map(|n| n as i64))),
             ("frames_by_exponent", Json::numbers(self.survey.exponents.map(|n| n as i64))),
+            ("clicks", Json::list(self.seams.iter().map(Seam::json))),
             ("against", distances),
         ];
         if self.blocks {

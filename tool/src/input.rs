@@ -1,16 +1,19 @@
 //! Reading clips and images, from files or standard input.
 
 use crate::args::Args;
+use crate::console::Console;
 use crate::failure::Failure;
 use crate::findings::findings;
+use crate::memory;
 use crate::text::{count, shown};
 use crate::wav::{self, Clip, Wrong};
 use doilycairn::{Image, Refusal};
 use std::ffi::{OsStr, OsString};
 use std::fs::File;
 use std::io::{self, Read};
+use std::path::Path;
 
-/// No image is longer (its limit is 25,165,880 bytes); what follows is not read.
+/// No image is longer (its limit is 25,165,880 bytes); what follows is not kept.
 const MOST_BYTES: u64 = 1 << 25;
 
 /// How messages name an input.
@@ -18,24 +21,19 @@ pub fn name(path: &OsStr) -> String {
     if path == "-" { "standard input".into() } else { shown(path) }
 }
 
-fn open(path: &OsStr) -> Result<Box<dyn Read>, Failure> {
-    if path == "-" {
-        return Ok(Box::new(io::stdin().lock()));
-    }
-    match File::open(path) {
-        Ok(file) => Ok(Box::new(file)),
-        Err(error) => Err(Failure::io("read", &name(path), &error)),
-    }
+/// Whether a path ends in `.dsp`, the name of a format that is not known here.
+pub fn is_dsp(path: &OsStr) -> bool {
+    Path::new(path).extension().is_some_and(|extension| extension.eq_ignore_ascii_case("dsp"))
 }
 
-/// All bytes, or as many as any image may have.
-pub fn bytes(path: &OsStr) -> Result<Vec<u8>, Failure> {
-    let mut bytes = vec![];
-    open(path)?
-        .take(MOST_BYTES)
-        .read_to_end(&mut bytes)
-        .map_err(|error| Failure::io("read", &name(path), &error))?;
-    Ok(bytes)
+/// Opens a file or standard input; tells the length of a file of bytes.
+fn open(path: &OsStr) -> Result<(Box<dyn Read>, Option<u64>), Failure> {
+    if path == "-" {
+        return Ok((Box::new(io::stdin().lock()), None));
+    }
+    let file = File::open(path).map_err(|error| Failure::io("read", &name(path), &error))?;
+    let length = file.metadata().ok().filter(|data| data.is_file()).map(|data| data.len());
+    Ok((Box::new(file), length))
 }
 
 /// Only one input can be standard input.
@@ -49,21 +47,44 @@ pub fn one_standard_input(paths: &[OsString]) -> Result<(), Failure> {
 /// The bytes of an image, before it is opened.
 pub struct ImageFile {
     pub name: String,
+    /// All bytes, or as many as any image may have.
     pub bytes: Vec<u8>,
+    /// Bytes of the file.
+    length: u64,
+    is_dsp: bool,
 }
 
 impl ImageFile {
     pub fn read(path: &OsStr) -> Result<Self, Failure> {
-        Ok(Self { name: name(path), bytes: bytes(path)? })
+        let (mut reader, known) = open(path)?;
+        let fail = |error: io::Error| match error.kind() {
+            io::ErrorKind::OutOfMemory => {
+                memory::short(known.map_or(MOST_BYTES, |length| length.min(MOST_BYTES)))
+            }
+            _ => Failure::io("read", &name(path), &error),
+        };
+        let mut bytes = vec![];
+        (&mut reader).take(MOST_BYTES).read_to_end(&mut bytes).map_err(fail)?;
+        let mut length = known.unwrap_or(0).max(bytes.len() as u64);
+        if known.is_none() && bytes.len() as u64 == MOST_BYTES && bytes.starts_with(b"DSPC") {
+            length += io::copy(&mut reader, &mut io::sink()).map_err(fail)?;
+        }
+        Ok(Self { name: name(path), bytes, length, is_dsp: is_dsp(path) })
     }
 
     /// Opens it; a refusal comes with the first thing that looks wrong.
     pub fn open(&self) -> Result<Image<'_>, Failure> {
         Image::open(&self.bytes).map_err(|refusal| {
             let first = findings(&self.bytes).into_iter().next();
-            Failure::refused(&self.name, refusal)
-                .with(first.map(|finding| format!("; {finding}")).unwrap_or_default())
+            let failure = Failure::refused(&self.name, refusal)
+                .with(first.map(|finding| format!("; {finding}")).unwrap_or_default());
+            if self.is_dsp { failure.with(format!("; {NO_DSP}")) } else { failure }
         })
+    }
+
+    /// Bytes of the file after an image of this size.
+    pub fn after(&self, size: usize) -> u64 {
+        self.length.saturating_sub(size as u64)
     }
 
     /// A refusal of this image.
@@ -72,21 +93,41 @@ impl ImageFile {
     }
 }
 
+pub const NO_DSP: &str = ".dsp files are neither read nor written; an image is a .dspc file";
+
 /// Reads a clip: a WAV file, or headerless samples with --raw. The rate of headerless samples is 0 where it is not asked for.
-pub fn clip(path: &OsStr, args: &Args, raw_rate: Option<u32>) -> Result<Clip, Failure> {
+pub fn clip(
+    path: &OsStr,
+    args: &Args,
+    raw_rate: Option<u32>,
+    console: &Console,
+) -> Result<Clip, Failure> {
     let ignore_length = args.has("--ignore-length");
-    let mut reader = open(path)?;
+    let (mut reader, known) = open(path)?;
     let clip = match args.has("--raw") {
-        true => wav::read_raw(&mut reader, ignore_length)
-            .map(|samples| Clip { samples, rate: raw_rate.unwrap_or(0) }),
-        false => wav::read(&mut reader, ignore_length),
+        true => wav::read_raw(&mut reader, ignore_length).map(|samples| Clip {
+            samples,
+            rate: raw_rate.unwrap_or(0),
+            notes: vec![],
+        }),
+        false => wav::read(&mut reader, ignore_length, known.is_some()),
     };
-    clip.map_err(|wrong| match wrong {
+    let clip = clip.map_err(|wrong| unread(path, wrong))?;
+    for note in &clip.notes {
+        console.note(format!("{}: {note}", name(path)));
+    }
+    Ok(clip)
+}
+
+/// Why a clip cannot be read.
+fn unread(path: &OsStr, wrong: Wrong) -> Failure {
+    match wrong {
         Wrong::Io(error) => Failure::io("read", &name(path), &error),
         Wrong::Words(words) => Failure::input(&name(path), words),
+        Wrong::Memory(bytes) => memory::short(bytes),
         Wrong::TooMany(samples) => {
             let has = samples.map_or("more".into(), count);
             Failure::refused(&name(path), Refusal::BadSampleCount).with(format!("; it has {has}"))
         }
-    })
+    }
 }

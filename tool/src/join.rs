@@ -1,24 +1,44 @@
 //! `join`: one image of two.
 
-use crate::args::{Args, flag, value};
+use crate::args::Args;
 use crate::codec::{self, Wanted};
-use crate::command::Command;
+use crate::command::{Command, Many};
 use crate::console::{Console, Words};
 use crate::encode::{state_fields, summary};
 use crate::failure::{Failure, Status};
+use crate::image_bytes;
 use crate::info;
 use crate::input::{ImageFile, one_standard_input};
 use crate::json::{Fields, Json, path_fields};
-use crate::output::Output;
+use crate::memory;
+use crate::options::{FORCE, flag, value};
+use crate::output::{Output, What};
+use crate::settings;
 use crate::splice;
-use crate::text::{count, counted};
+use crate::text::{clip_length, count, counted};
 use doilycairn::{FrameContext, History, Image, Refusal};
 
 pub const COMMAND: Command = Command {
     name: "join",
     operands: &["A.dspc", "B.dspc", "OUT.dspc"],
-    options: &[flag("--reencode"), value("--block-size"), value("--gain"), flag("--force")],
-    help: include_str!("help/join.txt"),
+    many: Many::No,
+    summary: "one image of two",
+    about: "Writes one image that plays A and then B.\n\n\
+        Without --reencode nothing is lost: the frames stay what they are. That needs equal rates, coefficients and block sizes, and an A of \
+        whole frames (14 samples); and either A fills its last block, or B was encoded to follow A:\n  \
+        doilycairn encode --pad-to-frame A.wav A.dspc\n  \
+        doilycairn encode --after A.dspc B.wav B.dspc",
+    options: &[
+        value("--gain", "NUMBER", "the gain, where the two differ"),
+        flag("--reencode", "plays both and encodes them as one clip, measured afresh"),
+        value(
+            "--block-size",
+            "BYTES",
+            "with --reencode: bytes of a block, 8 to 65,536; that of A if not given",
+        ),
+        FORCE,
+    ],
+    notes: "",
     run,
 };
 
@@ -41,8 +61,7 @@ impl<'a> Part<'a> {
 
     /// The bodies of its blocks, which stand back to back.
     pub fn bodies(&self) -> &'a [u8] {
-        let bytes: usize = self.image.blocks().map(|block| block.bytes.len()).sum();
-        &self.bytes[56 + 16 * self.image.head().blocks as usize..][..bytes]
+        image_bytes::bodies(&self.image, self.bytes)
     }
 }
 
@@ -50,12 +69,11 @@ fn run(args: &Args, console: &Console) -> Result<Status, Failure> {
     let [a, b, output] = [0, 1, 2].map(|i| args.operands[i].as_os_str());
     one_standard_input(&args.operands[..2])?;
     let gain = args.number("--gain", 0..=0xffff)?.map(|gain| gain as u16);
-    let block_size = args.number("--block-size", 0..=u64::MAX)?;
-    let block_size = block_size.map(|size| size.try_into().unwrap_or(u32::MAX));
+    let block_size = settings::block_size(args)?;
     if block_size.is_some() && !args.has("--reencode") {
         return Err(Failure::usage("--block-size goes with --reencode"));
     }
-    let place = Output::at(output, &args.operands[..2], args.has("--force"), console)?;
+    let place = Output::at(What::Image, output, &args.operands[..2], args.has("--force"), console)?;
     let files = [ImageFile::read(a)?, ImageFile::read(b)?];
     let parts = [Part::open(&files[0])?, Part::open(&files[1])?];
     fits(&parts)?;
@@ -105,7 +123,7 @@ fn spliced(parts: &[Part; 2], gain: Option<u16>) -> Result<Joined, Failure> {
     let head = image.head();
     let words = format!(
         "{} in {} of {} bytes, as they were",
-        counted(head.total, "sample", "samples"),
+        clip_length(head.total, head.rate),
         counted(head.blocks, "block", "blocks"),
         count(head.block)
     );
@@ -128,7 +146,8 @@ fn encoded_again(
     console: &Console,
 ) -> Result<Joined, Failure> {
     let head = parts[0].image.head();
-    let mut clip = vec![];
+    let total: u32 = parts.iter().map(|part| part.image.head().total).sum();
+    let mut clip = memory::room(total as usize)?;
     for part in parts {
         let samples = part.image.samples().map_err(|r| Failure::refused(part.name, r))?;
         clip.extend(samples);

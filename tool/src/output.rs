@@ -1,13 +1,32 @@
 //! Files are written as a whole or not at all: to a temporary file beside the place, which then takes its name.
 
-use crate::console::{Console, standard_output};
+use crate::console::{Console, standard_bytes};
 use crate::failure::Failure;
+use crate::input::{NO_DSP, is_dsp};
 use crate::text::shown;
 use std::ffi::{OsStr, OsString};
 use std::fs::{self, File, Metadata, OpenOptions};
-use std::io::{self, BufWriter, IsTerminal, Write};
+use std::io::{self, BufWriter, IsTerminal, Read, Write};
 use std::os::unix::fs::{MetadataExt, OpenOptionsExt, fchown};
 use std::path::{Path, PathBuf};
+
+/// What is written.
+#[derive(Clone, Copy, Debug, PartialEq, Eq)]
+pub enum What {
+    Image,
+    Recording,
+    Picture,
+}
+
+impl What {
+    fn name(self) -> &'static str {
+        match self {
+            What::Image => "a clip image",
+            What::Recording => "a recording",
+            What::Picture => "a picture",
+        }
+    }
+}
 
 /// Where to write.
 #[derive(Debug)]
@@ -27,8 +46,9 @@ enum Place {
 }
 
 impl Output {
-    /// Looks at the place before the work begins. An input is written over only by force.
+    /// Looks at the place before the work begins. An input, or a file that may not be meant, is written over only by force.
     pub fn at(
+        what: What,
         path: &OsStr,
         inputs: &[OsString],
         force: bool,
@@ -40,13 +60,18 @@ impl Output {
             _ if path == "-" => standard(console)?,
             Ok(old) if old.is_dir() => return Err(fail(io::ErrorKind::IsADirectory.into())),
             Ok(old) if old.is_file() => {
-                may_replace(&name, &old, inputs, force)?;
+                if !force {
+                    may_replace(what, path, &name, &old, inputs)?;
+                }
                 // The real path, so that a link to the file stays a link.
                 Place::File(fs::canonicalize(path).map_err(fail)?)
             }
             Ok(_) => Place::Special(path.into()),
             Err(_) => Place::File(new_file(path).map_err(fail)?),
         };
+        if is_dsp(path) {
+            console.note(format!("{name}: this is {}: {NO_DSP}", what.name()));
+        }
         Ok(Self { name, place })
     }
 
@@ -56,7 +81,7 @@ impl Output {
         body: impl FnOnce(&mut dyn Write) -> io::Result<()>,
     ) -> Result<(), Failure> {
         let written = match &self.place {
-            Place::Standard => return standard_output(body),
+            Place::Standard => return standard_bytes(body),
             Place::Special(path) => in_place(path, body),
             Place::File(path) => replace(path, body),
         };
@@ -75,25 +100,39 @@ fn standard(console: &Console) -> Result<Place, Failure> {
     }
 }
 
-/// Whether an old file may be replaced.
+/// Whether an old file may be replaced without force.
 fn may_replace(
+    what: What,
+    path: &OsStr,
     name: &str,
     old: &Metadata,
     inputs: &[OsString],
-    force: bool,
 ) -> Result<(), Failure> {
     let is_old = |input: &OsString| {
         fs::metadata(input).is_ok_and(|m| (m.dev(), m.ino()) == (old.dev(), old.ino()))
     };
-    if !force && inputs.iter().any(is_old) {
-        Err(Failure::usage(format!("{name} is an input too: --force writes over it")))
-    } else if !force && old.permissions().readonly() {
-        let error = io::ErrorKind::PermissionDenied.into();
-        Err(Failure::io("write", name, &error)
-            .with(": it is marked read-only; --force replaces it"))
-    } else {
-        Ok(())
+    let refuse =
+        |kind: &str| Err(Failure::usage(format!("{name} is {kind}: --force writes over it")));
+    if inputs.iter().any(is_old) {
+        return refuse("an input too");
     }
+    if old.permissions().readonly() {
+        let error = io::ErrorKind::PermissionDenied.into();
+        return Err(Failure::io("write", name, &error)
+            .with(": it is marked read-only; --force replaces it"));
+    }
+    match &first_bytes(path) {
+        [b'R', b'I', b'F', b'F', ..] => refuse("a recording (a WAV file)"),
+        b"DSPC" if what != What::Image => refuse("a clip image"),
+        _ => Ok(()),
+    }
+}
+
+/// The first bytes of a file; zeros where there are none.
+fn first_bytes(path: &OsStr) -> [u8; 4] {
+    let mut bytes = [0; 4];
+    let _ = File::open(path).and_then(|mut file| file.read_exact(&mut bytes));
+    bytes
 }
 
 /// The path of a new file: its folder is there.

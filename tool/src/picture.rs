@@ -4,13 +4,16 @@
 //! An image of any length takes memory for one block and for what each column of the picture shows.
 
 mod frames;
+mod jumps;
 mod layout;
+mod legend;
 mod marks;
 mod panels;
 mod path;
 mod samples;
 mod seen;
 mod svg;
+mod time;
 mod walk;
 mod words;
 
@@ -24,13 +27,21 @@ use layout::Layout;
 use std::io::{self, Write};
 use svg::Svg;
 
-/// Draws the image; with a reference, also how far what is played is from it, up to the end of the shorter one.
-pub fn draw(image: &Image, reference: Option<&[i16]>, out: &mut dyn Write) -> io::Result<()> {
+/// Draws the image, under the name of its file; with a reference, also how far what is played is from it, up to the end of the shorter one.
+pub fn draw(
+    name: &str,
+    image: &Image,
+    reference: Option<&[i16]>,
+    out: &mut dyn Write,
+) -> io::Result<()> {
     let seen = walk::walk(image, reference).map_err(io::Error::other)?;
-    let layout = Layout::new(&seen);
-    let mut svg = Svg::begin(out, &words::title(&seen))?;
-    words::heading(&mut svg, &seen)?;
+    let lines = words::lines(&seen);
+    let layout = Layout::new(&seen, lines.len());
+    let title = format!("{name}: {}", words::summary(&seen));
+    let mut svg = Svg::begin(out, &title, legend::bottom(&layout, &seen))?;
+    words::heading(&mut svg, name, &lines)?;
     panels::all(&mut svg, &layout, &seen)?;
     marks::all(&mut svg, &layout, &seen)?;
+    legend::draw(&mut svg, &layout, &seen)?;
     svg.end()
 }

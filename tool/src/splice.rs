@@ -1,6 +1,7 @@
 //! Joining two images without loss: the frames stay what they are, and play what they played.
 
 use crate::failure::Failure;
+use crate::image_bytes::{self, context_at};
 use crate::join::Part;
 use crate::text::count;
 use doilycairn::{Block, FrameContext, Head, Refusal};
@@ -15,17 +16,8 @@ pub fn join(parts: &[Part; 2], gain: Option<u16>) -> Result<Vec<u8>, Failure> {
     let shift = fitting_frames(first, second)?;
     let head = first.image.head();
     let contexts = contexts(first, second, shift).map_err(|r| Failure::refused(second.name, r))?;
-    let blocks = contexts.len() as u32;
     let total = head.total + second.image.head().total;
-    let mut image = head_bytes(&Head { total, gain, blocks, ..*head });
-    for (k, context) in contexts.iter().enumerate() {
-        let before = u64::from(head.block) * k as u64;
-        let offset = 56 + 16 * u64::from(blocks) + before;
-        let length = (nibbles - 2 * before).min(2 * u64::from(head.block));
-        image.extend(entry_bytes(offset as u32, length as u32, context));
-    }
-    image.extend(bodies);
-    Ok(image)
+    Ok(image_bytes::image(&Head { total, gain, ..*head }, &contexts, &bodies, nibbles))
 }
 
 /// The bodies and their length in nibbles, as the library joins them; it refuses coefficients that differ.
@@ -53,8 +45,12 @@ fn fitting_gain(first: &Part, second: &Part, gain: Option<u16>) -> Result<u16, F
         Some(gain) => Ok(gain),
         None if a == b => Ok(a),
         None => {
-            let words =
-                format!("its gain is {b}, and that of {} is {a}: choose with --gain", first.name);
+            let words = format!(
+                "its gain is {}, and that of {} is {}: choose with --gain",
+                count(b),
+                first.name,
+                count(a)
+            );
             Err(Failure::input(second.name, words))
         }
     }
@@ -77,7 +73,7 @@ fn fitting_frames(first: &Part, second: &Part) -> Result<u32, Failure> {
             "{} samples: its last frame is not full, and no frame can follow it",
             count(a.total)
         );
-        return Err(Failure::input(first.name, words + AGAIN));
+        return Err(Failure::input(first.name, words + FOLLOWED + AGAIN));
     }
     let frames = a.block / 8;
     let shift = (frames - a.total / 14 % frames) % frames;
@@ -94,7 +90,8 @@ fn follows(first: &Part, second: &Part) -> Result<(), Failure> {
         let [newest, older] = block.context.last_samples;
         if [newest, older] != before {
             let words = format!(
-                "its block {k} begins after {newest},{older} and would come after {},{}, within a block of {} bytes{}{AGAIN}",
+                "its block {} begins after {newest},{older} and would come after {},{}, within a block of {} bytes{}{AGAIN}",
+                count(k as u64),
                 before[0],
                 before[1],
                 count(second.image.head().block),
@@ -108,6 +105,9 @@ fn follows(first: &Part, second: &Part) -> Result<(), Failure> {
     Ok(())
 }
 
+const FOLLOWED: &str =
+    ": encode it with --pad-to-frame or --cut-to-frame, or trim it with --to at a multiple of 14";
+
 const HINT: &str =
     ": encode it with --after the first clip, or let the first clip fill its last block";
 
@@ -120,42 +120,4 @@ fn contexts(first: &Part, second: &Part, shift: u32) -> Result<Vec<FrameContext>
         }
     }
     Ok(contexts)
-}
-
-/// The context of one of a block's frames.
-fn context_at(block: &Block, frame: usize) -> Result<FrameContext, Refusal> {
-    if frame == 0 {
-        return Ok(block.context);
-    }
-    let mut played = vec![0; block.sample_count()];
-    block.play(&mut played)?;
-    Ok(FrameContext {
-        predictor_and_scale: block.bytes[8 * frame].into(),
-        last_samples: [played[14 * frame - 1], played[14 * frame - 2]],
-    })
-}
-
-/// The head of an image.
-fn head_bytes(head: &Head) -> Vec<u8> {
-    let mut bytes = b"DSPC".to_vec();
-    for field in [head.total, head.rate, head.block] {
-        bytes.extend(field.to_be_bytes());
-    }
-    bytes.extend(head.coefficients.0.iter().flat_map(|c| c.to_be_bytes()));
-    bytes.extend(head.gain.to_be_bytes());
-    bytes.extend([0, 0]);
-    bytes.extend(head.blocks.to_be_bytes());
-    bytes
-}
-
-/// An entry of the table.
-fn entry_bytes(offset: u32, nibbles: u32, context: &FrameContext) -> Vec<u8> {
-    let [newest, older] = context.last_samples;
-    let mut bytes = offset.to_be_bytes().to_vec();
-    bytes.extend(nibbles.to_be_bytes());
-    bytes.extend(context.predictor_and_scale.to_be_bytes());
-    bytes.extend(newest.to_be_bytes());
-    bytes.extend(older.to_be_bytes());
-    bytes.extend([0, 0]);
-    bytes
 }

@@ -2,7 +2,8 @@
 
 use crate::distance::{Distances, bound};
 use crate::info::Known;
-use crate::text::{count, counted};
+use crate::seams;
+use crate::text::{count, counted, duration};
 use std::io::{self, Write};
 
 type Out<'a> = &'a mut dyn Write;
@@ -23,25 +24,29 @@ pub fn write(known: &Known, out: Out) -> io::Result<()> {
 
 fn head(known: &Known, out: Out) -> io::Result<()> {
     let head = known.image.head();
-    let seconds = f64::from(head.total) / f64::from(head.rate);
     let ratio = 2.0 * f64::from(head.total) / known.size as f64;
     let [newest, older] = known.start();
     writeln!(out, "{}", known.name)?;
-    writeln!(out, "  samples    {}: {seconds:.3} s at {} Hz", count(head.total), count(head.rate))?;
+    let (samples, rate) = (count(head.total), count(head.rate));
+    writeln!(out, "  samples    {samples} at {rate} Hz ({})", duration(head.total, head.rate))?;
     writeln!(out, "  frames     {}", count(known.survey.frames))?;
     writeln!(out, "  blocks     {} of up to {} bytes", count(head.blocks), count(head.block))?;
     writeln!(out, "  image      {} bytes, {ratio:.2} to 1", count(known.size as u64))?;
     if known.after > 0 {
-        let after = counted(known.after as u64, "byte", "bytes");
+        let after = counted(known.after, "byte", "bytes");
         writeln!(out, "  after it   {after} that do not belong to it")?;
     }
-    writeln!(out, "  gain       {}", head.gain)?;
+    writeln!(out, "  gain       {}", count(head.gain))?;
     writeln!(out, "  history    {newest},{older} before the first sample (newest, older)")?;
     match known.end.map(|end| end.last_samples) {
-        Some([newest, older]) => writeln!(out, "  ends with  {newest},{older}"),
+        Some([newest, older]) => writeln!(out, "  ends with  {newest},{older}")?,
         None => {
-            writeln!(out, "  does not play: a pair of coefficients is -32,768 twice (refusal 13)")
+            writeln!(out, "  does not play: a pair of coefficients is -32,768 twice (refusal 13)")?;
         }
+    }
+    match seams::words(&known.seams, head.blocks) {
+        Some(words) => writeln!(out, "  clicks     {words}"),
+        None => Ok(()),
     }
 }
 
@@ -49,6 +54,7 @@ fn pairs(known: &Known, out: Out) -> io::Result<()> {
     writeln!(out, "\n  predictor      c0      c1      frames")?;
     let frames = known.survey.pairs;
     for (i, (c0, c1)) in known.image.head().coefficients.pairs().into_iter().enumerate() {
+        let (c0, c1) = (count(c0), count(c1));
         writeln!(out, "  {i:>9}  {c0:>6}  {c1:>6}  {}", share(frames[i], known.survey.frames))?;
     }
     Ok(())
@@ -78,11 +84,15 @@ fn against(distances: &Distances, out: Out) -> io::Result<()> {
         let beyond = counted(distances.beyond(), "sample is", "samples are");
         writeln!(out, "  {beyond} beyond the bound: not what this library encodes from that clip")?;
     }
-    writeln!(out, "\n   exponent     samples   bound  largest  at sample")?;
+    writeln!(out, "\n   exponent     samples   bound  largest   at sample")?;
     for (p, reached) in distances.reached.iter().enumerate().filter(|(_, r)| r.samples > 0) {
         let bound = bound(p).map_or("none".into(), count);
         let (samples, largest) = (count(reached.samples), count(reached.largest));
-        writeln!(out, "  {p:>9}  {samples:>10}  {bound:>6}  {largest:>7}  {:>9}", reached.at)?;
+        writeln!(
+            out,
+            "  {p:>9}  {samples:>10}  {bound:>6}  {largest:>7}  {:>10}",
+            count(reached.at as u64)
+        )?;
     }
     Ok(())
 }
@@ -93,7 +103,7 @@ fn blocks(known: &Known, out: Out) -> io::Result<()> {
     let mut sample = 0;
     writeln!(
         out,
-        "\n      block    offset   nibbles  from sample   samples  predictor  exponent  newest   older"
+        "\n      block      offset  nibbles  from sample  samples  predictor  exponent   newest    older"
     )?;
     for (k, block) in known.image.blocks().enumerate() {
         let samples = block.sample_count();
@@ -101,10 +111,16 @@ fn blocks(known: &Known, out: Out) -> io::Result<()> {
         let [newest, older] = block.context.last_samples;
         writeln!(
             out,
-            "  {k:>9}  {offset:>8}  {:>8}  {sample:>11}  {samples:>8}  {:>9}  {:>8}  {newest:>6}  {older:>6}",
-            block.nibbles,
+            "  {:>9}  {:>10}  {:>7}  {:>11}  {:>7}  {:>9}  {:>8}  {:>7}  {:>7}",
+            count(k as u64),
+            count(offset as u64),
+            count(block.nibbles),
+            count(sample as u64),
+            count(samples as u64),
             header >> 4 & 7,
-            header & 15
+            header & 15,
+            count(newest),
+            count(older)
         )?;
         offset += block.bytes.len();
         sample += samples;

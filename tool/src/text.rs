@@ -22,6 +22,25 @@ pub fn counted(number: impl Into<i128>, one: &str, many: &str) -> String {
     format!("{} {}", count(number), if number == 1 { one } else { many })
 }
 
+/// How long so many samples play: seconds, or minutes and seconds.
+pub fn duration(samples: u32, rate: u32) -> String {
+    let seconds = f64::from(samples) / f64::from(rate.max(1));
+    match seconds {
+        0.0..0.9995 => format!("{:.1} ms", 1000.0 * seconds),
+        0.0..59.9995 => format!("{seconds:.3} s"),
+        _ => {
+            let tenths = (10.0 * seconds).round() as u64;
+            format!("{}:{:02}.{} min", count(tenths / 600), tenths / 10 % 60, tenths % 10)
+        }
+    }
+}
+
+/// A count of samples, their rate and how long they play.
+pub fn clip_length(samples: u32, rate: u32) -> String {
+    let counted = counted(samples, "sample", "samples");
+    format!("{counted} at {} Hz ({})", count(rate), duration(samples, rate))
+}
+
 /// A path as a message shows it: control characters escaped, bytes that are not UTF-8 replaced.
 pub fn shown(path: &OsStr) -> String {
     let escape = |c: char| match c.is_control() {
@@ -43,6 +62,18 @@ mod tests {
         }
         assert_eq!(counted(1, "byte", "bytes"), "1 byte");
         assert_eq!(counted(2000, "byte", "bytes"), "2,000 bytes");
+    }
+
+    #[test]
+    fn durations() {
+        let wanted =
+            [(1, "0.1 ms"), (7992, "999.0 ms"), (8000, "1.000 s"), (479_999, "1:00.0 min")];
+        for (samples, text) in wanted {
+            assert_eq!(duration(samples, 8000), text);
+        }
+        assert_eq!(duration(14_680_064, 48_000), "5:05.8 min");
+        assert_eq!(duration(u32::MAX, 1), "71,582,788:15.0 min");
+        assert_eq!(clip_length(1, 8000), "1 sample at 8,000 Hz (0.1 ms)");
     }
 
     #[test]

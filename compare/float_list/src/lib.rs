@@ -1,4 +1,4 @@
-//! A fixed list of float operations, and the Rust's answers.
+//! A fixed list of float operations, and the Rust's answers; and random ones.
 //!
 //! A line of the list is a letter (m `mul_add`, a `abs`, x `max`, n `min`, r `round`) and three
 //! operands, each 16 hexadecimal digits of the bits; those that the operation does not take are
@@ -9,10 +9,13 @@
 //! cases are max(+0, -0), max(-0, +0), min(+0, -0) and min(-0, +0); `float_list zeros` writes what
 //! the machine gives. Built by rustc 1.95 for x86-64 each gave its first operand.
 
+mod any;
 mod cases;
 mod random;
 
+pub use any::random_case;
 pub use cases::cases;
+pub use random::Random;
 
 use std::fmt::{self, Display, Formatter};
 use std::hint::black_box;

@@ -1,7 +1,7 @@
 //! The list is as large as asked, and the Rust's answers are right by rules that use no float
 //! operation of theirs.
 
-use float_list::{Case, cases};
+use float_list::{Case, Random, cases, random_case};
 
 /// Whole numbers of 68 × 64 bits, the least part first. They stand for multiples of 2^-2148.
 type Wide = [u64; 68];
@@ -103,6 +103,26 @@ fn mul_add_rounds_once() {
     }
     println!("{checked} finite cases, {twice} differ when rounded twice");
     assert!(checked > 400 && twice > 100);
+}
+
+#[test]
+fn random_mul_add_rounds_once() {
+    let mut random = Random(7);
+    let (mut checked, mut twice, mut tiny) = (0, 0, 0);
+    for _ in 0..5000 {
+        let Case::MulAdd(a, b, c) = random_case(&mut random) else { continue };
+        if a.is_finite() && b.is_finite() && c.is_finite() {
+            let case = Case::MulAdd(a, b, c);
+            let exact = fused(a, b, c);
+            // The sign of a sum that is zero follows its terms.
+            assert!(exact == case.answer(), "{case}: {}", case.answer());
+            checked += 1;
+            twice += (case.answer() != a * b + c) as u32;
+            tiny += case.answer().is_subnormal() as u32;
+        }
+    }
+    println!("{checked} finite cases, {twice} differ when rounded twice, {tiny} are subnormal");
+    assert!(checked > 3000 && twice > 300 && tiny > 20);
 }
 
 #[test]

@@ -9,25 +9,15 @@ pub back : (s : ℕ) → addressToSample (sampleToAddress s) ≡ s
 unfolding addressToSample sampleToAddress
 back s = omega arith
 
--- the address of the first sample that is not before an address is not before it
-pub not-before : (a : ℕ) → a ≤ sampleToAddress (addressToSample a)
-unfolding addressToSample sampleToAddress
-not-before a = omega arith
-
--- a later address has no fewer samples before it
+-- exported: a later address has no fewer samples before it
 pub address-mono : (a b : ℕ) → a ≤ b → addressToSample a ≤ addressToSample b
 unfolding addressToSample
 address-mono a b h = omega arith
 
--- a later sample has a later address
+-- exported: a later sample has a later address
 pub sample-mono : (s t : ℕ) → s < t → sampleToAddress s < sampleToAddress t
 unfolding sampleToAddress
 sample-mono s t h = omega arith
-
--- a frame more
-pub frame-more : (n : ℕ) → addressToSample (16 + n) ≡ 14 + addressToSample n
-unfolding addressToSample
-frame-more n = omega arith
 
 -- k frames more
 pub frames-more : (k n : ℕ) → addressToSample (16 * k + n) ≡ 14 * k + addressToSample n
@@ -39,15 +29,12 @@ pub one-frame : (n : ℕ) → n ≤ 16 → addressToSample n ≡ n - 2
 unfolding addressToSample
 one-frame n h = omega arith
 
-pub address-le : (a : ℕ) → addressToSample a ≤ a
-unfolding addressToSample
-address-le a = omega arith
-
 -- k whole frames and one more are within a length that goes beyond them
 pub room-whole : (k left : ℕ) → 16 ≤ left → 14 * k + 14 ≤ addressToSample (16 * k + left)
 unfolding addressToSample
 room-whole k left h = omega arith
 
+-- k whole frames and a part of the next
 pub room-last : (k left : ℕ) → left ≤ 16 → addressToSample (16 * k + left) ≡ 14 * k + (left - 2)
 unfolding addressToSample
 room-last k left h = omega arith

@@ -12,9 +12,10 @@ use native.Mathlib.Omega.{arith}
 use Rattle.block.specs.declared.FrameContext.{FrameContext}
 use Rattle.block.specs.Address.{addressToSample}
 use Rattle.block.specs.Frame.{Lent, lent}
-use Rattle.block.specs.Refusals.{accepted, refused, badLength, lowestPair, equalCoefficients}
+use Rattle.block.specs.Refusals.{badLength, lowestPair, equalCoefficients}
+use Rattle.whole.specs.Outcome.{accepted, refused}
 use Rattle.block.specs.Play.{play, playBytes, playEffect, playInto}
-use Rattle.block.specs.Join.{joinBlocks, joinEffect}
+use Rattle.block.specs.Join.{extendSamples, joinEffect}
 use Rattle.block.proofs.LawsPlay.{play-count}
 
 module _ (bytes : List ℕ) (len : ℕ) (cs : List ℤ) (c : FrameContext) (out : List ℤ) where
@@ -30,21 +31,23 @@ module _ (bytes : List ℕ) (len : ℕ) (cs : List ℤ) (c : FrameContext) (out 
   unfolding playBytes
   play-14 e f h = rw (e, f, lt-ltb (length out) (addressToSample len) h)
 
-  pub play-done : (n : ℕ) (l : Lent) → badLength len (length bytes) ≡ false → lowestPair cs ≡ false → addressToSample len ≤ length out → n ≡ addressToSample len → l ≡ playInto bytes cs len c out → playEffect (accepted n) l ≡ playBytes bytes len cs c out
+  pub play-done : (n : ℕ) (l : Lent) → badLength len (length bytes) ≡ false → lowestPair cs ≡ false → addressToSample len ≤ length out
+      → n ≡ addressToSample len → l ≡ playInto bytes cs len c out → playEffect (accepted n) l ≡ playBytes bytes len cs c out
   unfolding playBytes
   play-done n l e f h g k = rw (g, k, e, f, le-ltb (length out) (addressToSample len) h)
 
 module _ (first : List ℕ) (m : ℕ) (cs : List ℤ) (second : List ℕ) (n : ℕ) (ds : List ℤ) (out : List ℕ) where
-  pub join-14 : ltb (length out) (length first + length second) ≡ true → joinEffect (refused 14) out ≡ joinBlocks first m cs second n ds out
-  unfolding joinBlocks
+  pub join-14 : ltb (length out) (length first + length second) ≡ true → joinEffect (refused 14) out ≡ extendSamples first m cs second n ds out
+  unfolding extendSamples
   join-14 e = rw e
 
-  pub join-18 : ltb (length out) (length first + length second) ≡ false → equalCoefficients cs ds ≡ false → joinEffect (refused 18) out ≡ joinBlocks first m cs second n ds out
-  unfolding joinBlocks
+  pub join-18 : ltb (length out) (length first + length second) ≡ false → equalCoefficients cs ds ≡ false → joinEffect (refused 18) out ≡ extendSamples first m cs second n ds out
+  unfolding extendSamples
   join-18 e f = rw (e, f)
 
-  pub join-done : ltb (length out) (length first + length second) ≡ false → equalCoefficients cs ds ≡ true → joinEffect (accepted (m + n)) (sets out 0 (first ++ second)) ≡ joinBlocks first m cs second n ds out
-  unfolding joinBlocks
+  pub join-done : ltb (length out) (length first + length second) ≡ false → equalCoefficients cs ds ≡ true
+      → joinEffect (accepted (m + n)) (sets out 0 (first ++ second)) ≡ extendSamples first m cs second n ds out
+  unfolding extendSamples
   join-done e f = rw (e, f)
 
 -- ---- what lies beyond is untouched
@@ -60,6 +63,6 @@ pub play-out : (bytes : List ℕ) (cs : List ℤ) (len : ℕ) (c : FrameContext)
 unfolding playInto
 play-out bytes cs len c out l h = splice (play bytes cs len c .samples) out (addressToSample len) (play-count bytes cs len c l) h
 
--- the output after joining: the two blocks' bytes, and what stood beyond them
+-- exported: the output after joining: the two blocks' bytes, and what stood beyond them
 pub join-out : (first second out : List ℕ) → length first + length second ≤ length out → sets out 0 (first ++ second) ≡ (first ++ second) ++ drop (length first + length second) out
 join-out first second out h = splice (first ++ second) out (length first + length second) (length-append first second) h

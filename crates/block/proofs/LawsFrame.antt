@@ -9,12 +9,14 @@ use borrow.Author.Tests.{eq-eqb, ne-eqb}
 use lib.IntN.{ℤ, pos}
 use lib.ListN.{length, getD, set, length-append}
 use lib.Seq.{sets}
-use Rattle.block.specs.Sample.{sampleOf}
-use Rattle.block.proofs.Stores.{sets-then}
+use Rattle.block.specs.Sample.{decodeSample}
+use Rattle.whole.proofs.Stores.{sets-then}
+use Rattle.whole.specs.declared.History.{History}
 use Rattle.block.specs.declared.FrameContext.{FrameContext}
-use Rattle.block.specs.declared.frame.History.{History}
-use Rattle.block.specs.Context.{predictorOf, scaleOf, contextOf, newest, older, pushSample}
-use Rattle.block.specs.Frame.{nibbleAt, nibblesFrom, Run, run, runNibble, runNibbles, runFrom, Playing, playing, nextSample, takeNibble, playFrame, lent, frameInto, historyOf}
+use Rattle.block.specs.Context.{predictor, scale, historyWith, contextWith, pushSample}
+use Rattle.block.specs.Frame.{nibbleAt, Playing, playing, nextSample, takeNibble, lent, into}
+use Rattle.block.specs.inner.Frames.{nibblesFrom, playFrame}
+use Rattle.block.specs.inner.Nibbles.{Decoded, decoded, decodeNibble, decodeNibbles, playNibbles}
 
 -- ---- nibbles
 
@@ -44,50 +46,51 @@ pub nibbles-pair : (bytes : List ℕ) (k : ℕ) → nibblesFrom bytes (2 * k) 2 
 unfolding nibblesFrom
 nibbles-pair bytes k = rw (nibble-high, nibble-low)
 
--- ---- runs
+-- ---- under one pair and one scale
 
 module _ (c0 c1 : ℤ) (scale : ℕ) where
-  pub run-append : (r : Run) (m n : List ℕ) → runNibbles c0 c1 scale r (m ++ n) ≡ runNibbles c0 c1 scale (runNibbles c0 c1 scale r m) n
-  unfolding runNibbles
-  run-append r m n = foldl-append (runNibble c0 c1 scale) r m n
+  pub decode-append : (r : Decoded) (m n : List ℕ) → decodeNibbles c0 c1 scale r (m ++ n) ≡ decodeNibbles c0 c1 scale (decodeNibbles c0 c1 scale r m) n
+  unfolding decodeNibbles
+  decode-append r m n = foldl-append (decodeNibble c0 c1 scale) r m n
 
-  pub run-length : (r : Run) (ns : List ℕ) → length (runNibbles c0 c1 scale r ns .samples) ≡ length (r .samples) + length ns
-  unfolding runNibbles runNibble
-  run-length r [] = sym (add-zero (length (r .samples)))
-  run-length r (n ∷ ns) = run-length (runNibble c0 c1 scale r n) ns ∙ simp length-append (omega arith)
+  pub decode-length : (r : Decoded) (ns : List ℕ) → length (decodeNibbles c0 c1 scale r ns .samples) ≡ length (r .samples) + length ns
+  unfolding decodeNibbles decodeNibble
+  decode-length r [] = sym (add-zero (length (r .samples)))
+  decode-length r (n ∷ ns) = decode-length (decodeNibble c0 c1 scale r n) ns ∙ simp length-append (omega arith)
 
-module _ (bytes : List ℕ) (a : ℕ) (c0 c1 : ℤ) (scale : ℕ) (s0 s1 : ℤ) where
+module _ (bytes : List ℕ) (a : ℕ) (c0 c1 : ℤ) (scale : ℕ) (h : History) where
   -- n nibbles more
-  pub from-more : (m n : ℕ) → runFrom bytes a (m + n) c0 c1 scale s0 s1 ≡ runNibbles c0 c1 scale (runFrom bytes a m c0 c1 scale s0 s1) (nibblesFrom bytes (a + m) n)
-  unfolding runFrom
-  from-more m n = ap (runNibbles c0 c1 scale (run s0 s1 [])) (nibbles-append bytes a m n) ∙ run-append c0 c1 scale (run s0 s1 []) (nibblesFrom bytes a m) (nibblesFrom bytes (a + m) n)
+  pub from-more : (m n : ℕ) → playNibbles bytes a (m + n) c0 c1 scale h ≡ decodeNibbles c0 c1 scale (playNibbles bytes a m c0 c1 scale h) (nibblesFrom bytes (a + m) n)
+  unfolding playNibbles
+  from-more m n = ap (decodeNibbles c0 c1 scale (decoded h [])) (nibbles-append bytes a m n) ∙ decode-append c0 c1 scale (decoded h []) (nibblesFrom bytes a m) (nibblesFrom bytes (a + m) n)
 
-  pub from-length : (n : ℕ) → length (runFrom bytes a n c0 c1 scale s0 s1 .samples) ≡ n
-  unfolding runFrom
-  from-length n = run-length c0 c1 scale (run s0 s1 []) (nibblesFrom bytes a n) ∙ zero-add (length (nibblesFrom bytes a n)) ∙ nibbles-length bytes a n
+  pub from-length : (n : ℕ) → length (playNibbles bytes a n c0 c1 scale h .samples) ≡ n
+  unfolding playNibbles
+  from-length n = decode-length c0 c1 scale (decoded h []) (nibblesFrom bytes a n) ∙ zero-add (length (nibblesFrom bytes a n)) ∙ nibbles-length bytes a n
 
--- two samples more, of one byte
-pub pair-more : (bytes : List ℕ) (k j : ℕ) (c0 c1 : ℤ) (scale : ℕ) (s0 s1 a b x y : ℤ) → runFrom bytes (2 * k) (2 * j) c0 c1 scale s0 s1 .s0 ≡ a → runFrom bytes (2 * k) (2 * j) c0 c1 scale s0 s1 .s1 ≡ b → x ≡ sampleOf c0 c1 a b (getD bytes (k + j) 0 / 16) scale → y ≡ sampleOf c0 c1 x a (getD bytes (k + j) 0 % 16) scale
-    → runFrom bytes (2 * k) (2 * (j + 1)) c0 c1 scale s0 s1 ≡ run y x (runFrom bytes (2 * k) (2 * j) c0 c1 scale s0 s1 .samples ++ (x ∷ y ∷ []))
-unfolding runNibbles runNibble
-pair-more bytes k j c0 c1 scale s0 s1 a b x y ea eb ex ey =
-    let e : 2 * (j + 1) ≡ 2 * j + 2 = omega arith in
-    let f : 2 * k + 2 * j ≡ 2 * (k + j) = omega arith in
-    ap (λ (n : ℕ). runFrom bytes (2 * k) n c0 c1 scale s0 s1) e
-    ∙ from-more bytes (2 * k) c0 c1 scale s0 s1 (2 * j) 2
-    ∙ ap (λ (n : ℕ). runNibbles c0 c1 scale (runFrom bytes (2 * k) (2 * j) c0 c1 scale s0 s1) (nibblesFrom bytes n 2)) f
-    ∙ ap (runNibbles c0 c1 scale (runFrom bytes (2 * k) (2 * j) c0 c1 scale s0 s1)) (nibbles-pair bytes (k + j))
-    ∙ rw (ea, eb, ← ex, ← ey, append-assoc)
+module _ (bytes : List ℕ) (k j : ℕ) (c0 c1 : ℤ) (scale : ℕ) (h : History) (a b : ℤ) (e : playNibbles bytes (2 * k) (2 * j) c0 c1 scale h .history ≡ historyWith a b) where
+  -- two samples more, of one byte
+  pub pair-more : (x y : ℤ) → x ≡ decodeSample c0 c1 a b (getD bytes (k + j) 0 / 16) scale → y ≡ decodeSample c0 c1 x a (getD bytes (k + j) 0 % 16) scale
+      → playNibbles bytes (2 * k) (2 * (j + 1)) c0 c1 scale h ≡ decoded (historyWith y x) (playNibbles bytes (2 * k) (2 * j) c0 c1 scale h .samples ++ (x ∷ y ∷ []))
+  unfolding decodeNibbles decodeNibble
+  pair-more x y ex ey =
+      let d : 2 * (j + 1) ≡ 2 * j + 2 = omega arith in
+      let f : 2 * k + 2 * j ≡ 2 * (k + j) = omega arith in
+      ap (λ (n : ℕ). playNibbles bytes (2 * k) n c0 c1 scale h) d
+      ∙ from-more bytes (2 * k) c0 c1 scale h (2 * j) 2
+      ∙ ap (λ (n : ℕ). decodeNibbles c0 c1 scale (playNibbles bytes (2 * k) (2 * j) c0 c1 scale h) (nibblesFrom bytes n 2)) f
+      ∙ ap (decodeNibbles c0 c1 scale (playNibbles bytes (2 * k) (2 * j) c0 c1 scale h)) (nibbles-pair bytes (k + j))
+      ∙ rw (e, ← ex, ← ey, append-assoc)
 
--- one sample more, of a byte's high nibble
-pub high-more : (bytes : List ℕ) (k j : ℕ) (c0 c1 : ℤ) (scale : ℕ) (s0 s1 a b x : ℤ) → runFrom bytes (2 * k) (2 * j) c0 c1 scale s0 s1 .s0 ≡ a → runFrom bytes (2 * k) (2 * j) c0 c1 scale s0 s1 .s1 ≡ b → x ≡ sampleOf c0 c1 a b (getD bytes (k + j) 0 / 16) scale
-    → runFrom bytes (2 * k) (2 * j + 1) c0 c1 scale s0 s1 ≡ run x a (runFrom bytes (2 * k) (2 * j) c0 c1 scale s0 s1 .samples ++ (x ∷ []))
-unfolding runNibbles runNibble nibblesFrom
-high-more bytes k j c0 c1 scale s0 s1 a b x ea eb ex =
-    let f : 2 * k + 2 * j ≡ 2 * (k + j) = omega arith in
-    from-more bytes (2 * k) c0 c1 scale s0 s1 (2 * j) 1
-    ∙ ap (λ (n : ℕ). runNibbles c0 c1 scale (runFrom bytes (2 * k) (2 * j) c0 c1 scale s0 s1) (nibblesFrom bytes n 1)) f
-    ∙ rw (nibble-high, ea, eb, ← ex)
+  -- one sample more, of a byte's high nibble
+  pub high-more : (x : ℤ) → x ≡ decodeSample c0 c1 a b (getD bytes (k + j) 0 / 16) scale
+      → playNibbles bytes (2 * k) (2 * j + 1) c0 c1 scale h ≡ decoded (historyWith x a) (playNibbles bytes (2 * k) (2 * j) c0 c1 scale h .samples ++ (x ∷ []))
+  unfolding decodeNibbles decodeNibble nibblesFrom
+  high-more x ex =
+      let f : 2 * k + 2 * j ≡ 2 * (k + j) = omega arith in
+      from-more bytes (2 * k) c0 c1 scale h (2 * j) 1
+      ∙ ap (λ (n : ℕ). decodeNibbles c0 c1 scale (playNibbles bytes (2 * k) (2 * j) c0 c1 scale h) (nibblesFrom bytes n 1)) f
+      ∙ rw (nibble-high, e, ← ex)
 
 -- the stores of a turn
 pub pair-stores : (out : List ℤ) (to j : ℕ) (xs : List ℤ) (x y : ℤ) → length xs ≡ 2 * j → set (set (sets out to xs) (to + 2 * j) x) (to + 2 * j + 1) y ≡ sets out to (xs ++ (x ∷ y ∷ []))
@@ -98,43 +101,39 @@ high-store out to j xs x e = sets-then out to (to + 2 * j) xs (x ∷ []) (ap (λ
 
 -- ---- a frame, by the pair and the scale that its header names
 
+-- the two coefficients that a header names
 abbrev pub firstOf : List ℤ → ℕ → ℤ
-firstOf cs h = getD cs (2 * predictorOf h) (pos 0)
+firstOf cs h = getD cs (2 * predictor h) (pos 0)
 
 abbrev pub secondOf : List ℤ → ℕ → ℤ
-secondOf cs h = getD cs (2 * predictorOf h + 1) (pos 0)
+secondOf cs h = getD cs (2 * predictor h + 1) (pos 0)
 
-abbrev pub playingOf : ℕ → Run → Playing
-playingOf h r = playing (contextOf h (r .s0) (r .s1)) (r .samples)
+-- what is carried under a pair and a scale, with their header
+abbrev pub playingOf : ℕ → Decoded → Playing
+playingOf h r = playing (contextWith h (r .history)) (r .samples)
 
-pub nibbles-run : (cs : List ℤ) (h : ℕ) (r : Run) (ns : List ℕ) → foldl (takeNibble cs) (playingOf h r) ns ≡ playingOf h (runNibbles (firstOf cs h) (secondOf cs h) (scaleOf h) r ns)
-unfolding runNibbles runNibble takeNibble nextSample pushSample
-nibbles-run cs h r [] = refl
-nibbles-run cs h r (n ∷ ns) = nibbles-run cs h (runNibble (firstOf cs h) (secondOf cs h) (scaleOf h) r n) ns
+pub nibbles-decoded : (cs : List ℤ) (h : ℕ) (r : Decoded) (ns : List ℕ) → foldl (takeNibble cs) (playingOf h r) ns ≡ playingOf h (decodeNibbles (firstOf cs h) (secondOf cs h) (scale h) r ns)
+unfolding decodeNibbles decodeNibble takeNibble nextSample pushSample
+nibbles-decoded cs h r [] = refl
+nibbles-decoded cs h r (n ∷ ns) = nibbles-decoded cs h (decodeNibble (firstOf cs h) (secondOf cs h) (scale h) r n) ns
 
--- a context is its header and its two samples
-pub context-two : (c : FrameContext) → length (c .«last_samples») ≡ 2 → c ≡ contextOf (c .«predictor_and_scale») (newest c) (older c)
-context-two c e = ap (λ (l : List ℤ). record { «predictor_and_scale» = c .«predictor_and_scale»; «last_samples» = l }) (two (c .«last_samples») e)
-  where
-    two : (l : List ℤ) → length l ≡ 2 → l ≡ getD l 0 (pos 0) ∷ getD l 1 (pos 0) ∷ []
-    two [] e = absurd (omega arith)
-    two (x ∷ []) e = absurd (omega arith)
-    two (x ∷ y ∷ []) e = refl
-    two (x ∷ y ∷ z ∷ l) e = absurd (omega arith)
+-- the same from a context
+abbrev pub decodedAt : List ℕ → ℕ → ℕ → List ℤ → FrameContext → Decoded
+decodedAt bytes a count cs c =
+    let header = c .«predictor_and_scale» in
+    playNibbles bytes a count (firstOf cs header) (secondOf cs header) (scale header) (c .«last_samples»)
 
-pub frame-run : (bytes : List ℕ) (at count : ℕ) (cs : List ℤ) (c : FrameContext) → length (c .«last_samples») ≡ 2
-    → playFrame bytes at count cs (playing c []) ≡ playingOf (c .«predictor_and_scale») (runFrom bytes (2 * at + 2) count (firstOf cs (c .«predictor_and_scale»)) (secondOf cs (c .«predictor_and_scale»)) (scaleOf (c .«predictor_and_scale»)) (newest c) (older c))
-unfolding playFrame runFrom
-frame-run bytes at count cs c e =
-    ap (λ (d : FrameContext). foldl (takeNibble cs) (playing d []) (nibblesFrom bytes (2 * at + 2) count)) (context-two c e)
-    ∙ nibbles-run cs (c .«predictor_and_scale») (run (newest c) (older c) []) (nibblesFrom bytes (2 * at + 2) count)
+pub frame-decoded : (bytes : List ℕ) (at count : ℕ) (cs : List ℤ) (c : FrameContext)
+    → playFrame bytes at count cs (playing c []) ≡ playingOf (c .«predictor_and_scale») (decodedAt bytes (2 * at + 2) count cs c)
+unfolding playFrame playNibbles
+frame-decoded bytes at count cs c = nibbles-decoded cs (c .«predictor_and_scale») (decoded (c .«last_samples») []) (nibblesFrom bytes (2 * at + 2) count)
 
 -- what the step leaves, from what the nibbles' call answers
-pub frame-into : (bytes : List ℕ) (at count : ℕ) (cs : List ℤ) (c : FrameContext) (out : List ℤ) (to : ℕ) (h : History) (o : List ℤ) → length (c .«last_samples») ≡ 2
-    → (let r = runFrom bytes (2 * (at + 1)) count (firstOf cs (c .«predictor_and_scale»)) (secondOf cs (c .«predictor_and_scale»)) (scaleOf (c .«predictor_and_scale»)) (newest c) (older c) in (h ≡ historyOf r) × (o ≡ sets out to (r .samples)))
-    → lent (contextOf (c .«predictor_and_scale») (h .s0) (h .s1)) o ≡ frameInto bytes at count cs c out to
-unfolding frameInto
+pub frame-into : (bytes : List ℕ) (at count : ℕ) (cs : List ℤ) (c : FrameContext) (out : List ℤ) (to : ℕ) (h : History) (o : List ℤ)
+    → h ≡ decodedAt bytes (2 * (at + 1)) count cs c .history → o ≡ sets out to (decodedAt bytes (2 * (at + 1)) count cs c .samples)
+    → lent (contextWith (c .«predictor_and_scale») h) o ≡ into out to (playFrame bytes at count cs (playing c []))
 frame-into bytes at count cs c out to h o e f =
     let g : 2 * (at + 1) ≡ 2 * at + 2 = omega arith in
+    let d = rw g at e in
     let k = rw g at f in
-    rw (frame-run bytes at count cs c e, k .0, k .1)
+    rw (frame-decoded bytes at count cs c, d, k)

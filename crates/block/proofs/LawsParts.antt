@@ -1,32 +1,26 @@
 -- Laws of playing a part: what is read, bytes before and after, a block cut at a frame's start.
 use mathlib.Core.Path.{_≡_, refl, sym, ap, _∙_, subst}
 use mathlib.Core.Bool.{Bool, true, false, cond}
-use mathlib.Core.List.{List, [], _∷_, _++_, append-assoc, append-nil}
+use mathlib.Core.List.{List, [], _++_, append-assoc, append-nil}
 use mathlib.Core.Logic.{_⊎_, inl, inr, ⊎-elim}
 use Prim.Native.Nat.{ℕ, zero, suc, _+_, _-_, _*_, _/_, _%_, _≤_, _<_}
 use native.Mathlib.Nat.{add-zero, zero-add, add-suc, suc-add}
 use native.Mathlib.Omega.{arith}
 use lib.Dec.{eqb}
 use borrow.Author.Tests.{eqb-true, eqb-false}
-use lib.IntN.{ℤ, pos}
+use lib.IntN.{ℤ}
 use lib.ListN.{length, getD, drop, List·getD-append}
 use lib.Seq.{getD-drop, drop-append-seam, getD-append-add}
-use mir.Syntax.{w16}
-use mir.Val.{SFits}
 use Rattle.block.specs.declared.FrameContext.{FrameContext}
 use Rattle.block.specs.Context.{withHeader}
-use Rattle.block.specs.Frame.{nibbleAt, nibblesFrom, Playing, playing, nextSample, takeNibble, playFrame}
-use Rattle.block.specs.Play.{takeHeader, playFrom, play, playFrames}
-use Rattle.block.proofs.LawsSample.{sample-fits}
+use Rattle.block.specs.Frame.{nibbleAt, Playing, playing, takeNibble}
+use Rattle.block.specs.inner.Frames.{nibblesFrom, playFrame, playFrames}
+use Rattle.block.specs.Play.{takeHeader, playFrom, play}
 use Rattle.block.proofs.LawsPlay.{onto, at-sample, at-header, frames, repeats}
 
 cond-both : {A : Type 0} (t : Bool) {x y u v : A} → x ≡ u → y ≡ v → cond t x y ≡ cond t u v
 cond-both true p q = p
 cond-both false p q = q
-
-cond-out : {A : Type 0} (P : A → Type 0) (t : Bool) {x y : A} → P x → P y → P (cond t x y)
-cond-out P true p q = p
-cond-out P false p q = q
 
 cond-ap : {A B : Type 0} (f : A → B) (t : Bool) (x y : A) → f (cond t x y) ≡ cond t (f x) (f y)
 cond-ap f true x y = refl
@@ -46,39 +40,6 @@ starts a h = go (eqb (a % 16) 0) refl
     go : (t : Bool) → eqb (a % 16) 0 ≡ t → (a % 16 ≡ 0) ⊎ (2 ≤ a % 16)
     go true e = inl (eqb-true (a % 16) 0 e)
     go false e = inr (two (a % 16) (eqb-false (a % 16) 0 e) h)
-
--- ---- what each header and each sample keeps, playing keeps
-
-pub keeps : (P : Playing → Type 0) (bytes : List ℕ) (cs : List ℤ) → ((a : ℕ) (p : Playing) → P p → P (takeHeader bytes a p)) → ((n : ℕ) (p : Playing) → P p → P (takeNibble cs p n))
-    → (a n : ℕ) (p : Playing) → P p → P (playFrom bytes cs a n p)
-unfolding playFrom
-keeps P bytes cs h s a zero p k = k
-keeps P bytes cs h s a (suc zero) p k = cond-out P (eqb (a % 16) 0) (h a p k) (s (nibbleAt bytes a) p k)
-keeps P bytes cs h s a (suc (suc n)) p k =
-    cond-out P (eqb (a % 16) 0)
-    (keeps P bytes cs h s (2 + a) n (takeHeader bytes a p) (h a p k))
-    (keeps P bytes cs h s (suc a) (suc n) (takeNibble cs p (nibbleAt bytes a)) (s (nibbleAt bytes a) p k))
-
--- each sample fits 16 bits
-abbrev pub Fitting : List ℤ → Type 0
-Fitting xs = (i : ℕ) → SFits w16 (getD xs i (pos 0))
-
-fitting-more : (xs : List ℤ) (x : ℤ) → Fitting xs → SFits w16 x → Fitting (xs ++ (x ∷ []))
-fitting-more [] x f g zero = g
-fitting-more [] x f g (suc i) = f (suc i)
-fitting-more (y ∷ xs) x f g zero = f zero
-fitting-more (y ∷ xs) x f g (suc i) = fitting-more xs x (λ j. f (suc j)) g i
-
-none-fit : Fitting []
-none-fit i = record { sfits = omega arith }
-
-nibble-fits : (cs : List ℤ) (n : ℕ) (p : Playing) → Fitting (p .samples) → Fitting (takeNibble cs p n .samples)
-unfolding takeNibble nextSample
-nibble-fits cs n p f = fitting-more (p .samples) (nextSample cs (p .context) n) f (sample-fits _ _ _ _ n _)
-
-pub play-fits : (bytes : List ℕ) (cs : List ℤ) (len : ℕ) (c : FrameContext) → Fitting (play bytes cs len c .samples)
-unfolding play takeHeader
-play-fits bytes cs len c = keeps (λ p. Fitting (p .samples)) bytes cs (λ a p f. f) (nibble-fits cs) 2 (len - 2) (playing c []) none-fit
 
 -- ---- samples before
 
@@ -157,8 +118,12 @@ module _ (bytes : List ℕ) (j : ℕ) where
       let e : (16 * j + a) % 16 ≡ a % 16 = omega arith in
       let f : 16 * j + (2 + a) ≡ 2 + (16 * j + a) = omega arith in
       rw e (cond-both (eqb (a % 16) 0)
-      (from-after cs (2 + a) n (takeHeader (drop (8 * j) bytes) a p) ∙ ap (playFrom bytes cs (16 * j + (2 + a)) n) (header-after a p) ∙ ap (λ (b : ℕ). playFrom bytes cs b n (takeHeader bytes (16 * j + a) p)) f)
-      (from-after cs (suc a) (suc n) (takeNibble cs p (nibbleAt (drop (8 * j) bytes) a)) ∙ ap (λ (b : ℕ). playFrom bytes cs (16 * j + suc a) (suc n) (takeNibble cs p b)) (nibble-after a) ∙ ap (λ (b : ℕ). playFrom bytes cs b (suc n) (takeNibble cs p (nibbleAt bytes (16 * j + a)))) (add-suc (16 * j) a)))
+      (from-after cs (2 + a) n (takeHeader (drop (8 * j) bytes) a p)
+      ∙ ap (playFrom bytes cs (16 * j + (2 + a)) n) (header-after a p)
+      ∙ ap (λ (b : ℕ). playFrom bytes cs b n (takeHeader bytes (16 * j + a) p)) f)
+      (from-after cs (suc a) (suc n) (takeNibble cs p (nibbleAt (drop (8 * j) bytes) a))
+      ∙ ap (λ (b : ℕ). playFrom bytes cs (16 * j + suc a) (suc n) (takeNibble cs p b)) (nibble-after a)
+      ∙ ap (λ (b : ℕ). playFrom bytes cs b (suc n) (takeNibble cs p (nibbleAt bytes (16 * j + a)))) (add-suc (16 * j) a)))
 
 -- ---- a block cut at a frame's start
 
@@ -172,7 +137,8 @@ unfolding playFrames
 frames-play bytes cs zero c h = absurd (omega arith)
 frames-play bytes cs (suc k) c h =
     let e : 16 * suc k ≡ 16 * k + 16 = omega arith in
-    let f : play bytes cs (16 * suc k) c ≡ playFrame bytes (8 * k) 14 cs (playFrames bytes cs k (playing c [])) = ap (λ (n : ℕ). play bytes cs n c) e ∙ repeats bytes cs k 16 c (omega arith) (omega arith) in
+    let f : play bytes cs (16 * suc k) c ≡ playFrame bytes (8 * k) 14 cs (playFrames bytes cs k (playing c [])) =
+    ap (λ (n : ℕ). play bytes cs n c) e ∙ repeats bytes cs k 16 c (omega arith) (omega arith) in
     ap (takeHeader bytes (16 * suc k)) (sym f)
 
 -- what is played after k whole frames is the rest of the bytes, played from the context then
@@ -197,12 +163,12 @@ cut bytes cs k n c h l =
     let e : 16 * k / 2 ≡ 8 * k = omega arith in
     frames-then bytes cs k n c l ∙ rw (frames-play bytes cs k c h, e)
 
--- a header is taken even where no sample follows it
+-- exported: a header is taken even where no sample follows it
 pub header-alone : (bytes : List ℕ) (cs : List ℤ) (k : ℕ) (c : FrameContext) → 0 < k → play bytes cs (16 * k + 1) c ≡ takeHeader bytes (16 * k) (play bytes cs (16 * k) c)
 unfolding playFrame nibblesFrom
 header-alone bytes cs k c h = repeats bytes cs k 1 c (omega arith) (omega arith) ∙ frames-play bytes cs k c h
 
--- two blocks' bytes joined, the first of whole frames, play as the first and then the second from where the first ends
+-- exported: two blocks' bytes joined, the first of whole frames, play as the first and then the second from where the first ends
 pub join-plays : (first second : List ℕ) (cs : List ℤ) (k n : ℕ) (c : FrameContext) → length first ≡ 8 * k → 0 < k → 0 < n
     → play (first ++ second) cs (16 * k + n) c ≡ (let p = play first cs (16 * k) c in followed p (play second cs n (withHeader (p .context) (getD second 0 0))))
 join-plays first second cs k n c e h l =
@@ -265,7 +231,7 @@ play-on bytes cs m n c h k =
     ∙ from-more bytes cs n (m - 2) 2 (playing c []) (λ i. omega arith) (λ i. k (subst (λ (j : ℕ). j % 16 ≡ 1) f i))
     ∙ ap (λ (j : ℕ). playFrom bytes cs j n (playFrom bytes cs 2 (m - 2) (playing c []))) f
 
--- what a shorter length plays is a beginning of what a longer one plays
+-- exported: what a shorter length plays is a beginning of what a longer one plays
 pub play-begins : (bytes : List ℕ) (cs : List ℤ) (m n : ℕ) (c : FrameContext) → 2 ≤ m → (m % 16 ≡ 1 → ⊥)
     → play bytes cs (m + n) c .samples ≡ play bytes cs m c .samples ++ (playFrom bytes cs m n (playing (play bytes cs m c .context) []) .samples)
 play-begins bytes cs m n c h k =

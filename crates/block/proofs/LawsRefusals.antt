@@ -12,37 +12,37 @@ use lib.ListN.{getD}
 use mir.Facts.{toZ-ofZ}
 use mir.Syntax.{w16}
 use mir.Val.{SFits, toZ, ofZ}
-use Rattle.block.specs.Refusals.{same, badLength, lowestAmong, equalUpTo}
+use Rattle.block.specs.Refusals.{equal, badLength, lowestAmong, equalUpTo}
 
-pub same-refl : (x : ℤ) → same x x ≡ true
-same-refl (pos n) = eq-eqb n n refl
-same-refl (negsuc n) = eq-eqb n n refl
+pub equal-self : (x : ℤ) → equal x x ≡ true
+equal-self (pos n) = eq-eqb n n refl
+equal-self (negsuc n) = eq-eqb n n refl
 
-pub same-true : (x y : ℤ) → same x y ≡ true → x ≡ y
-same-true (pos m) (pos n) e = ap pos (eqb-true m n e)
-same-true (pos m) (negsuc n) e = absurd (let z : _≡_ {A = ℕ} 0 1 = cc in omega arith)
-same-true (negsuc m) (pos n) e = absurd (let z : _≡_ {A = ℕ} 0 1 = cc in omega arith)
-same-true (negsuc m) (negsuc n) e = ap negsuc (eqb-true m n e)
+pub equal-true : (x y : ℤ) → equal x y ≡ true → x ≡ y
+equal-true (pos m) (pos n) e = ap pos (eqb-true m n e)
+equal-true (pos m) (negsuc n) e = absurd (let z : _≡_ {A = ℕ} 0 1 = cc in omega arith)
+equal-true (negsuc m) (pos n) e = absurd (let z : _≡_ {A = ℕ} 0 1 = cc in omega arith)
+equal-true (negsuc m) (negsuc n) e = ap negsuc (eqb-true m n e)
 
 -- two numbers of 16 bits are equal where their bits are
-pub same-bits : (x y : ℤ) → SFits w16 x → SFits w16 y → eqb (ofZ w16 x) (ofZ w16 y) ≡ same x y
-same-bits x y f g = go (eqb (ofZ w16 x) (ofZ w16 y)) refl
+pub equal-bits : (x y : ℤ) → SFits w16 x → SFits w16 y → eqb (ofZ w16 x) (ofZ w16 y) ≡ equal x y
+equal-bits x y f g = go (eqb (ofZ w16 x) (ofZ w16 y)) refl
   where
-    other : (t : Bool) → same x y ≡ t → eqb (ofZ w16 x) (ofZ w16 y) ≡ false → false ≡ t
-    other true e h = absurd (eqb-false (ofZ w16 x) (ofZ w16 y) h (ap (ofZ w16) (same-true x y e)))
+    other : (t : Bool) → equal x y ≡ t → eqb (ofZ w16 x) (ofZ w16 y) ≡ false → false ≡ t
+    other true e h = absurd (eqb-false (ofZ w16 x) (ofZ w16 y) h (ap (ofZ w16) (equal-true x y e)))
     other false e h = refl
 
-    go : (t : Bool) → eqb (ofZ w16 x) (ofZ w16 y) ≡ t → t ≡ same x y
+    go : (t : Bool) → eqb (ofZ w16 x) (ofZ w16 y) ≡ t → t ≡ equal x y
     go true e =
         let h : x ≡ y = sym (toZ-ofZ f) ∙ ap (toZ w16) (eqb-true (ofZ w16 x) (ofZ w16 y) e) ∙ toZ-ofZ g in
-        sym (ap (same x) (sym h) ∙ same-refl x)
-    go false e = other (same x y) refl e
+        sym (ap (equal x) (sym h) ∙ equal-self x)
+    go false e = other (equal x y) refl e
 
-pub lowest-more : (cs : List ℤ) (k : ℕ) → lowestAmong cs (k + 1) ≡ (lowestAmong cs k || (same (getD cs (2 * k) (pos 0)) (negsuc 32767) && same (getD cs (2 * k + 1) (pos 0)) (negsuc 32767)))
+pub lowest-more : (cs : List ℤ) (k : ℕ) → lowestAmong cs (k + 1) ≡ (lowestAmong cs k || (equal (getD cs (2 * k) (pos 0)) (negsuc 32767) && equal (getD cs (2 * k + 1) (pos 0)) (negsuc 32767)))
 unfolding lowestAmong
 lowest-more cs k = rw (add-one k)
 
-pub equal-more : (cs ds : List ℤ) (k : ℕ) → equalUpTo cs ds (k + 1) ≡ (equalUpTo cs ds k && same (getD cs k (pos 0)) (getD ds k (pos 0)))
+pub equal-more : (cs ds : List ℤ) (k : ℕ) → equalUpTo cs ds (k + 1) ≡ (equalUpTo cs ds k && equal (getD cs k (pos 0)) (getD ds k (pos 0)))
 unfolding equalUpTo
 equal-more cs ds k = rw add-one
 

@@ -1,20 +1,20 @@
 -- Playing a block. Definitions only.
 use mathlib.Core.Bool.{cond}
 use mathlib.Core.List.{List, []}
-use Prim.Native.Nat.{ℕ, zero, suc, _+_, _-_, _*_, _/_, _%_}
+use Prim.Native.Nat.{ℕ, zero, suc, _+_, _-_, _/_, _%_}
 use lib.Dec.{eqb, ltb}
 use lib.IntN.{ℤ}
 use lib.ListN.{length, getD}
-use lib.Seq.{sets}
 use Rattle.block.specs.declared.FrameContext.{FrameContext}
 use Rattle.block.specs.declared.PlayAnswer.{PlayAnswer}
 use Rattle.block.specs.declared.PlayAnswer.the-variants as Answers
 use Rattle.block.specs.Address.{addressToSample}
 use Rattle.block.specs.Context.{withHeader}
-use Rattle.block.specs.Frame.{Playing, playing, nibbleAt, takeNibble, playFrame, Lent, lent}
-use Rattle.block.specs.Refusals.{Outcome, accepted, refused, numberOf, badLength, lowestPair}
+use Rattle.block.specs.Frame.{Playing, playing, nibbleAt, takeNibble, Lent, lent, into}
+use Rattle.block.specs.Refusals.{code, badLength, lowestPair}
+use Rattle.whole.specs.Outcome.{Outcome, accepted, refused}
 
--- take a new header
+-- the header at an address taken
 unfoldable pub takeHeader : List ℕ → ℕ → Playing → Playing
 takeHeader bytes a p = playing (withHeader (p .context) (getD bytes (a / 2) 0)) (p .samples)
 
@@ -32,27 +32,22 @@ play bytes cs len c = playFrom bytes cs 2 (len - 2) (playing c [])
 
 -- the samples in the output from its start on, and the final context
 unfoldable pub playInto : List ℕ → List ℤ → ℕ → FrameContext → List ℤ → Lent
-playInto bytes cs len c out =
-    let p = play bytes cs len c in
-    lent (p .context) (sets out 0 (p .samples))
-
--- the first k frames, all whole, each followed by the next one's header
-unfoldable pub playFrames : List ℕ → List ℤ → ℕ → Playing → Playing
-playFrames bytes cs zero p = p
-playFrames bytes cs (suc k) p = takeHeader bytes (16 * suc k) (playFrame bytes (8 * k) 14 cs (playFrames bytes cs k p))
+playInto bytes cs len c out = into out 0 (play bytes cs len c)
 
 -- what a call of playing leaves: its answer, the context and the output
 pub record PlayEffect : Type 0 where
-  pub outcome : Outcome
+  pub outcome : Outcome ℕ
   pub context : FrameContext
   pub out : List ℤ
 
-abbrev pub playEffect : Outcome → Lent → PlayEffect
+-- an outcome, and what is left, together
+abbrev pub playEffect : Outcome ℕ → Lent → PlayEffect
 playEffect o l = record { outcome = o; context = l .context; out = l .out }
 
-abbrev pub playOutcome : PlayAnswer → Outcome
+-- the sample count, or the refusal's number
+abbrev pub playOutcome : PlayAnswer → Outcome ℕ
 playOutcome (Answers.Played n) = accepted n
-playOutcome (Answers.Refused r) = refused (numberOf r)
+playOutcome (Answers.Refused r) = refused (code r)
 
 -- playing bytes: refusals 12, 13, 14 in that sequence, with the context given and the output unaltered; else the sample count
 unfoldable pub playBytes : List ℕ → ℕ → List ℤ → FrameContext → List ℤ → PlayEffect

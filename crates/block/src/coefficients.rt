@@ -1,21 +1,23 @@
 // What the tests of playing and joining ask of coefficients.
 ghost use mathlib.Core.Path.{_≡_};
 ghost use mathlib.Core.Bool.{_&&_, _||_};
-ghost use Rattle.block.specs.Refusals.{same, lowestPair, equalCoefficients};
+ghost use Rattle.block.specs.Refusals.{equal, lowestPair, equalCoefficients};
 
 // Whether two samples or coefficients are equal. It is internal: crate image calls it.
 pub fn equal(x: i16, y: i16) -> bool
-    ensures { λ r. ⌜ r ≡ same x y ⌝ }
+    ensures { λ r. ⌜ r ≡ equal x y ⌝ }
 {
     x == y
 }
 
+// Whether both hold.
 fn both(x: bool, y: bool) -> bool
     ensures { λ r. ⌜ r ≡ (x && y) ⌝ }
 {
     if x { y } else { false }
 }
 
+// Whether one of the two holds.
 fn either(x: bool, y: bool) -> bool
     ensures { λ r. ⌜ r ≡ (x || y) ⌝ }
 {

@@ -2,25 +2,28 @@
 pub mod coefficients;
 mod frame;
 mod join;
-mod play;
+pub mod play;
 mod sample;
 
+use whole::History;
+use whole::SAMPLES_PER_FRAME;
 ghost use mathlib.Core.Path.{_≡_};
 ghost use Rattle.block.specs.Address.{addressToSample, sampleToAddress};
-ghost use Rattle.block.specs.Context.{predictorOf, scaleOf, pushSample, withHeader, contextOf};
+ghost use Rattle.block.specs.Context.{predictor, scale, pushSample, withHeader, newContext};
 ghost use Prim.Native.Nat.{_+_, _*_, _≤_};
-ghost use lib.IntN.{pos};
 ghost use lib.ListN.{length};
-ghost use Rattle.block.specs.Frame.{frameInto, lent};
-ghost use Rattle.block.specs.Refusals.{numberOf};
+ghost use mathlib.Core.List.{[]};
+ghost use Rattle.block.specs.Frame.{playing, lent, into};
+ghost use Rattle.block.specs.inner.Frames.{playFrame};
+ghost use Rattle.block.specs.Refusals.{code};
 ghost use Rattle.block.specs.Play.{playBytes, playEffect, playOutcome};
-ghost use Rattle.block.specs.Join.{joinBlocks, joinEffect, joinOutcome};
+ghost use Rattle.block.specs.Join.{extendSamples, joinEffect, joinOutcome};
 
 // What playing carries from frame to frame: the header, and the newest sample and the one before it.
 #[repr(C)]
 pub struct FrameContext {
     pub predictor_and_scale: u16,
-    pub last_samples: [i16; 2],
+    pub last_samples: History,
 }
 
 // Why a call is refused.
@@ -52,25 +55,27 @@ pub struct Playback {
 impl FrameContext {
     // All zeros.
     pub fn new() -> FrameContext
-        ensures { λ r. ⌜ r ≡ contextOf 0 (pos 0) (pos 0) ⌝ }
+        ensures { λ r. ⌜ r ≡ newContext ⌝ }
     {
-        let last_samples = [0i16; 2];
         FrameContext {
             predictor_and_scale: 0,
-            last_samples: last_samples,
+            last_samples: History {
+                newest: 0,
+                older: 0,
+            },
         }
     }
 
     // The index of the coefficients' pair.
     pub fn predictor(self) -> usize
-        ensures { λ r. ⌜ r ≡ predictorOf (self .«predictor_and_scale») ⌝ }
+        ensures { λ r. ⌜ r ≡ predictor (self .«predictor_and_scale») ⌝ }
     {
         (self.predictor_and_scale / 16 % 8) as usize
     }
 
     // What a nibble is multiplied by.
     pub fn scale(self) -> u32
-        ensures { λ r. ⌜ r ≡ scaleOf (self .«predictor_and_scale») ⌝ }
+        ensures { λ r. ⌜ r ≡ scale (self .«predictor_and_scale») ⌝ }
     {
         1u32 << (self.predictor_and_scale % 16)
     }
@@ -91,10 +96,12 @@ impl FrameContext {
         ensures { λ r. ⌜ r ≡ pushSample self sample ⌝ }
     {
         let before = self.last_samples;
-        let last_samples = [sample, before[0]];
         FrameContext {
             predictor_and_scale: self.predictor_and_scale,
-            last_samples: last_samples,
+            last_samples: History {
+                newest: sample,
+                older: before.newest,
+            },
         }
     }
 }
@@ -106,9 +113,9 @@ pub fn address_to_sample(address: u32) -> u64
     let frame = (address / 16) as u64;
     let place = (address % 16) as u64;
     if place < 2 {
-        14 * frame
+        SAMPLES_PER_FRAME as u64 * frame
     } else {
-        14 * frame + (place - 2)
+        SAMPLES_PER_FRAME as u64 * frame + (place - 2)
     }
 }
 
@@ -117,7 +124,7 @@ pub fn sample_to_address(sample: u32) -> u64
     ensures { λ r. ⌜ r ≡ sampleToAddress sample ⌝ }
 {
     let s = sample as u64;
-    let frames = s / 14 + 1;
+    let frames = s / SAMPLES_PER_FRAME as u64 + 1;
     s + frames * 2
 }
 
@@ -133,20 +140,16 @@ pub fn play_frame(
     to: usize,
 ) -> FrameContext
     requires { ⌜ (2 * at + 2 + count ≤ 2 * length (now bytes)) × (to + count ≤ length (now out)) ⌝ }
-    ensures { λ r. ⌜ lent r (now (out .exit)) ≡ frameInto (now (bytes .entry)) at count coefficients context (now (out .entry)) to ⌝ }
+    ensures { λ r. ⌜ lent r (now (out .exit)) ≡ into (now (out .entry)) to (playFrame (now (bytes .entry)) at count coefficients (playing context [])) ⌝ }
 {
     let index = 2 * context.predictor();
     let c0 = coefficients[index];
     let c1 = coefficients[index + 1];
     let scale = context.scale();
     let history = context.last_samples;
-    let s0 = history[0];
-    let s1 = history[1];
-    let h = frame::play_nibbles(bytes, at + 1, count, c0, c1, scale, s0, s1, out, to);
-    let last_samples = [h.s0, h.s1];
     FrameContext {
         predictor_and_scale: context.predictor_and_scale,
-        last_samples: last_samples,
+        last_samples: frame::play_nibbles(bytes, at + 1, count, c0, c1, scale, history, out, to),
     }
 }
 
@@ -179,7 +182,7 @@ pub fn play_bytes(
             context: context,
         };
     }
-    let after = play::play_frames(bytes, len as usize, coefficients, context, out);
+    let after = play::play_into(bytes, len as usize, coefficients, context, out);
     Playback {
         answer: PlayAnswer::Played(count),
         context: after,
@@ -196,7 +199,7 @@ pub fn extend_samples(
     second_coefficients: [i16; 16],
     out: &mut [u8],
 ) -> JoinAnswer
-    ensures { λ r. ⌜ joinEffect (joinOutcome r) (now (out .exit)) ≡ joinBlocks (now (first .entry)) «first_len» «first_coefficients» (now (second .entry)) «second_len» «second_coefficients» (now (out .entry)) ⌝ }
+    ensures { λ r. ⌜ joinEffect (joinOutcome r) (now (out .exit)) ≡ extendSamples (now (first .entry)) «first_len» «first_coefficients» (now (second .entry)) «second_len» «second_coefficients» (now (out .entry)) ⌝ }
 {
     if join::shorter(out.len(), first.len(), second.len()) {
         return JoinAnswer::Refused(Refusal::OutputTooShort);
@@ -211,7 +214,7 @@ pub fn extend_samples(
 
 // Document 01's number of a refusal.
 pub fn code(refusal: Refusal) -> u32
-    ensures { λ r. ⌜ r ≡ numberOf refusal ⌝ }
+    ensures { λ r. ⌜ r ≡ code refusal ⌝ }
 {
     match refusal {
         Refusal::LengthOutOfRange => 12,

@@ -1,6 +1,8 @@
 // Playing a block, frame by frame.
 use crate::FrameContext;
 use crate::play_frame;
+use whole::BYTES_PER_FRAME;
+use whole::SAMPLES_PER_FRAME;
 ghost use mathlib.Core.Path.{_≡_};
 ghost use Prim.Native.Nat.{_-_, _*_, _≤_, _<_};
 ghost use lib.ListN.{length};
@@ -26,8 +28,8 @@ fn beyond_header(left: usize) -> usize
     if left < 2 { 0 } else { left - 2 }
 }
 
-// Whole frames while more nibbles follow, then the last frame.
-pub(crate) fn play_frames(
+// Plays a block of `len` nibbles: whole frames while more nibbles follow, then the last frame. It is internal: crate image calls it.
+pub fn play_into(
     bytes: &[u8],
     len: usize,
     coefficients: [i16; 16],
@@ -41,11 +43,27 @@ pub(crate) fn play_frames(
     let mut k: usize = 0;
     let mut left = len;
     while 16 < left {
-        let after = play_frame(bytes, 8 * k, 14, coefficients, current, out, 14 * k);
+        let after = play_frame(
+            bytes,
+            BYTES_PER_FRAME * k,
+            SAMPLES_PER_FRAME,
+            coefficients,
+            current,
+            out,
+            SAMPLES_PER_FRAME * k,
+        );
         k += 1;
         left -= 16;
-        current = after.with_header(bytes[8 * k]);
+        current = after.with_header(bytes[BYTES_PER_FRAME * k]);
     }
     let count = beyond_header(left);
-    play_frame(bytes, 8 * k, count, coefficients, current, out, 14 * k)
+    play_frame(
+        bytes,
+        BYTES_PER_FRAME * k,
+        count,
+        coefficients,
+        current,
+        out,
+        SAMPLES_PER_FRAME * k,
+    )
 }

@@ -1,165 +1,98 @@
-// Replays a list of the Rust's answers on blocks. A line of the input is a record of 178 bytes in hexadecimal digits of lower case:
-// 0 what to do (0 play, 1 join, 2 addresses), 1 and 2 how many bytes the two blocks have, 3 the output's length, 4 and 8 the lengths
-// in nibbles (four bytes each, the first also the address), 12 the context's header and its two samples, 18 and 50 the two
-// blocks' coefficients, 82 and 130 their bytes. The output has 5A in each byte at first. A line of the answers: 00 or the
-// refusal's number, the count or the lengths' sum, the context after playing, the output; or the two addresses' values.
-ghost use Prim.Native.Nat.{_+_, _≤_, _<_};
+// Replays a list of the Rust's answers on blocks. A line of the input is numbers in hexadecimal digits of lower case, here with their first
+// digit's place: 0 what to do (0 play, 1 join, 2 addresses), 2 and 4 how many bytes the two blocks have, 6 the output's length (two digits
+// each), 8 and 16 the lengths in nibbles (eight each, the first also the address), 24 the context's header and its two samples, 36 and 100
+// the two blocks' coefficients (four each), 164 and 260 their bytes. The output has 5A in each byte at first. A line of the answers: 00
+// or the refusal's number, the count or the lengths' sum, the context after playing, the output; or the two addresses' values.
+ghost use Prim.Native.Nat.{_+_, _≤_};
 ghost use mathlib.Core.Path.{_≡_};
 ghost use lib.ListN.{length};
 use block::FrameContext;
 use block::JoinAnswer;
 use block::PlayAnswer;
-
-// The number of a hexadecimal digit.
-fn digit(c: u8) -> u8
-    ensures { λ r. ⌜ r < 16 ⌝ }
-{
-    if c < 58 {
-        return c % 16;
-    }
-    (c % 16 + 9) % 16
-}
-
-// The bytes of a line.
-fn unhex(line: &[u8; 357], record: &mut [u8; 178]) {
-    let mut i: usize = 0;
-    while i < 178 {
-        record[i] = digit(line[2 * i]) * 16 + digit(line[2 * i + 1]);
-        i += 1;
-    }
-}
-
-fn wide(x: u8) -> u32
-    ensures { λ r. ⌜ r < 256 ⌝ }
-{
-    x as u32
-}
-
-// The two bytes at a place, high byte first.
-fn word(record: &[u8; 178], at: usize) -> u32
-    requires { ⌜ at + 2 ≤ 178 ⌝ }
-    ensures { λ r. ⌜ r < 65536 ⌝ }
-{
-    wide(record[at]) * 256 + wide(record[at + 1])
-}
-
-// The signed number of 16 bits.
-fn signed(v: u32) -> i16 {
-    if v < 32768 {
-        return whole::clamp_i16(v as i64);
-    }
-    whole::clamp_i16(v as i64 - 65536)
-}
-
-// The bits of a sample.
-fn bits(x: i16) -> u16 {
-    if x < 0 {
-        return (x as i32 + 65536) as u16;
-    }
-    x as u16
-}
+use replay::byte;
+use replay::double_word;
+use replay::least;
+use replay::print_bytes;
+use replay::print_field;
+use replay::print_samples;
+use replay::print_space;
+use replay::read_samples;
+use replay::sample;
+use replay::word;
 
 // The 48 bytes at a place.
-fn part(record: &[u8; 178], at: usize) -> [u8; 48]
-    requires { ⌜ at + 48 ≤ 178 ⌝ }
+fn part(line: &[u8; 357], at: usize) -> [u8; 48]
+    requires { ⌜ at + 96 ≤ 357 ⌝ }
     ensures { λ r. ⌜ 48 ≡ length r ⌝ }
 {
     let mut bytes = [0u8; 48];
     let mut i: usize = 0;
     while i < 48 {
-        bytes[i] = record[at + i];
+        bytes[i] = byte(line, at + 2 * i);
         i += 1;
     }
     bytes
 }
 
-fn least(x: usize, y: usize) -> usize
-    ensures { λ r. ⌜ r ≤ y ⌝ }
-{
-    if x < y { x } else { y }
-}
-
 // The sixteen coefficients at a place.
-fn coefficients(record: &[u8; 178], at: usize) -> [i16; 16]
-    requires { ⌜ at + 32 ≤ 178 ⌝ }
+fn coefficients(line: &[u8; 357], at: usize) -> [i16; 16]
+    requires { ⌜ at + 64 ≤ 357 ⌝ }
 {
     let mut cs = [0i16; 16];
-    let mut i: usize = 0;
-    while i < 16 {
-        cs[i] = signed(word(record, at + 2 * i));
-        i += 1;
-    }
+    read_samples(line, at, &mut cs);
     cs
-}
-
-fn print_samples(samples: &[i16]) {
-    let mut i: usize = 0;
-    while i < samples.len() {
-        io::print_hex(1, bits(samples[i]) as u64, 4);
-        i += 1;
-    }
-}
-
-fn print_bytes(bytes: &[u8]) {
-    let mut i: usize = 0;
-    while i < bytes.len() {
-        io::print_hex(1, wide(bytes[i]) as u64, 2);
-        i += 1;
-    }
 }
 
 // Zero, or the refusal's number, and the value.
 fn print_answer(code: u32, value: u64) {
     io::print_hex(1, code as u64, 2);
-    io::write_all(1, b" ");
-    io::print_hex(1, value, 9);
-    io::write_all(1, b" ");
+    print_field(value, 9);
+    print_space();
 }
 
+// Writes a context's header and its two samples.
 fn print_context(context: FrameContext) {
     io::print_hex(1, context.predictor_and_scale as u64, 4);
-    print_samples(&context.last_samples);
-    io::write_all(1, b" ");
+    let history = context.last_samples;
+    print_samples(&[history.newest, history.older]);
+    print_space();
 }
 
+// An output of samples before a call.
 fn fresh_samples() -> [i16; 96]
     ensures { λ r. ⌜ 96 ≡ length r ⌝ }
 {
     [23130; 96]
 }
 
+// An output of bytes before a call.
 fn fresh_bytes() -> [u8; 96]
     ensures { λ r. ⌜ 96 ≡ length r ⌝ }
 {
     [90; 96]
 }
 
-// The number of four bytes at a place.
-fn double_word(record: &[u8; 178], at: usize) -> u32
-    requires { ⌜ at + 4 ≤ 178 ⌝ }
-{
-    word(record, at) * 65536 + word(record, at + 2)
-}
-
-// A byte of the record, or the most that it may be.
-fn size(record: &[u8; 178], at: usize, most: usize) -> usize
-    requires { ⌜ at < 178 ⌝ }
+// The number of two digits, or the most that it may be.
+fn size(line: &[u8; 357], at: usize, most: usize) -> usize
+    requires { ⌜ at + 2 ≤ 357 ⌝ }
     ensures { λ r. ⌜ r ≤ most ⌝ }
 {
-    least(wide(record[at]) as usize, most)
+    least(byte(line, at) as usize, most)
 }
 
 // Plays a block and prints what it leaves.
-fn play_to(record: &[u8; 178], bytes: &[u8], out: &mut [i16]) {
-    let last_samples = [signed(word(record, 14)), signed(word(record, 16))];
+fn play_to(line: &[u8; 357], bytes: &[u8], out: &mut [i16]) {
     let context = FrameContext {
-        predictor_and_scale: word(record, 12) as u16,
-        last_samples: last_samples,
+        predictor_and_scale: word(line, 24),
+        last_samples: whole::History {
+            newest: sample(line, 28),
+            older: sample(line, 32),
+        },
     };
     let r = block::play_bytes(
         bytes,
-        double_word(record, 4),
-        coefficients(record, 18),
+        double_word(line, 8),
+        coefficients(line, 36),
         context,
         out,
     );
@@ -172,24 +105,25 @@ fn play_to(record: &[u8; 178], bytes: &[u8], out: &mut [i16]) {
     print_samples(out);
 }
 
-fn play(record: &[u8; 178]) {
-    let n = size(record, 1, 48);
-    let room = size(record, 3, 96);
-    let bytes = part(record, 82);
+// Replays a line of playing.
+fn play(line: &[u8; 357]) {
+    let n = size(line, 2, 48);
+    let room = size(line, 6, 96);
+    let bytes = part(line, 164);
     let mut out = fresh_samples();
-    play_to(record, &bytes[..n], &mut out[..room]);
+    play_to(line, &bytes[..n], &mut out[..room]);
 }
 
 // Joins two blocks and prints what it leaves.
-fn join_to(record: &[u8; 178], first: &[u8], second: &[u8], out: &mut [u8]) {
-    let cs = coefficients(record, 18);
-    let ds = coefficients(record, 50);
+fn join_to(line: &[u8; 357], first: &[u8], second: &[u8], out: &mut [u8]) {
+    let cs = coefficients(line, 36);
+    let ds = coefficients(line, 100);
     match block::extend_samples(
         first,
-        double_word(record, 4),
+        double_word(line, 8),
         cs,
         second,
-        double_word(record, 8),
+        double_word(line, 16),
         ds,
         out,
     ) {
@@ -199,18 +133,20 @@ fn join_to(record: &[u8; 178], first: &[u8], second: &[u8], out: &mut [u8]) {
     print_bytes(out);
 }
 
-fn join(record: &[u8; 178]) {
-    let n = size(record, 1, 48);
-    let m = size(record, 2, 48);
-    let room = size(record, 3, 96);
-    let first = part(record, 82);
-    let second = part(record, 130);
+// Replays a line of joining.
+fn join(line: &[u8; 357]) {
+    let n = size(line, 2, 48);
+    let m = size(line, 4, 48);
+    let room = size(line, 6, 96);
+    let first = part(line, 164);
+    let second = part(line, 260);
     let mut out = fresh_bytes();
-    join_to(record, &first[..n], &second[..m], &mut out[..room]);
+    join_to(line, &first[..n], &second[..m], &mut out[..room]);
 }
 
-fn addresses(record: &[u8; 178]) {
-    let x = double_word(record, 4);
+// Replays a line of addresses.
+fn addresses(line: &[u8; 357]) {
+    let x = double_word(line, 8);
     print_answer(0, block::address_to_sample(x));
     io::print_hex(1, block::sample_to_address(x), 9);
 }
@@ -222,18 +158,18 @@ fn replay() -> bool {
     if n < 357 {
         return false;
     }
-    let mut record = [0u8; 178];
-    unhex(&line, &mut record);
-    if record[0] == 0 {
-        play(&record);
-    } else if record[0] == 1 {
-        join(&record);
+    let task = byte(&line, 0);
+    if task == 0 {
+        play(&line);
+    } else if task == 1 {
+        join(&line);
     } else {
-        addresses(&record);
+        addresses(&line);
     }
     io::write_all(1, b"\n")
 }
 
+// Replays every line of the input.
 fn main() {
     let mut turns: u32 = 1_000_000;
     while turns > 0 && replay() {

@@ -13,8 +13,9 @@ use mir.Syntax.{w16}
 use mir.Val.{ofZ, toZ, SFits}
 use Rattle.whole.proofs.Stores.{sets-append, sets-then}
 use Rattle.layout.specs.Fields.{be16, be32, sample16}
-use Rattle.clip.specs.Image.{coefficientBytes, headOf}
-use Rattle.layout.specs.Sizes.{blocksOf}
+use Rattle.clip.specs.Image.{startShape, coefficientBytes, headBytes}
+use Rattle.clip.specs.declared.starting.Start.{Start}
+use Rattle.layout.specs.Sizes.{blockCount}
 
 -- three runs one after the other
 pub runs3 : (l l₁ l₂ l₃ a b c : List ℕ) (at p q : ℕ) → l₁ ≡ sets l at a → l₂ ≡ sets l₁ p b → l₃ ≡ sets l₂ q c → p ≡ at + length a → q ≡ p + length b → l₃ ≡ sets l at (a ++ (b ++ c))
@@ -59,9 +60,10 @@ pub runs4 : (l l₁ l₂ l₃ l₄ a b c d : List ℕ) (at p q r : ℕ) → l₁
 runs4 l l₁ l₂ l₃ l₄ a b c d at p q r e₁ e₂ e₃ e₄ hp hq hr =
     runs3 l₁ l₂ l₃ l₄ b c d p q r e₂ e₃ e₄ hq hr ∙ ap (λ (m : List ℕ). sets m p (b ++ (c ++ d))) e₁ ∙ sets-then l at p a (b ++ (c ++ d)) hp
 
-pub head-length : (first : List ℕ) (n rate b : ℕ) (cs : List ℤ) (gain : ℕ) → length first ≡ 4 → length cs ≡ 16 → length (headOf first n rate b cs gain) ≡ 56
-unfolding headOf
-head-length first n rate b cs gain p q =
-    let t : List ℕ = be16 gain ++ (0 ∷ 0 ∷ be32 (blocksOf n b)) in
-    let r : List ℕ = be32 n ++ (be32 rate ++ (be32 b ++ (coefficientBytes cs ++ t))) in
+pub head-length : (first : List ℕ) (g : Start) → length first ≡ 4 → length (g .coefficients) ≡ 16 → length (headBytes first g) ≡ 56
+unfolding headBytes
+head-length first g p q =
+    let cs = g .coefficients in
+    let t : List ℕ = be16 (g .gain) ++ (0 ∷ 0 ∷ be32 (blockCount (startShape g))) in
+    let r : List ℕ = be32 (g .total) ++ (be32 (g .rate) ++ (be32 (g .block) ++ (coefficientBytes cs ++ t))) in
     omega (arith, length-append first r, length-append (coefficientBytes cs) t, coefficient-length cs)

@@ -1,17 +1,17 @@
 -- Laws.
-pub mod Sound
+pub mod ValidState
 pub mod FieldRuns
 pub mod Tables
 pub mod Accepting
 pub mod Storing
 pub mod Pieces
-pub mod Ending
+pub mod LastFrame
 pub mod Stable
-pub mod Built
-pub mod Following
+pub mod ImageByFrames
+pub mod StateOfSamples
 pub mod WholeRuns
-pub mod Cuts
-pub mod Tails
-pub mod Due
-pub mod Agreeing
-pub mod SteppingBack
+pub mod CutPieces
+pub mod UnheardTail
+pub mod UnwrittenBytes
+pub mod SameSoFar
+pub mod Undo

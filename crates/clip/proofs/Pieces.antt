@@ -12,21 +12,21 @@ use lib.ListN.{length, take, getD, set}
 use lib.Seq.{sets, length-sets, take-suc}
 use Rattle.frame.specs.Frame.{encodeFrame, historyAfter}
 use Rattle.frame.specs.declared.EncodedFrame.{EncodedFrame}
-use Rattle.frame.specs.declared.History.{History}
+use Rattle.whole.specs.declared.History.{History}
 use Rattle.frame.proofs.LawsEncoded.{frame-passes}
 use Rattle.clip.specs.declared.Encoder.{Encoder}
-use Rattle.layout.specs.Sizes.{sizeOf}
+use Rattle.layout.specs.declared.Shape.{Shape}
 use Rattle.clip.specs.Image.{contextBytes}
-use Rattle.clip.specs.Encoding.{Both, both, storeOf, moved, noFrame, pushOf, pieceOf}
-use Rattle.layout.specs.Sizes.{placeOf, contextPlace}
-use Rattle.clip.specs.Facts.{Going}
+use Rattle.clip.specs.Encoding.{encoderShape, Left, left, store, moved, noFrame, push, feedAll}
+use Rattle.layout.specs.Sizes.{framePlace, contextPlace}
+use Rattle.clip.specs.inner.Asked.{Going}
 
 -- storing keeps the length
-pub store-length : (n b q : ℕ) (t : List ℕ) (h : History) (image : List ℕ) → length (storeOf n b q t h image) ≡ length image
-unfolding storeOf
-store-length n b q t h image = go (eqb (q % (b / 8)) 0)
+pub store-length : (s : Shape) (q : ℕ) (t : List ℕ) (h : History) (image : List ℕ) → length (store s q t h image) ≡ length image
+unfolding store
+store-length s q t h image = go (eqb (q % (s .block / 8)) 0)
   where
-    go : (v : Bool) → length (cond v (sets (sets image (placeOf n b q) t) (contextPlace (q / (b / 8))) (contextBytes (getD t 0 0) h)) (sets image (placeOf n b q) t)) ≡ length image
+    go : (v : Bool) → length (cond v (sets (sets image (framePlace s q) t) (contextPlace (q / (s .block / 8))) (contextBytes (getD t 0 0) h)) (sets image (framePlace s q) t)) ≡ length image
     go true = simp length-sets
     go false = simp length-sets
 
@@ -35,15 +35,15 @@ module _ (e : Encoder) (image : List ℕ) (x : ℤ) (i m : ℕ) where
   frame : EncodedFrame
   frame = encodeFrame (e .history) (set (e .frame) (e .fed % 14) x) (e .coefficients)
 
-  pub going-next : i < m → Going e i m (length image) → Going (pushOf (both e image) x .encoder) (i + 1) m (length image) × (length (pushOf (both e image) x .bytes) ≡ length image)
-  unfolding pushOf frame
+  pub going-next : i < m → Going e i m (length image) → Going (push (left e image) x .encoder) (i + 1) m (length image) × (length (push (left e image) x .bytes) ≡ length image)
+  unfolding push frame
   going-next l g = go (eqb (e .fed % 14) 13) refl
     where
-      full : Both
-      full = both (moved e (e .fed + 1) (historyAfter (e .history) (frame .samples) 14) noFrame (e .passes + frame .passes) (e .closed)) (storeOf (e .total) (e .block) (e .fed / 14) (frame .bytes) (e .history) image)
+      full : Left
+      full = left (moved e (e .fed + 1) (historyAfter (e .history) (frame .samples) 14) noFrame (e .passes + frame .passes) (e .closed)) (store (encoderShape e) (e .fed / 14) (frame .bytes) (e .history) image)
 
-      part : Both
-      part = both (moved e (e .fed + 1) (e .history) (set (e .frame) (e .fed % 14) x) (e .passes) (e .closed)) image
+      part : Left
+      part = left (moved e (e .fed + 1) (e .history) (set (e .frame) (e .fed % 14) x) (e .passes) (e .closed)) image
 
       go : (v : Bool) → eqb (e .fed % 14) 13 ≡ v → Going (cond v full part .encoder) (i + 1) m (length image) × (length (cond v full part .bytes) ≡ length image)
       go true t =
@@ -51,7 +51,7 @@ module _ (e : Encoder) (image : List ℕ) (x : ℤ) (i m : ℕ) where
           let p = frame-passes (e .history) (set (e .frame) (e .fed % 14) x) (e .coefficients) in
           let s = g .rest in
           let k = g .count in
-          (record { limits = g .limits; within = g .within; rest = omega arith; count = omega arith; size = g .size }, store-length (e .total) (e .block) (e .fed / 14) (frame .bytes) (e .history) image)
+          (record { limits = g .limits; within = g .within; rest = omega arith; count = omega arith; size = g .size }, store-length (encoderShape e) (e .fed / 14) (frame .bytes) (e .history) image)
       go false t =
           let r = eqb-false (e .fed % 14) 13 t in
           let s = g .rest in
@@ -59,22 +59,22 @@ module _ (e : Encoder) (image : List ℕ) (x : ℤ) (i m : ℕ) where
           (record { limits = g .limits; within = g .within; rest = omega arith; count = omega arith; size = g .size }, refl)
 
 -- the first i samples and one more are the first i + 1
-pub piece-next : (s : Both) (xs : List ℤ) (i : ℕ) → i < length xs → pushOf (pieceOf s (take i xs)) (getD xs i (pos 0)) ≡ pieceOf s (take (i + 1) xs)
+pub piece-next : (s : Left) (xs : List ℤ) (i : ℕ) → i < length xs → push (feedAll s (take i xs)) (getD xs i (pos 0)) ≡ feedAll s (take (i + 1) xs)
 piece-next s xs i h =
-    sym (foldl-append pushOf s (take i xs) (getD xs i (pos 0) ∷ []))
-    ∙ ap (λ (l : List ℤ). foldl pushOf s l) (sym (take-suc xs i (pos 0) h))
-    ∙ ap (λ (k : ℕ). foldl pushOf s (take k xs)) (sym (add-one i))
+    sym (foldl-append push s (take i xs) (getD xs i (pos 0) ∷ []))
+    ∙ ap (λ (l : List ℤ). foldl push s l) (sym (take-suc xs i (pos 0) h))
+    ∙ ap (λ (k : ℕ). foldl push s (take k xs)) (sym (add-one i))
 
 -- a turn of the loop
-pub turn : (s : Both) (xs : List ℤ) (i : ℕ) (e : Encoder) (image : List ℕ) (r : Encoder) (out : List ℕ) → i < length xs
-    → both e image ≡ pieceOf s (take i xs) → Going e i (length xs) (length (s .bytes)) → length image ≡ length (s .bytes)
-    → both r out ≡ pushOf (both e image) (getD xs i (pos 0))
-    → (i + 1 ≤ length xs) × (both r out ≡ pieceOf s (take (i + 1) xs)) × Going r (i + 1) (length xs) (length (s .bytes)) × (length out ≡ length (s .bytes))
+pub turn : (s : Left) (xs : List ℤ) (i : ℕ) (e : Encoder) (image : List ℕ) (r : Encoder) (out : List ℕ) → i < length xs
+    → left e image ≡ feedAll s (take i xs) → Going e i (length xs) (length (s .bytes)) → length image ≡ length (s .bytes)
+    → left r out ≡ push (left e image) (getD xs i (pos 0))
+    → (i + 1 ≤ length xs) × (left r out ≡ feedAll s (take (i + 1) xs)) × Going r (i + 1) (length xs) (length (s .bytes)) × (length out ≡ length (s .bytes))
 turn s xs i e image r out lt inv g el p =
     let g′ = subst (λ (k : ℕ). Going e i (length xs) k) (sym el) g in
     let n = going-next e image (getD xs i (pos 0)) i (length xs) lt g′ in (
       omega arith,
-      p ∙ ap (λ (t : Both). pushOf t (getD xs i (pos 0))) inv ∙ piece-next s xs i lt,
-      subst (λ (t : Both). Going (t .encoder) (i + 1) (length xs) (length (s .bytes))) (sym p) (subst (λ (k : ℕ). Going (pushOf (both e image) (getD xs i (pos 0)) .encoder) (i + 1) (length xs) k) el (n .0)),
-      ap (λ (t : Both). length (t .bytes)) p ∙ n .1 ∙ el,
+      p ∙ ap (λ (t : Left). push t (getD xs i (pos 0))) inv ∙ piece-next s xs i lt,
+      subst (λ (t : Left). Going (t .encoder) (i + 1) (length xs) (length (s .bytes))) (sym p) (subst (λ (k : ℕ). Going (push (left e image) (getD xs i (pos 0)) .encoder) (i + 1) (length xs) k) el (n .0)),
+      ap (λ (t : Left). length (t .bytes)) p ∙ n .1 ∙ el,
     )

@@ -9,13 +9,14 @@ use lib.Dec.{ltb}
 use lib.IntN.{ℤ}
 use lib.ListN.{length, getD, length-append}
 use Rattle.whole.specs.Frames.{frameAt}
-use Rattle.whole.proofs.Framing.{frame-stable}
+use Rattle.whole.proofs.CutIntoFrames.{frame-stable}
 use Rattle.frame.specs.Frame.{encodeFrame, historyAfter}
 use Rattle.frame.specs.declared.EncodedFrame.{EncodedFrame}
-use Rattle.frame.specs.declared.History.{History}
+use Rattle.whole.specs.declared.History.{History}
 use Rattle.frame.proofs.LawsEncoded.{frame-lengths, frame-passes}
 use Rattle.clip.specs.Image.{contextBytes, noContext}
-use Rattle.clip.specs.Runs.{Start, historyAt, encodedAt, bodiesOf, passesOf, contextAt}
+use Rattle.clip.specs.declared.starting.Start.{Start}
+use Rattle.clip.specs.Runs.{historyAt, encodedAt, bodies, passesUpTo, contextAt}
 
 module _ (g : Start) (xs ys : List ℤ) where
   pub history-stable : (i : ℕ) → 14 * i ≤ length xs → historyAt g (xs ++ ys) i ≡ historyAt g xs i
@@ -28,13 +29,13 @@ module _ (g : Start) (xs ys : List ℤ) where
   unfolding encodedAt
   encoded-stable i k = ap₂ (λ (h : History) (f : List ℤ). encodeFrame h f (g .coefficients)) (history-stable i (omega arith)) (frame-stable xs ys i k)
 
-  pub bodies-stable : (i : ℕ) → 14 * i ≤ length xs → bodiesOf g (xs ++ ys) i ≡ bodiesOf g xs i
-  unfolding bodiesOf
+  pub bodies-stable : (i : ℕ) → 14 * i ≤ length xs → bodies g (xs ++ ys) i ≡ bodies g xs i
+  unfolding bodies
   bodies-stable zero k = refl
   bodies-stable (suc i) k = ap₂ (λ (a : List ℕ) (c : EncodedFrame). a ++ c .bytes) (bodies-stable i (omega arith)) (encoded-stable i (omega arith))
 
-  pub passes-stable : (i : ℕ) → 14 * i ≤ length xs → passesOf g (xs ++ ys) i ≡ passesOf g xs i
-  unfolding passesOf
+  pub passes-stable : (i : ℕ) → 14 * i ≤ length xs → passesUpTo g (xs ++ ys) i ≡ passesUpTo g xs i
+  unfolding passesUpTo
   passes-stable zero k = refl
   passes-stable (suc i) k = ap₂ (λ (a : ℕ) (c : EncodedFrame). a + c .passes) (passes-stable i (omega arith)) (encoded-stable i (omega arith))
 
@@ -62,13 +63,13 @@ module _ (g : Start) (xs : List ℤ) where
   unfolding encodedAt
   encoded-passes i = frame-passes (historyAt g xs i) (frameAt xs i) (g .coefficients)
 
-  pub bodies-length : (i : ℕ) → length (bodiesOf g xs i) ≡ 8 * i
-  unfolding bodiesOf
+  pub bodies-length : (i : ℕ) → length (bodies g xs i) ≡ 8 * i
+  unfolding bodies
   bodies-length zero = refl
-  bodies-length (suc i) = length-append (bodiesOf g xs i) (encodedAt g xs i .bytes) ∙ omega (arith, bodies-length i, encoded-length i)
+  bodies-length (suc i) = length-append (bodies g xs i) (encodedAt g xs i .bytes) ∙ omega (arith, bodies-length i, encoded-length i)
 
-  pub passes-most : (i : ℕ) → passesOf g xs i ≤ 104 * i
-  unfolding passesOf
+  pub passes-most : (i : ℕ) → passesUpTo g xs i ≤ 104 * i
+  unfolding passesUpTo
   passes-most zero = omega arith
   passes-most (suc i) = omega (arith, passes-most i, encoded-passes i)
 

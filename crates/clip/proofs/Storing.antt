@@ -10,44 +10,44 @@ use lib.ListN.{length, take, set, getD}
 use lib.Seq.{sets, take-all}
 use Rattle.frame.specs.Frame.{encodeFrame, historyAfter}
 use Rattle.frame.specs.declared.EncodedFrame.{EncodedFrame}
-use Rattle.frame.specs.declared.History.{History}
+use Rattle.whole.specs.declared.History.{History}
 use Rattle.frame.proofs.LawsEncoded.{frame-lengths, frame-passes}
 use Rattle.clip.specs.declared.Encoder.{Encoder}
-use Rattle.layout.specs.Sizes.{lastOf, blocksOf, bodyOf, sizeOf}
+use Rattle.layout.specs.Sizes.{lastSamples, blockCount, bodyBytes, imageSize}
 use Rattle.whole.specs.Frames.{framesOf}
 use Rattle.clip.specs.Image.{contextBytes}
-use Rattle.clip.specs.Encoding.{both, storeOf, moved, noFrame, pushOf}
-use Rattle.layout.specs.Sizes.{placeOf, contextPlace}
-use Rattle.layout.specs.Limits.{Limits}
-use Rattle.clip.specs.Facts.{Room, Going}
-use Rattle.layout.proofs.Sizing.{frames-le, blocks-most, first-block}
+use Rattle.clip.specs.Encoding.{encoderShape, left, store, moved, noFrame, push}
+use Rattle.layout.specs.Sizes.{framePlace, contextPlace}
+use Rattle.layout.specs.declared.Shape.{Shape}
+use Rattle.clip.specs.inner.Asked.{Room, Going}
+use Rattle.layout.proofs.SizeLaws.{frames-le, blocks-most, first-block}
 
 -- ---- room
 
-module _ (n b q k len : ℕ) (r : Room n b q k len) where
-  pub room-few : (q < 1048576) × (blocksOf n b ≤ 1048576)
-  room-few = (omega (arith, frames-le n (r .limits .few), r .frame), blocks-most n b (r .limits))
+module _ (s : Shape) (q k len : ℕ) (r : Room s q k len) where
+  pub room-few : (q < 1048576) × (blockCount s ≤ 1048576)
+  room-few = (omega (arith, frames-le (s .total) (r .limits .few), r .frame), blocks-most s (r .limits))
 
   -- the frame's bytes
-  pub room-place : 56 + 16 * blocksOf n b + 8 * q + k ≤ len
-  unfolding sizeOf
+  pub room-place : framePlace s q + k ≤ len
+  unfolding imageSize
   room-place = omega (arith, r .body, r .size)
 
   -- the context of the block that the frame is the first of
-  pub room-context : q % (b / 8) ≡ 0 → (q / (b / 8) < 1048576) × (56 + 16 * (q / (b / 8)) + 8 + 6 ≤ len)
-  unfolding sizeOf
+  pub room-context : q % (s .block / 8) ≡ 0 → (q / (s .block / 8) < 1048576) × (contextPlace (q / (s .block / 8)) + 6 ≤ len)
+  unfolding imageSize
   room-context e =
-      let h = first-block n b q (r .limits) (r .frame) e in
-      let m = blocks-most n b (r .limits) in
-      let s = r .size in
+      let h = first-block s q (r .limits) (r .frame) e in
+      let m = blocks-most s (r .limits) in
+      let t = r .size in
       (omega arith, omega arith)
 
 -- a frame that sample k fills has its eight bytes in a clip of n samples
-pub full-frame : (n k : ℕ) → k < n → k % 14 ≡ 13 → (k / 14 < framesOf n) × (8 * (k / 14) + 8 ≤ bodyOf n)
-unfolding bodyOf lastOf framesOf
+pub full-frame : (n k : ℕ) → k < n → k % 14 ≡ 13 → (k / 14 < framesOf n) × (8 * (k / 14) + 8 ≤ bodyBytes n)
+unfolding bodyBytes lastSamples framesOf
 full-frame n k h e = (omega arith, omega arith)
 
-pub full-room : (e : Encoder) (i m len : ℕ) → Going e i m len → i < m → e .fed % 14 ≡ 13 → Room (e .total) (e .block) (e .fed / 14) 8 len
+pub full-room : (e : Encoder) (i m len : ℕ) → Going e i m len → i < m → e .fed % 14 ≡ 13 → Room (encoderShape e) (e .fed / 14) 8 len
 full-room e i m len g lt h =
     let r = g .rest in
     let f = full-frame (e .total) (e .fed) (omega arith) h in
@@ -60,20 +60,18 @@ first-byte zero t h = absurd (omega arith)
 first-byte (suc k) [] h = refl
 first-byte (suc k) (x ∷ t) h = refl
 
-module _ (n b q k kk : ℕ) (t image stored : List ℕ) (h : History) (same : kk ≡ blocksOf n b) (put : stored ≡ sets image (56 + 16 * kk + 8 * q) (take k t)) where
-  placed : stored ≡ sets image (placeOf n b q) (take k t)
-  placed = put ∙ ap (λ (a : ℕ). sets image (56 + 16 * a + 8 * q) (take k t)) same
-
-  pub with-context : (out : List ℕ) → 1 ≤ k → q % (b / 8) ≡ 0 → out ≡ sets stored (contextPlace (q / (b / 8))) (contextBytes (getD t 0 0) h) → out ≡ storeOf n b q (take k t) h image
-  unfolding storeOf
+module _ (s : Shape) (q k : ℕ) (t image stored : List ℕ) (h : History) (put : stored ≡ sets image (framePlace s q) (take k t)) where
+  pub with-context : (out : List ℕ) → 1 ≤ k → q % (s .block / 8) ≡ 0
+      → out ≡ sets stored (contextPlace (q / (s .block / 8))) (contextBytes (getD t 0 0) h) → out ≡ store s q (take k t) h image
+  unfolding store
   with-context out one e f =
       f
-      ∙ ap₂ (λ (l : List ℕ) (v : ℕ). sets l (contextPlace (q / (b / 8))) (contextBytes v h)) placed (sym (first-byte k t one))
-      ∙ rw (eq-eqb (q % (b / 8)) 0 e)
+      ∙ ap₂ (λ (l : List ℕ) (v : ℕ). sets l (contextPlace (q / (s .block / 8))) (contextBytes v h)) put (sym (first-byte k t one))
+      ∙ rw (eq-eqb (q % (s .block / 8)) 0 e)
 
-  pub without-context : (q % (b / 8) ≡ 0 → ⊥) → stored ≡ storeOf n b q (take k t) h image
-  unfolding storeOf
-  without-context e = placed ∙ rw (ne-eqb (q % (b / 8)) 0 e)
+  pub without-context : (q % (s .block / 8) ≡ 0 → ⊥) → stored ≡ store s q (take k t) h image
+  unfolding store
+  without-context e = put ∙ rw (ne-eqb (q % (s .block / 8)) 0 e)
 
 -- ---- one sample
 
@@ -94,9 +92,9 @@ module _ (e : Encoder) (x : ℤ) (image : List ℕ) where
 
   -- it fills the frame
   pub push-full : (after : History) (passes : ℕ) (out : List ℕ) → e .fed % 14 ≡ 13 → after ≡ historyAfter (e .history) (c .samples) 14 → passes ≡ c .passes
-      → out ≡ storeOf (e .total) (e .block) (e .fed / 14) (c .bytes) (e .history) image
-      → both (moved e (e .fed + 1) after noFrame (e .passes + passes) (e .closed)) out ≡ pushOf (both e image) x
-  unfolding pushOf
+      → out ≡ store (encoderShape e) (e .fed / 14) (c .bytes) (e .history) image
+      → left (moved e (e .fed + 1) after noFrame (e .passes + passes) (e .closed)) out ≡ push (left e image) x
+  unfolding push
   push-full after passes out h ea ep eo = rw (eq-eqb (e .fed % 14) 13 h, eo, ea, ep)
 
   -- the passes stay within their bound
@@ -109,6 +107,6 @@ module _ (e : Encoder) (x : ℤ) (image : List ℕ) where
       omega (arith, f, r, k, b, ep)
 
   -- it does not
-  pub push-part : (e .fed % 14 ≡ 13 → ⊥) → both (moved e (e .fed + 1) (e .history) filled (e .passes) (e .closed)) image ≡ pushOf (both e image) x
-  unfolding pushOf
+  pub push-part : (e .fed % 14 ≡ 13 → ⊥) → left (moved e (e .fed + 1) (e .history) filled (e .passes) (e .closed)) image ≡ push (left e image) x
+  unfolding push
   push-part h = rw (ne-eqb (e .fed % 14) 13 h)

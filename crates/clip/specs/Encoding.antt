@@ -1,78 +1,91 @@
 -- Starting, feeding and closing: what each call does to the encoding state and to the image's bytes. Definitions only.
-use Rattle.layout.specs.Limits.{totalOk, blockOk, numbersOk}
-use Rattle.layout.specs.Sizes.{placeOf, contextPlace}
 use mathlib.Core.Bool.{Bool, true, false, not, cond, _&&_}
-use mathlib.Core.List.{List, [], _∷_, _++_, foldl}
+use mathlib.Core.List.{List, foldl}
 use Prim.Native.Nat.{ℕ, _+_, _-_, _*_, _/_, _%_}
 use lib.Dec.{eqb, leb, ltb}
 use lib.IntN.{ℤ, pos}
 use lib.ListN.{length, getD, take, set, replicate}
 use lib.Seq.{sets}
-use Rattle.frame.specs.Frame.{encodeFrame, historyAfter, withinLimits}
+use Rattle.whole.specs.Frames.{framesOf}
+use Rattle.whole.specs.Outcome.{Outcome, accepted, refused}
+use Rattle.layout.specs.declared.Shape.{Shape}
+use Rattle.layout.specs.Fields.{mark}
+use Rattle.layout.specs.Limits.{totalOk, blockOk, numbersOk}
+use Rattle.layout.specs.Sizes.{shape, imageSize, framePlace, contextPlace}
+use Rattle.frame.specs.Frame.{encodeFrame, historyAfter, coefficientsOk}
 use Rattle.frame.specs.declared.EncodedFrame.{EncodedFrame}
-use Rattle.frame.specs.declared.History.{History}
+use Rattle.whole.specs.declared.History.{History}
 use Rattle.clip.specs.declared.Answer.{Answer}
 use Rattle.clip.specs.declared.Answer.the-variants.{Accepted, Refused}
 use Rattle.clip.specs.declared.Encoder.{Encoder}
+use Rattle.clip.specs.declared.starting.Start.{Start}
 use Rattle.clip.specs.declared.Refusal.{Refusal}
 use Rattle.clip.specs.declared.Refusal.the-variants.{InvalidState, BadSampleCount, RateZero, BadBlockSize, CoefficientOutside, ImageTooShort, AlreadyClosed, PieceTooLong, Unfinished}
-use Rattle.layout.specs.Sizes.{lastOf, blocksOf, sizeOf, cutDown}
-use Rattle.whole.specs.Frames.{most, framesOf}
-use Rattle.layout.specs.Fields.{mark}
-use Rattle.clip.specs.Image.{contextBytes, freshOf}
+use Rattle.clip.specs.Image.{cut, startShape, contextBytes, freshBytes}
+
+-- ---- answers
 
 -- document 01's number of each refusal
-abbrev pub numberOf : Refusal → ℕ
-numberOf InvalidState = 1
-numberOf BadSampleCount = 4
-numberOf RateZero = 5
-numberOf BadBlockSize = 6
-numberOf CoefficientOutside = 7
-numberOf ImageTooShort = 8
-numberOf AlreadyClosed = 9
-numberOf PieceTooLong = 10
-numberOf Unfinished = 11
+abbrev pub code : Refusal → ℕ
+code InvalidState = 1
+code BadSampleCount = 4
+code RateZero = 5
+code BadBlockSize = 6
+code CoefficientOutside = 7
+code ImageTooShort = 8
+code AlreadyClosed = 9
+code PieceTooLong = 10
+code Unfinished = 11
 
--- ---- a state and its image
+-- what an answer says: accepted, with no values, or the refusal's number
+abbrev pub outcome : Answer → Outcome Unit
+outcome Accepted = accepted tt
+outcome (Refused r) = refused (code r)
 
-pub record Both : Type 0 where
+-- the state and the image's bytes that a call leaves
+pub record Left : Type 0 where
   pub encoder : Encoder
   pub bytes : List ℕ
 
-abbrev pub both : Encoder → List ℕ → Both
-both e l = record { encoder = e; bytes = l }
+abbrev pub left : Encoder → List ℕ → Left
+left e l = record { encoder = e; bytes = l }
 
 -- what a call answers and leaves
-pub record Out : Type 0 where
-  pub answer : Answer
+pub record Effect : Type 0 where
+  pub outcome : Outcome Unit
   pub encoder : Encoder
   pub bytes : List ℕ
 
-abbrev pub outOf : Answer → Both → Out
-outOf a s = record { answer = a; encoder = s .encoder; bytes = s .bytes }
+abbrev pub effect : Outcome Unit → Left → Effect
+effect o s = record { outcome = o; encoder = s .encoder; bytes = s .bytes }
 
 -- ---- the state test, code 1
 
+-- the shape of the clip that a state encodes
+abbrev pub encoderShape : Encoder → Shape
+encoderShape e = shape (e .total) (e .block)
+
 -- "the frames encoded (⌊n/14⌋, F when closed)"
-abbrev pub encodedOf : ℕ → ℕ → Bool → ℕ
-encodedOf n total closed = cond closed (framesOf total) (n / 14)
+abbrev pub encodedFrames : ℕ → ℕ → Bool → ℕ
+encodedFrames n total closed = cond closed (framesOf total) (n / 14)
 
 -- "closed with n < N", "passes above 104 × the frames encoded"
 unfoldable pub countsOk : ℕ → ℕ → Bool → ℕ → Bool
-countsOk n total closed passes = not (closed && ltb n total) && leb passes (104 * encodedOf n total closed)
+countsOk n total closed passes = not (closed && ltb n total) && leb passes (104 * encodedFrames n total closed)
 
 -- a state with none of these, nor "a coefficient outside 7"
-unfoldable pub validOf : Encoder → Bool
-validOf e =
-    numbersOk (e .fed) (e .total) (e .block) (e .rate) && (withinLimits (e .coefficients) && countsOk (e .fed) (e .total) (e .closed) (e .passes))
+unfoldable pub valid : Encoder → Bool
+valid e =
+    numbersOk (e .fed) (e .total) (e .block) (e .rate) && (coefficientsOk (e .coefficients) && countsOk (e .fed) (e .total) (e .closed) (e .passes))
 
 -- ---- a frame is stored
 
 -- "Each full frame is encoded to its place; a block's first frame also fills its entry's context: the header byte, and the history before it"
-unfoldable pub storeOf : ℕ → ℕ → ℕ → List ℕ → History → List ℕ → List ℕ
-storeOf n b q bytes h image =
-    let stored = sets image (placeOf n b q) bytes in
-    cond (eqb (q % (b / 8)) 0) (sets stored (contextPlace (q / (b / 8))) (contextBytes (getD bytes 0 0) h)) stored
+unfoldable pub store : Shape → ℕ → List ℕ → History → List ℕ → List ℕ
+store s q bytes h image =
+    let per = s .block / 8 in
+    let stored = sets image (framePlace s q) bytes in
+    cond (eqb (q % per) 0) (sets stored (contextPlace (q / per)) (contextBytes (getD bytes 0 0) h)) stored
 
 -- the state with other n, history, unfinished frame, passes and closed
 abbrev pub moved : Encoder → ℕ → History → List ℤ → ℕ → Bool → Encoder
@@ -97,91 +110,108 @@ noFrame = replicate 14 (pos 0)
 -- ---- a piece is fed
 
 -- one sample
-unfoldable pub pushOf : Both → ℤ → Both
-unfolding storeOf
-pushOf s x =
+unfoldable pub push : Left → ℤ → Left
+unfolding store
+push s x =
     let e = s .encoder in
     let f = set (e .frame) (e .fed % 14) x in
     let c = encodeFrame (e .history) f (e .coefficients) in
     cond (eqb (e .fed % 14) 13)
-    (both (moved e (e .fed + 1) (historyAfter (e .history) (c .samples) 14) noFrame (e .passes + c .passes) (e .closed))
-    (storeOf (e .total) (e .block) (e .fed / 14) (c .bytes) (e .history) (s .bytes)))
-    (both (moved e (e .fed + 1) (e .history) f (e .passes) (e .closed)) (s .bytes))
+    (left (moved e (e .fed + 1) (historyAfter (e .history) (c .samples) 14) noFrame (e .passes + c .passes) (e .closed))
+    (store (encoderShape e) (e .fed / 14) (c .bytes) (e .history) (s .bytes)))
+    (left (moved e (e .fed + 1) (e .history) f (e .passes) (e .closed)) (s .bytes))
 
 -- the samples of a piece in turn
-abbrev pub pieceOf : Both → List ℤ → Both
-pieceOf s xs = foldl pushOf s xs
+abbrev pub feedAll : Left → List ℤ → Left
+feedAll s xs = foldl push s xs
 
 -- codes 1, 8, 9, 10
-unfoldable pub feedAnswer : Encoder → ℕ → ℕ → Answer
+unfoldable pub feedAnswer : Encoder → ℕ → ℕ → Outcome Unit
 feedAnswer e piece size =
-    cond (not (validOf e)) (Refused InvalidState)
-    (cond (ltb size (sizeOf (e .total) (e .block))) (Refused ImageTooShort)
-    (cond (e .closed) (Refused AlreadyClosed)
-    (cond (ltb (e .total - e .fed) piece) (Refused PieceTooLong)
-    Accepted)))
+    cond (not (valid e)) (refused 1)
+    (cond (ltb size (imageSize (encoderShape e))) (refused 8)
+    (cond (e .closed) (refused 9)
+    (cond (ltb (e .total - e .fed) piece) (refused 10)
+    (accepted tt))))
 
-abbrev pub feedBy : Answer → Both → List ℤ → Out
-feedBy Accepted s xs = outOf Accepted (pieceOf s xs)
-feedBy (Refused r) s xs = outOf (Refused r) s
+abbrev pub feedBy : Outcome Unit → Left → List ℤ → Effect
+feedBy (accepted u) s xs = effect (accepted u) (feedAll s xs)
+feedBy (refused n) s xs = effect (refused n) s
 
-unfoldable pub feedOf : Encoder → List ℤ → List ℕ → Out
-feedOf e xs l = feedBy (feedAnswer e (length xs) (length l)) (both e l) xs
+-- a piece is fed: answer, state and image
+unfoldable pub feed : Encoder → List ℤ → List ℕ → Effect
+feed e xs l = feedBy (feedAnswer e (length xs) (length l)) (left e l) xs
 
 -- ---- the clip is closed
 
 -- "Closing pads and encodes a short last frame, stores only its 1 + ⌈m/2⌉ bytes, and writes the mark"
-unfoldable pub endOf : Both → Both
-unfolding storeOf
-endOf s =
+unfoldable pub finish : Left → Left
+unfolding store
+finish s =
     let e = s .encoder in
     let m = e .fed % 14 in
     let f = sets (e .frame) m (replicate (14 - m) (pos 0)) in
     let c = encodeFrame (e .history) f (e .coefficients) in
     cond (eqb m 0)
-    (both (moved e (e .fed) (e .history) noFrame (e .passes) true) (sets (s .bytes) 0 mark))
-    (both (moved e (e .fed) (historyAfter (e .history) (c .samples) m) noFrame (e .passes + c .passes) true)
-    (sets (storeOf (e .total) (e .block) (e .fed / 14) (take (1 + (m + 1) / 2) (c .bytes)) (e .history) (s .bytes)) 0 mark))
+    (left (moved e (e .fed) (e .history) noFrame (e .passes) true) (sets (s .bytes) 0 mark))
+    (left (moved e (e .fed) (historyAfter (e .history) (c .samples) m) noFrame (e .passes + c .passes) true)
+    (sets (store (encoderShape e) (e .fed / 14) (take (1 + (m + 1) / 2) (c .bytes)) (e .history) (s .bytes)) 0 mark))
 
 -- codes 1, 8, 9, 11
-unfoldable pub closeAnswer : Encoder → ℕ → Answer
+unfoldable pub closeAnswer : Encoder → ℕ → Outcome Unit
 closeAnswer e size =
-    cond (not (validOf e)) (Refused InvalidState)
-    (cond (ltb size (sizeOf (e .total) (e .block))) (Refused ImageTooShort)
-    (cond (e .closed) (Refused AlreadyClosed)
-    (cond (ltb (e .fed) (e .total)) (Refused Unfinished)
-    Accepted)))
+    cond (not (valid e)) (refused 1)
+    (cond (ltb size (imageSize (encoderShape e))) (refused 8)
+    (cond (e .closed) (refused 9)
+    (cond (ltb (e .fed) (e .total)) (refused 11)
+    (accepted tt))))
 
-abbrev pub closeBy : Answer → Both → Out
-closeBy Accepted s = outOf Accepted (endOf s)
-closeBy (Refused r) s = outOf (Refused r) s
+abbrev pub closeBy : Outcome Unit → Left → Effect
+closeBy (accepted u) s = effect (accepted u) (finish s)
+closeBy (refused n) s = effect (refused n) s
 
-unfoldable pub closeOf : Encoder → List ℕ → Out
-closeOf e l = closeBy (closeAnswer e (length l)) (both e l)
+-- the clip is closed: answer, state and image
+unfoldable pub close : Encoder → List ℕ → Effect
+close e l = closeBy (closeAnswer e (length l)) (left e l)
 
 -- ---- a clip is started
 
-abbrev pub beginning : ℕ → ℕ → ℕ → ℕ → List ℤ → History → Encoder
-beginning n rate b gain cs h =
-    record { total = n; rate = rate; block = b; gain = gain; coefficients = cs; fed = 0; history = h; frame = noFrame; passes = 0; closed = false }
+-- the state before the first sample
+abbrev pub begun : Start → Encoder
+begun g =
+    record {
+      total = g .total;
+      rate = g .rate;
+      block = g .block;
+      gain = g .gain;
+      coefficients = g .coefficients;
+      fed = 0;
+      history = g .history;
+      frame = noFrame;
+      passes = 0;
+      closed = false;
+    }
 
 -- what a refused start gives: all zeros, which every call refuses
 abbrev pub noEncoder : Encoder
-noEncoder = beginning 0 0 0 0 (replicate 16 (pos 0)) (record { newest = pos 0; older = pos 0 })
+noEncoder =
+    begun
+    (record { total = 0; rate = 0; block = 0; gain = 0; coefficients = replicate 16 (pos 0); history = record { newest = pos 0; older = pos 0 } })
 
 -- codes 4, 5, 6, 7, 8
-unfoldable pub startAnswer : ℕ → ℕ → ℕ → List ℤ → ℕ → Answer
-startAnswer n rate size cs room =
-    cond (not (totalOk n)) (Refused BadSampleCount)
-    (cond (eqb rate 0) (Refused RateZero)
-    (cond (not (blockOk size)) (Refused BadBlockSize)
-    (cond (not (withinLimits cs)) (Refused CoefficientOutside)
-    (cond (ltb room (sizeOf n (cutDown size))) (Refused ImageTooShort)
-    Accepted))))
+unfoldable pub startAnswer : Start → ℕ → Outcome Unit
+startAnswer g size =
+    cond (not (totalOk (g .total))) (refused 4)
+    (cond (eqb (g .rate) 0) (refused 5)
+    (cond (not (blockOk (g .block))) (refused 6)
+    (cond (not (coefficientsOk (g .coefficients))) (refused 7)
+    (cond (ltb size (imageSize (startShape (cut g)))) (refused 8)
+    (accepted tt)))))
 
-abbrev pub startBy : Answer → ℕ → ℕ → ℕ → ℕ → List ℤ → History → List ℕ → Out
-startBy Accepted n rate b gain cs h l = outOf Accepted (both (beginning n rate b gain cs h) (sets l 0 (freshOf n rate b cs gain)))
-startBy (Refused r) n rate b gain cs h l = outOf (Refused r) (both noEncoder l)
+abbrev pub startBy : Outcome Unit → Start → List ℕ → Effect
+startBy (accepted u) g l = effect (accepted u) (left (begun g) (sets l 0 (freshBytes g)))
+startBy (refused n) g l = effect (refused n) (left noEncoder l)
 
-unfoldable pub startOf : ℕ → ℕ → ℕ → ℕ → List ℤ → History → List ℕ → Out
-startOf n rate size gain cs h l = startBy (startAnswer n rate size cs (length l)) n rate (cutDown size) gain cs h l
+-- a clip is started: answer, state and image
+unfoldable pub start : Start → List ℕ → Effect
+start g l = startBy (startAnswer g (length l)) (cut g) l

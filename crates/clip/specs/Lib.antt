@@ -1,6 +1,7 @@
 -- What the contracts cite.
 pub mod Image
 pub mod Encoding
-pub mod Facts
 pub mod Runs
-pub mod Steps
+pub mod Undo
+pub mod Unheard
+pub mod inner

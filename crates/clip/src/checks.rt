@@ -1,17 +1,40 @@
 // The tests of the calls, in document 01's sequence.
 ghost use mathlib.Core.Path.{_≡_};
 ghost use Prim.Native.Nat.{_≤_};
-ghost use Rattle.clip.specs.Encoding.{encodedOf};
+ghost use Rattle.clip.specs.Encoding.{encodedFrames, encoderShape};
 ghost use Rattle.whole.specs.Frames.{framesOf};
-ghost use Rattle.layout.specs.Limits.{numbersOk};
-ghost use Rattle.clip.specs.Encoding.{countsOk, validOf, feedAnswer, closeAnswer, startAnswer};
+ghost use Rattle.layout.specs.Sizes.{shape};
+ghost use Rattle.clip.specs.Encoding.{outcome, countsOk, valid, feedAnswer, closeAnswer, startAnswer};
 use crate::Answer;
 use crate::Encoder;
 use crate::Refusal;
+use crate::starting::Start;
 use frame::coefficients_ok;
+use layout::Shape;
 use layout::limits::numbers_ok;
+use layout::sizes::cut_down;
 use layout::sizes::frames;
-use layout::sizes::size;
+use layout::sizes::image_size;
+use whole::MOST_SAMPLES;
+use whole::SAMPLES_PER_FRAME;
+
+// The shape of a clip of N samples in blocks of B bytes, with no entries after those of its blocks.
+pub(crate) fn shape_of(total: u32, block: u32) -> Shape
+    ensures { λ r. ⌜ r ≡ shape total block ⌝ }
+{
+    Shape {
+        total: total as usize,
+        block: block as usize,
+        extra: 0,
+    }
+}
+
+// The shape of the clip that a state encodes.
+pub(crate) fn encoder_shape(e: Encoder) -> Shape
+    ensures { λ r. ⌜ r ≡ encoderShape e ⌝ }
+{
+    shape_of(e.total, e.block)
+}
 
 // Whether the clip is closed only when whole, and the passes are not too many.
 fn counts_ok(n: usize, total: usize, closed: bool, passes: usize) -> bool
@@ -23,12 +46,12 @@ fn counts_ok(n: usize, total: usize, closed: bool, passes: usize) -> bool
             return false;
         }
     }
-    passes <= 104 * encoded(n, total, closed)
+    passes <= 104 * encoded_frames(n, total, closed)
 }
 
 // The state test, code 1.
 fn valid(e: Encoder) -> bool
-    ensures { λ r. ⌜ r ≡ validOf e ⌝ }
+    ensures { λ r. ⌜ r ≡ valid e ⌝ }
 {
     let n = e.fed;
     let total = e.total;
@@ -37,8 +60,8 @@ fn valid(e: Encoder) -> bool
     if !numbers_ok(n, total, block, rate) {
         return false;
     }
-    let cs = e.coefficients;
-    if !coefficients_ok(cs) {
+    let coefficients = e.coefficients;
+    if !coefficients_ok(coefficients) {
         return false;
     }
     let closed = e.closed;
@@ -48,15 +71,15 @@ fn valid(e: Encoder) -> bool
 
 // Codes 1, 8, 9 and 10, for a piece of some length and an image buffer of some size.
 pub(crate) fn feed_answer(e: Encoder, piece: usize, room: usize) -> Answer
-    ensures { λ r. ⌜ r ≡ feedAnswer e piece room ⌝ }
+    ensures { λ r. ⌜ outcome r ≡ feedAnswer e piece room ⌝ }
 {
     if !valid(e) {
         return Answer::Refused(Refusal::InvalidState);
     }
     let n = e.fed as usize;
     let total = e.total as usize;
-    let block = e.block as usize;
-    if room < size(total, block) {
+    let shape = encoder_shape(e);
+    if room < image_size(shape) {
         return Answer::Refused(Refusal::ImageTooShort);
     }
     let closed = e.closed;
@@ -71,15 +94,15 @@ pub(crate) fn feed_answer(e: Encoder, piece: usize, room: usize) -> Answer
 
 // Codes 1, 8, 9 and 11.
 pub(crate) fn close_answer(e: Encoder, room: usize) -> Answer
-    ensures { λ r. ⌜ r ≡ closeAnswer e room ⌝ }
+    ensures { λ r. ⌜ outcome r ≡ closeAnswer e room ⌝ }
 {
     if !valid(e) {
         return Answer::Refused(Refusal::InvalidState);
     }
     let n = e.fed;
     let total = e.total;
-    let block = e.block;
-    if room < size(total as usize, block as usize) {
+    let clip = encoder_shape(e);
+    if room < image_size(clip) {
         return Answer::Refused(Refusal::ImageTooShort);
     }
     let closed = e.closed;
@@ -93,40 +116,46 @@ pub(crate) fn close_answer(e: Encoder, room: usize) -> Answer
 }
 
 // Codes 4, 5, 6, 7 and 8.
-pub(crate) fn start_answer(n: u32, rate: u32, wanted: u32, cs: [i16; 16], room: usize) -> Answer
-    ensures { λ r. ⌜ r ≡ startAnswer n rate wanted cs room ⌝ }
+pub(crate) fn start_answer(g: Start, room: usize) -> Answer
+    ensures { λ r. ⌜ outcome r ≡ startAnswer g room ⌝ }
 {
-    if n < 1 {
+    let total = g.total;
+    if total < 1 {
         return Answer::Refused(Refusal::BadSampleCount);
     }
-    if n > 14_680_064 {
+    if total > MOST_SAMPLES {
         return Answer::Refused(Refusal::BadSampleCount);
     }
+    let rate = g.rate;
     if rate == 0 {
         return Answer::Refused(Refusal::RateZero);
     }
+    let wanted = g.block;
     if wanted < 8 {
         return Answer::Refused(Refusal::BadBlockSize);
     }
     if wanted > 65_536 {
         return Answer::Refused(Refusal::BadBlockSize);
     }
-    if !coefficients_ok(cs) {
+    let coefficients = g.coefficients;
+    if !coefficients_ok(coefficients) {
         return Answer::Refused(Refusal::CoefficientOutside);
     }
-    if room < size(n as usize, (wanted / 8 * 8) as usize) {
+    let asked = shape_of(total, cut_down(wanted));
+    if room < image_size(asked) {
         return Answer::Refused(Refusal::ImageTooShort);
     }
     Answer::Accepted
 }
 
 // Frames that are encoded after n samples.
-pub(crate) fn encoded(n: usize, total: usize, closed: bool) -> usize
+pub(crate) fn encoded_frames(n: usize, total: usize, closed: bool) -> usize
     requires { ⌜ (n ≤ total) × (total ≤ 14680064) ⌝ }
-    ensures { λ r. ⌜ (r ≡ encodedOf n total closed) × (r ≤ 1048576) ⌝ }
+    ensures same { λ r. ⌜ r ≡ encodedFrames n total closed ⌝ }
+    ensures most { λ r. ⌜ r ≤ 1048576 ⌝ }
 {
     if closed {
         return frames(total);
     }
-    n / 14
+    n / SAMPLES_PER_FRAME
 }

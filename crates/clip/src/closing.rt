@@ -4,13 +4,15 @@ ghost use Prim.Native.Nat.{_-_, _≤_};
 ghost use lib.IntN.{pos};
 ghost use lib.ListN.{length, replicate};
 ghost use lib.Seq.{sets};
-ghost use Rattle.clip.specs.Encoding.{both, endOf};
-ghost use Rattle.clip.specs.Facts.{Whole};
+ghost use Rattle.clip.specs.Encoding.{left, finish};
+ghost use Rattle.clip.specs.inner.Asked.{Whole};
 use crate::Encoder;
+use crate::checks::encoder_shape;
 use crate::contents::put_mark;
 use crate::feeding::store;
 use frame::encode_frame;
 use frame::history_after;
+use whole::SAMPLES_PER_FRAME;
 
 // A frame whose samples from place m on are zero.
 fn padded(frame: [i16; 14], m: usize) -> [i16; 14]
@@ -19,7 +21,7 @@ fn padded(frame: [i16; 14], m: usize) -> [i16; 14]
 {
     let mut f = frame;
     let mut j: usize = m;
-    while j < 14 {
+    while j < SAMPLES_PER_FRAME {
         f[j] = 0;
         j += 1;
     }
@@ -29,7 +31,7 @@ fn padded(frame: [i16; 14], m: usize) -> [i16; 14]
 // Encodes a short last frame and writes the mark.
 pub(crate) fn finish(e: Encoder, image: &mut [u8]) -> Encoder
     requires { ⌜ Whole e (length (now image)) ⌝ }
-    ensures { λ r. ⌜ both r (now (image .exit)) ≡ endOf (both e (now (image .entry))) ⌝ }
+    ensures { λ r. ⌜ left r (now (image .exit)) ≡ finish (left e (now (image .entry))) ⌝ }
 {
     let n = e.fed;
     let m = (n % 14) as usize;
@@ -45,17 +47,8 @@ pub(crate) fn finish(e: Encoder, image: &mut [u8]) -> Encoder
         let t = encode_frame(h, f, cs);
         let b = t.bytes;
         let s = t.samples;
-        let total = e.total as usize;
-        let block = e.block as usize;
-        store(
-            image,
-            total,
-            block,
-            (n / 14) as usize,
-            b,
-            1 + (m + 1) / 2,
-            h,
-        );
+        let shape = encoder_shape(e);
+        store(image, shape, (n / 14) as usize, b, 1 + (m + 1) / 2, h);
         let after = history_after(h, s, m);
         c.history = after;
         c.passes = e.passes + t.passes;

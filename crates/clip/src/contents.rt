@@ -6,18 +6,22 @@ ghost use lib.ListN.{length, replicate};
 ghost use lib.Seq.{sets};
 ghost use Rattle.layout.specs.Limits.{Limits};
 ghost use Rattle.layout.specs.Fields.{be16, be32, mark, noMark};
-ghost use Rattle.clip.specs.Image.{noContext, contextBytes, coefficientBytes, headOf, tableOf, freshOf};
-ghost use Rattle.layout.specs.Sizes.{blocksOf, lengthOf, sizeOf};
-use frame::History;
+ghost use Rattle.clip.specs.Image.{noContext, contextBytes, coefficientBytes, startShape, headBytes, tableBytes, freshBytes};
+ghost use Rattle.layout.specs.Sizes.{blockCount, bodiesPlace, imageSize};
+use crate::checks::shape_of;
+use crate::starting::Start;
 use layout::MARK;
+use layout::Shape;
 use layout::fields::bits16;
 use layout::fields::put16;
 use layout::fields::put32;
 use layout::fields::zeros;
+use layout::sizes::block_count;
 use layout::sizes::block_length;
-use layout::sizes::blocks;
-use layout::sizes::body;
-use layout::sizes::frames;
+use layout::sizes::bodies_place;
+use layout::sizes::body_bytes;
+use layout::sizes::entry_place;
+use whole::History;
 
 // The mark, at the image's start.
 pub(crate) fn put_mark(image: &mut [u8])
@@ -42,13 +46,13 @@ pub(crate) fn put_context(image: &mut [u8], at: usize, header: u8, history: Hist
 }
 
 // The coefficients, two bytes each.
-pub(crate) fn put_coefficients(image: &mut [u8], cs: [i16; 16])
+pub(crate) fn put_coefficients(image: &mut [u8], coefficients: [i16; 16])
     requires { ⌜ 48 ≤ length (now image) ⌝ }
-    ensures { λ _. ⌜ now (image .exit) ≡ sets (now (image .entry)) 16 (coefficientBytes cs) ⌝ }
+    ensures { λ _. ⌜ now (image .exit) ≡ sets (now (image .entry)) 16 (coefficientBytes coefficients) ⌝ }
 {
     let mut i: usize = 0;
     while i < 16 {
-        put16(image, 16 + 2 * i, bits16(cs[i]));
+        put16(image, 16 + 2 * i, bits16(coefficients[i]));
         i += 1;
     }
 }
@@ -63,16 +67,19 @@ pub(crate) fn put_entry(image: &mut [u8], at: usize, offset: u32, nibbles: u32)
     zeros(image, at + 8, 8);
 }
 
-// The contents: kk entries with no contexts.
-pub(crate) fn put_table(image: &mut [u8], total: usize, block: usize, kk: usize)
-    requires { ⌜ Limits total block × (kk ≡ blocksOf total block) × (56 + 16 * kk ≤ length (now image)) ⌝ }
-    ensures { λ _. ⌜ now (image .exit) ≡ sets (now (image .entry)) 56 (tableOf (λ j. noContext) total block 0 kk) ⌝ }
+// The contents: an entry with no context for each block.
+pub(crate) fn put_table(image: &mut [u8], shape: Shape)
+    requires { ⌜ Limits shape × (bodiesPlace shape ≤ length (now image)) ⌝ }
+    ensures { λ _. ⌜ now (image .exit) ≡ sets (now (image .entry)) 56 (tableBytes (λ j. noContext) shape 0 (blockCount shape)) ⌝ }
 {
+    let bodies = bodies_place(shape);
+    let blocks = block_count(shape);
+    let block = shape.block;
     let mut k: usize = 0;
-    while k < kk {
-        let offset = 56 + 16 * kk + k * block;
-        let nibbles = block_length(total, block, k);
-        put_entry(image, 56 + 16 * k, offset as u32, nibbles as u32);
+    while k < blocks {
+        let offset = bodies + k * block;
+        let nibbles = block_length(shape, k);
+        put_entry(image, entry_place(k), offset as u32, nibbles as u32);
         k += 1;
     }
 }
@@ -88,41 +95,35 @@ fn put_numbers(image: &mut [u8], total: u32, rate: u32, block: u32)
 }
 
 // Gain, two zero bytes and K.
-fn put_rest(image: &mut [u8], gain: u16, kk: u32)
+fn put_rest(image: &mut [u8], gain: u16, blocks: u32)
     requires { ⌜ 56 ≤ length (now image) ⌝ }
-    ensures { λ _. ⌜ now (image .exit) ≡ sets (now (image .entry)) 48 (be16 gain ++ (replicate 2 0 ++ be32 kk)) ⌝ }
+    ensures { λ _. ⌜ now (image .exit) ≡ sets (now (image .entry)) 48 (be16 gain ++ (replicate 2 0 ++ be32 blocks)) ⌝ }
 {
     put16(image, 48, gain);
     zeros(image, 50, 2);
-    put32(image, 52, kk);
+    put32(image, 52, blocks);
 }
 
 // The head with no mark.
-fn put_head(image: &mut [u8], total: u32, rate: u32, block: u32, gain: u16, cs: [i16; 16], kk: u32)
-    requires { ⌜ (56 ≤ length (now image)) × (kk ≡ blocksOf total block) ⌝ }
-    ensures { λ _. ⌜ now (image .exit) ≡ sets (now (image .entry)) 0 (headOf noMark total rate block cs gain) ⌝ }
+fn put_head(image: &mut [u8], g: Start, blocks: u32)
+    requires { ⌜ (56 ≤ length (now image)) × (blocks ≡ blockCount (startShape g)) ⌝ }
+    ensures { λ _. ⌜ now (image .exit) ≡ sets (now (image .entry)) 0 (headBytes noMark g) ⌝ }
 {
+    let coefficients = g.coefficients;
     zeros(image, 0, 4);
-    put_numbers(image, total, rate, block);
-    put_coefficients(image, cs);
-    put_rest(image, gain, kk);
+    put_numbers(image, g.total, g.rate, g.block);
+    put_coefficients(image, coefficients);
+    put_rest(image, g.gain, blocks);
 }
 
 // All the bytes of a clip's start.
-pub(crate) fn put_fresh(
-    image: &mut [u8],
-    total: u32,
-    rate: u32,
-    block: u32,
-    gain: u16,
-    cs: [i16; 16],
-)
-    requires { ⌜ Limits total block × (sizeOf total block ≤ length (now image)) ⌝ }
-    ensures { λ _. ⌜ now (image .exit) ≡ sets (now (image .entry)) 0 (freshOf total rate block cs gain) ⌝ }
+pub(crate) fn put_fresh(image: &mut [u8], g: Start)
+    requires { ⌜ Limits (startShape g) × (imageSize (startShape g) ≤ length (now image)) ⌝ }
+    ensures { λ _. ⌜ now (image .exit) ≡ sets (now (image .entry)) 0 (freshBytes g) ⌝ }
 {
-    let kk = blocks(total as usize, block as usize);
-    let bodies = body(total as usize);
-    put_head(image, total, rate, block, gain, cs, kk as u32);
-    put_table(image, total as usize, block as usize, kk);
-    zeros(image, 56 + 16 * kk, bodies);
+    let shape = shape_of(g.total, g.block);
+    let blocks = block_count(shape);
+    put_head(image, g, blocks as u32);
+    put_table(image, shape);
+    zeros(image, bodies_place(shape), body_bytes(shape.total));
 }

@@ -2,35 +2,38 @@
 ghost use mathlib.Core.Path.{_≡_};
 ghost use mathlib.Core.Bool.{true};
 ghost use lib.ListN.{length, take};
-ghost use Rattle.frame.specs.Frame.{encodeFrame, historyAfter, withinLimits};
-ghost use Rattle.clip.specs.Encoding.{both, storeOf, pieceOf};
-ghost use Rattle.clip.specs.Facts.{Room, Going};
+ghost use Rattle.frame.specs.Frame.{encodeFrame, historyAfter, coefficientsOk};
+ghost use Rattle.clip.specs.Encoding.{left, store, feedAll};
+ghost use Rattle.clip.specs.inner.Asked.{Room, Going};
 use crate::Encoder;
+use crate::checks::encoder_shape;
 use crate::contents::put_context;
-use frame::History;
 use frame::encode_frame;
 use frame::history_after;
+use layout::Shape;
 use layout::fields::put_part;
-use layout::sizes::blocks;
+use layout::sizes::bodies_place;
+use layout::sizes::entry_place;
+use whole::BYTES_PER_FRAME;
+use whole::History;
+use whole::SAMPLES_PER_FRAME;
 
 // Stores a frame's first k bytes at its place, and its block's context where it is a block's first.
 pub(crate) fn store(
     image: &mut [u8],
-    total: usize,
-    block: usize,
+    shape: Shape,
     q: usize,
     bytes: [u8; 8],
     k: usize,
     history: History,
 )
-    requires { ⌜ Room total block q k (length (now image)) ⌝ }
-    ensures { λ _. ⌜ now (image .exit) ≡ storeOf total block q (take k bytes) history (now (image .entry)) ⌝ }
+    requires { ⌜ Room shape q k (length (now image)) ⌝ }
+    ensures { λ _. ⌜ now (image .exit) ≡ store shape q (take k bytes) history (now (image .entry)) ⌝ }
 {
-    let kk = blocks(total, block);
-    put_part(image, 56 + 16 * kk + 8 * q, bytes, k);
-    let per = block / 8;
+    put_part(image, bodies_place(shape) + BYTES_PER_FRAME * q, bytes, k);
+    let per = shape.block / BYTES_PER_FRAME;
     if q % per == 0 {
-        put_context(image, 56 + 16 * (q / per) + 8, bytes[0], history);
+        put_context(image, entry_place(q / per) + 8, bytes[0], history);
     }
 }
 
@@ -43,22 +46,22 @@ struct Encoded {
 // Encodes full frame q to its place.
 fn encode_full(
     image: &mut [u8],
-    total: usize,
-    block: usize,
+    shape: Shape,
     q: usize,
     coefficients: [i16; 16],
     history: History,
     frame: [i16; 14],
 ) -> Encoded
-    requires { ⌜ Room total block q 8 (length (now image)) × (withinLimits coefficients ≡ true) ⌝ }
-    ensures { λ r. ⌜ (r .history ≡ historyAfter history (encodeFrame history frame coefficients .samples) 14) × (r .passes ≡ encodeFrame history frame coefficients .passes) ⌝ }
-    ensures { λ r. ⌜ now (image .exit) ≡ storeOf total block q (encodeFrame history frame coefficients .bytes) history (now (image .entry)) ⌝ }
+    requires { ⌜ Room shape q 8 (length (now image)) × (coefficientsOk coefficients ≡ true) ⌝ }
+    ensures after { λ r. ⌜ r .history ≡ historyAfter history (encodeFrame history frame coefficients .samples) 14 ⌝ }
+    ensures passes { λ r. ⌜ r .passes ≡ encodeFrame history frame coefficients .passes ⌝ }
+    ensures stored { λ r. ⌜ now (image .exit) ≡ store shape q (encodeFrame history frame coefficients .bytes) history (now (image .entry)) ⌝ }
 {
     let done = encode_frame(history, frame, coefficients);
     let bytes = done.bytes;
     let samples = done.samples;
-    let after = history_after(history, samples, 14);
-    store(image, total, block, q, bytes, 8, history);
+    let after = history_after(history, samples, SAMPLES_PER_FRAME);
+    store(image, shape, q, bytes, 8, history);
     Encoded {
         history: after,
         passes: done.passes,
@@ -68,10 +71,9 @@ fn encode_full(
 // The samples of a piece in turn, each to its place in the unfinished frame.
 pub(crate) fn feed_all(e: Encoder, piece: &[i16], image: &mut [u8]) -> Encoder
     requires { ⌜ Going e 0 (length (now piece)) (length (now image)) ⌝ }
-    ensures { λ r. ⌜ both r (now (image .exit)) ≡ pieceOf (both e (now (image .entry))) (now (piece .entry)) ⌝ }
+    ensures { λ r. ⌜ left r (now (image .exit)) ≡ feedAll (left e (now (image .entry))) (now (piece .entry)) ⌝ }
 {
-    let total = e.total as usize;
-    let block = e.block as usize;
+    let shape = encoder_shape(e);
     let coefficients = e.coefficients;
     let mut n = e.fed;
     let mut history = e.history;
@@ -87,7 +89,7 @@ pub(crate) fn feed_all(e: Encoder, piece: &[i16], image: &mut [u8]) -> Encoder
         if at < 13 {
             continue;
         }
-        let full = encode_full(image, total, block, q, coefficients, history, frame);
+        let full = encode_full(image, shape, q, coefficients, history, frame);
         history = full.history;
         passes += full.passes;
         frame = [0i16; 14];

@@ -1,11 +1,12 @@
 // The clip image: starting, feeding, closing.
 ghost use mathlib.Core.Path.{_≡_};
-ghost use Rattle.clip.specs.Encoding.{both, outOf, numberOf, noEncoder, startOf, feedOf, closeOf};
+ghost use Rattle.clip.specs.Encoding.{code, outcome, left, effect, start, feed, close};
 
 mod checks;
 mod closing;
 mod contents;
 mod feeding;
+pub mod starting;
 
 use checks::close_answer;
 use checks::feed_answer;
@@ -13,7 +14,11 @@ use checks::start_answer;
 use closing::finish;
 use contents::put_fresh;
 use feeding::feed_all;
-use frame::History;
+use starting::Start;
+use starting::begun;
+use starting::cut;
+use starting::no_encoder;
+use whole::History;
 
 // Why a call is refused.
 pub enum Refusal {
@@ -56,7 +61,7 @@ pub struct Encoding {
 
 // Document 01's number of a refusal.
 pub fn code(refusal: Refusal) -> u32
-    ensures { λ r. ⌜ r ≡ numberOf refusal ⌝ }
+    ensures { λ r. ⌜ r ≡ code refusal ⌝ }
 {
     match refusal {
         Refusal::InvalidState => 1,
@@ -71,57 +76,16 @@ pub fn code(refusal: Refusal) -> u32
     }
 }
 
-// The state of no clip: all zeros, which every call refuses.
-fn no_encoder() -> Encoder
-    ensures { λ r. ⌜ r ≡ noEncoder ⌝ }
-{
-    let history = History {
-        newest: 0,
-        older: 0,
-    };
-    Encoder {
-        total: 0,
-        rate: 0,
-        block: 0,
-        gain: 0,
-        coefficients: [0i16; 16],
-        fed: 0,
-        history: history,
-        frame: [0i16; 14],
-        passes: 0,
-        closed: false,
-    }
-}
-
 // Starts a clip: its state, and all the bytes of its image.
-pub fn start(
-    total: u32,
-    rate: u32,
-    wanted: u32,
-    gain: u16,
-    coefficients: [i16; 16],
-    history: History,
-    image: &mut [u8],
-) -> Encoding
-    ensures { λ r. ⌜ outOf (r .answer) (both (r .encoder) (now (image .exit))) ≡ startOf total rate wanted gain coefficients history (now (image .entry)) ⌝ }
+pub fn start(g: Start, image: &mut [u8]) -> Encoding
+    ensures { λ r. ⌜ effect (outcome (r .answer)) (left (r .encoder) (now (image .exit))) ≡ start g (now (image .entry)) ⌝ }
 {
-    let answer = start_answer(total, rate, wanted, coefficients, image.len());
+    let answer = start_answer(g, image.len());
     match answer {
         Answer::Accepted => {
-            let block = wanted / 8 * 8;
-            put_fresh(image, total, rate, block, gain, coefficients);
-            let encoder = Encoder {
-                total: total,
-                rate: rate,
-                block: block,
-                gain: gain,
-                coefficients: coefficients,
-                fed: 0,
-                history: history,
-                frame: [0i16; 14],
-                passes: 0,
-                closed: false,
-            };
+            let given = cut(g);
+            put_fresh(image, given);
+            let encoder = begun(given);
             Encoding {
                 answer: Answer::Accepted,
                 encoder: encoder,
@@ -139,7 +103,7 @@ pub fn start(
 
 // Feeds a piece: each frame that it fills is encoded to its place.
 pub fn feed(e: Encoder, piece: &[i16], image: &mut [u8]) -> Encoding
-    ensures { λ r. ⌜ outOf (r .answer) (both (r .encoder) (now (image .exit))) ≡ feedOf e (now (piece .entry)) (now (image .entry)) ⌝ }
+    ensures { λ r. ⌜ effect (outcome (r .answer)) (left (r .encoder) (now (image .exit))) ≡ feed e (now (piece .entry)) (now (image .entry)) ⌝ }
 {
     let answer = feed_answer(e, piece.len(), image.len());
     match answer {
@@ -159,7 +123,7 @@ pub fn feed(e: Encoder, piece: &[i16], image: &mut [u8]) -> Encoding
 
 // Closes the clip: encodes a short last frame and writes the mark.
 pub fn close(e: Encoder, image: &mut [u8]) -> Encoding
-    ensures { λ r. ⌜ outOf (r .answer) (both (r .encoder) (now (image .exit))) ≡ closeOf e (now (image .entry)) ⌝ }
+    ensures { λ r. ⌜ effect (outcome (r .answer)) (left (r .encoder) (now (image .exit))) ≡ close e (now (image .entry)) ⌝ }
 {
     let answer = close_answer(e, image.len());
     match answer {

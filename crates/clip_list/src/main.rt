@@ -1,25 +1,25 @@
-// Replays a list of calls on clips of which the Rust's answers are known. A line of the input is a letter and a record of 90 bytes in
-// hexadecimal digits of lower case: 0 the length of the image buffer that the call is lent (two bytes), 2 whether the answer has the
-// buffer's bytes, 3 how many samples there are, or whether the clip is closed; at 4 the samples, or 4 N, 8 rate, 12 block size (four bytes
-// each), 16 gain, 18 coefficients, 50 the newest and the older history sample (two bytes each), 54 n, 58 passes (four bytes each), 62 the
-// unfinished frame. n fills the buffer, byte i with i modulo 251; p puts a state; s starts a clip; b adds the samples to the piece that
-// is to come; f does the same and feeds that piece; c closes. s, f and c are answered by a line: 00 or the refusal's number, the
-// state's fields from N on, closed, the digest of the lent buffer, and its bytes where the line asks for them.
-mod numbers;
+// Replays a list of calls on clips of which the Rust's answers are known. A line of the input is a letter and numbers in hexadecimal digits
+// of lower case, here with their first digit's place: 1 the length of the image buffer that the call is lent (four digits), 5 whether the
+// answer has the buffer's bytes, 7 how many samples there are, or whether the clip is closed (two each); at 9 the samples, or 9 N, 17
+// rate, 25 block size (eight each), 33 gain, 37 coefficients, 101 the newest and the older history sample (four each), 109 n, 117 passes
+// (eight each), 125 the unfinished frame. n fills the buffer, byte i with i modulo 251; p puts a state; s starts a clip; b adds the samples
+// to the piece that is to come; f does the same and feeds that piece; c closes. s, f and c are answered by a line: 00 or the refusal's
+// number, the state's fields from N on, closed, the digest of the lent buffer, and its bytes where the line asks for them.
 mod record;
 mod text;
 
 use clip::Answer;
 use clip::Encoder;
 use clip::Encoding;
-use numbers::least;
+use clip::starting::Start;
 use record::add;
 use record::coefficients_of;
-use record::double_word;
 use record::encoder_of;
 use record::history_of;
-use record::unhex;
-use record::word;
+use replay::byte;
+use replay::double_word;
+use replay::least;
+use replay::word;
 use text::write_line;
 
 // The encoding state, the samples of the piece that is to come, and whether the list goes on.
@@ -55,27 +55,30 @@ fn answered(done: Encoding, image: &[u8], shown: bool) -> State {
     }
 }
 
-fn start(record: &[u8; 90], image: &mut [u8], shown: bool) -> State {
-    let coefficients = coefficients_of(record);
-    let history = history_of(record);
-    let done = clip::start(
-        double_word(record, 4),
-        double_word(record, 8),
-        double_word(record, 12),
-        word(record, 16) as u16,
-        coefficients,
-        history,
-        image,
-    );
+// Starts the clip of a line.
+fn start(line: &[u8; 182], image: &mut [u8], shown: bool) -> State {
+    let coefficients = coefficients_of(line);
+    let history = history_of(line);
+    let given = Start {
+        total: double_word(line, 9),
+        rate: double_word(line, 17),
+        block: double_word(line, 25),
+        gain: word(line, 33),
+        coefficients: coefficients,
+        history: history,
+    };
+    let done = clip::start(given, image);
     answered(done, image, shown)
 }
 
+// Feeds the piece.
 fn feed(encoder: Encoder, piece: &[i16], pending: usize, image: &mut [u8], shown: bool) -> State {
     let n = least(pending, piece.len());
     let done = clip::feed(encoder, &piece[..n], image);
     answered(done, image, shown)
 }
 
+// Closes the clip.
 fn close(encoder: Encoder, image: &mut [u8], shown: bool) -> State {
     let done = clip::close(encoder, image);
     answered(done, image, shown)
@@ -84,16 +87,16 @@ fn close(encoder: Encoder, image: &mut [u8], shown: bool) -> State {
 // Makes the call of a letter on the first bytes of the buffer.
 fn call(
     letter: u8,
-    record: &[u8; 90],
+    line: &[u8; 182],
     encoder: Encoder,
     piece: &[i16],
     pending: usize,
     image: &mut [u8],
 ) -> State {
-    let room = least(word(record, 0) as usize, image.len());
-    let shown = record[2] != 0;
+    let room = least(word(line, 1) as usize, image.len());
+    let shown = byte(line, 5) != 0;
     if letter == b's' {
-        return start(record, &mut image[..room], shown);
+        return start(line, &mut image[..room], shown);
     }
     if letter == b'f' {
         return feed(encoder, piece, pending, &mut image[..room], shown);
@@ -104,7 +107,7 @@ fn call(
 // Replays a line.
 fn turn(
     letter: u8,
-    record: &[u8; 90],
+    line: &[u8; 182],
     state: State,
     piece: &mut [i16; 2048],
     image: &mut [u8; 4096],
@@ -112,16 +115,16 @@ fn turn(
     let mut encoder = state.encoder;
     let mut pending = state.pending;
     if letter == b's' || letter == b'c' {
-        return call(letter, record, encoder, piece, pending, image);
+        return call(letter, line, encoder, piece, pending, image);
     }
     if letter == b'n' {
         fill(image);
     } else if letter == b'p' {
-        encoder = encoder_of(record);
+        encoder = encoder_of(line);
     } else {
-        pending = add(record, piece, pending);
+        pending = add(line, piece, pending);
         if letter == b'f' {
-            return call(letter, record, encoder, piece, pending, image);
+            return call(letter, line, encoder, piece, pending, image);
         }
     }
     State {
@@ -143,15 +146,14 @@ fn replay(state: State, piece: &mut [i16; 2048], image: &mut [u8; 4096]) -> Stat
             more: false,
         };
     }
-    let mut record = [0u8; 90];
-    unhex(&line, &mut record);
-    turn(line[0], &record, state, piece, image)
+    turn(line[0], &line, state, piece, image)
 }
 
+// Replays every line of the list.
 fn main() {
     let mut piece = [0i16; 2048];
     let mut image = [0u8; 4096];
-    let nothing = [0u8; 90];
+    let nothing = [0u8; 182];
     let encoder = encoder_of(&nothing);
     let mut state = State {
         encoder,

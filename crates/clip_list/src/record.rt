@@ -1,90 +1,56 @@
-// The record of a line.
-ghost use Prim.Native.Nat.{_+_, _≤_, _<_};
-use crate::numbers::digit;
-use crate::numbers::least;
-use crate::numbers::signed;
-use crate::numbers::wide;
+// What a line has.
 use clip::Encoder;
-use frame::History;
+use replay::add_samples;
+use replay::byte;
+use replay::double_word;
+use replay::least;
+use replay::read_samples;
+use replay::sample;
+use replay::word;
+use whole::History;
 
-// The bytes of a line, after its letter.
-pub(crate) fn unhex(line: &[u8; 182], record: &mut [u8; 90]) {
-    let mut i: usize = 0;
-    while i < 90 {
-        record[i] = digit(line[2 * i + 1]) * 16 + digit(line[2 * i + 2]);
-        i += 1;
-    }
-}
-
-// The two bytes at a place, high byte first.
-pub(crate) fn word(record: &[u8; 90], at: usize) -> u32
-    requires { ⌜ at + 2 ≤ 90 ⌝ }
-    ensures { λ r. ⌜ r < 65536 ⌝ }
-{
-    wide(record[at]) * 256 + wide(record[at + 1])
-}
-
-// The number of four bytes at a place.
-pub(crate) fn double_word(record: &[u8; 90], at: usize) -> u32
-    requires { ⌜ at + 4 ≤ 90 ⌝ }
-{
-    word(record, at) * 65536 + word(record, at + 2)
-}
-
-pub(crate) fn history_of(record: &[u8; 90]) -> History {
+// The history of a line.
+pub(crate) fn history_of(line: &[u8; 182]) -> History {
     History {
-        newest: signed(word(record, 50)),
-        older: signed(word(record, 52)),
+        newest: sample(line, 101),
+        older: sample(line, 105),
     }
 }
 
-pub(crate) fn coefficients_of(record: &[u8; 90]) -> [i16; 16] {
+// The coefficients of a line.
+pub(crate) fn coefficients_of(line: &[u8; 182]) -> [i16; 16] {
     let mut cs = [0i16; 16];
-    let mut i: usize = 0;
-    while i < 16 {
-        cs[i] = signed(word(record, 18 + 2 * i));
-        i += 1;
-    }
+    read_samples(line, 37, &mut cs);
     cs
 }
 
-fn frame_of(record: &[u8; 90]) -> [i16; 14] {
+// The unfinished frame of a line.
+fn frame_of(line: &[u8; 182]) -> [i16; 14] {
     let mut xs = [0i16; 14];
-    let mut i: usize = 0;
-    while i < 14 {
-        xs[i] = signed(word(record, 62 + 2 * i));
-        i += 1;
-    }
+    read_samples(line, 125, &mut xs);
     xs
 }
 
-// The state of a record.
-pub(crate) fn encoder_of(record: &[u8; 90]) -> Encoder {
-    let coefficients = coefficients_of(record);
-    let history = history_of(record);
-    let frame = frame_of(record);
+// The state of a line.
+pub(crate) fn encoder_of(line: &[u8; 182]) -> Encoder {
+    let coefficients = coefficients_of(line);
+    let history = history_of(line);
+    let frame = frame_of(line);
     Encoder {
-        total: double_word(record, 4),
-        rate: double_word(record, 8),
-        block: double_word(record, 12),
-        gain: word(record, 16) as u16,
+        total: double_word(line, 9),
+        rate: double_word(line, 17),
+        block: double_word(line, 25),
+        gain: word(line, 33),
         coefficients: coefficients,
-        fed: double_word(record, 54),
+        fed: double_word(line, 109),
         history: history,
         frame: frame,
-        passes: double_word(record, 58),
-        closed: record[3] != 0,
+        passes: double_word(line, 117),
+        closed: byte(line, 7) != 0,
     }
 }
 
-// Adds the samples of a record to the piece, and answers its length. Those for which there is no room are left out.
-pub(crate) fn add(record: &[u8; 90], piece: &mut [i16; 2048], pending: usize) -> usize {
-    let start = least(pending, 2048);
-    let k = least(least(wide(record[3]) as usize, 43), 2048 - start);
-    let mut i: usize = 0;
-    while i < k {
-        piece[start + i] = signed(word(record, 4 + 2 * i));
-        i += 1;
-    }
-    start + k
+// Adds the samples of a line to the piece, and answers its length.
+pub(crate) fn add(line: &[u8; 182], piece: &mut [i16; 2048], pending: usize) -> usize {
+    add_samples(line, 9, least(byte(line, 7) as usize, 43), piece, pending)
 }

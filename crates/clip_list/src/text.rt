@@ -1,17 +1,29 @@
 // The line of an answer.
-ghost use Prim.Native.Nat.{_≤_};
-use crate::numbers::bits;
-use crate::numbers::glyph;
-use crate::numbers::least;
-use crate::numbers::wide;
+ghost use Prim.Native.Nat.{_≤_, _<_};
 use clip::Encoder;
+use layout::fields::bits16;
+use replay::least;
+
+// A byte as a number of 64 bits.
+fn wide(x: u8) -> u64
+    ensures { λ r. ⌜ r < 256 ⌝ }
+{
+    x as u64
+}
+
+// The digit of a number below 16.
+fn glyph(d: u64) -> u8
+    requires { ⌜ d < 16 ⌝ }
+{
+    if d < 10 { 48 + d as u8 } else { 87 + d as u8 }
+}
 
 // Bytes as the digits of a number, modulo a prime.
 fn digest(bytes: &[u8]) -> u64 {
     let mut sum: u64 = 0;
     let mut i: usize = 0;
     while i < bytes.len() {
-        sum = (sum * 1_000_003 + wide(bytes[i]) as u64 + 1) % 1_099_511_627_689;
+        sum = (sum * 1_000_003 + wide(bytes[i]) + 1) % 1_099_511_627_689;
         i += 1;
     }
     sum
@@ -57,17 +69,18 @@ fn put_samples(text: &mut [u8; 8704], at: usize, samples: &[i16]) -> usize
     let mut end = at;
     let mut i: usize = 0;
     while i < samples.len() {
-        end = put(text, end, bits(samples[i]) as u64, 4);
+        end = put(text, end, bits16(samples[i]) as u64, 4);
         i += 1;
     }
     put_character(text, end, b' ')
 }
 
+// Puts bytes.
 fn put_bytes(text: &mut [u8; 8704], at: usize, bytes: &[u8]) -> usize {
     let mut end = at;
     let mut i: usize = 0;
     while i < bytes.len() {
-        end = put(text, end, wide(bytes[i]) as u64, 2);
+        end = put(text, end, wide(bytes[i]), 2);
         i += 1;
     }
     end

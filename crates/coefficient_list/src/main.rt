@@ -3,33 +3,22 @@
 // n starts a new clip, b adds the samples to the piece that is to come, m does the same and measures that piece, a asks for the
 // coefficients. A line of the output is what an asking gives: the number of records, with the one of the frame that is filled up;
 // each record's two patterns, one and the same for every NaN; the sixteen coefficients' patterns. A refusal writes its number.
-ghost use Prim.Native.Nat.{_≤_, _<_};
+ghost use Prim.Native.Nat.{_≤_};
 use coefficients::Answer;
 use coefficients::CoefficientCalculator;
 use coefficients::Refusal;
+use replay::add_samples;
+use replay::digit;
+use replay::float_bits;
+use replay::least;
+use replay::print_samples;
+use replay::print_space;
 
 // The measuring state, the samples of the piece that is to come, and whether the list goes on.
 struct State {
     calculator: CoefficientCalculator,
     pending: usize,
     more: bool,
-}
-
-// The number of a hexadecimal digit in lower case.
-fn digit(c: u8) -> u64
-    ensures { λ r. ⌜ r < 16 ⌝ }
-{
-    if c < 58 {
-        return (c as u64) % 16;
-    }
-    (c as u64 + 9) % 16
-}
-
-// The smaller of two numbers.
-fn least(a: usize, b: usize) -> usize
-    ensures { λ r. ⌜ (r ≤ a) × (r ≤ b) ⌝ }
-{
-    if a < b { a } else { b }
 }
 
 // The count of a line.
@@ -39,54 +28,9 @@ fn count(line: &[u8; 60]) -> usize
     least((digit(line[1]) * 10 + digit(line[2])) as usize, 14)
 }
 
-// The four digits from place `at` on.
-fn word(line: &[u8; 60], at: usize) -> u64
-    requires { ⌜ at ≤ 55 ⌝ }
-    ensures { λ r. ⌜ r < 65536 ⌝ }
-{
-    let high = digit(line[at]) * 16 + digit(line[at + 1]);
-    let low = digit(line[at + 2]) * 16 + digit(line[at + 3]);
-    high * 256 + low
-}
-
-// The sample of a pattern.
-fn sample(bits: u64) -> i16
-    requires { ⌜ bits < 65536 ⌝ }
-{
-    if bits < 32768 {
-        return whole::clamp_i16(bits as i64);
-    }
-    whole::clamp_i16(bits as i64 - 65536)
-}
-
-// Adds the samples of a line to the piece, and answers its length. Those for which there is no room are left out.
+// Adds the samples of a line to the piece, and answers its length.
 fn add(line: &[u8; 60], piece: &mut [i16; 1024], pending: usize) -> usize {
-    let start = least(pending, 1024);
-    let k = least(count(line), 1024 - start);
-    let mut i: usize = 0;
-    while i < k {
-        let x = sample(word(line, 3 + 4 * i));
-        piece[start + i] = x;
-        i += 1;
-    }
-    start + k
-}
-
-// The pattern of a float.
-fn float_pattern(x: f64) -> u64 {
-    if x != x {
-        return 0x7ff8_0000_0000_0000;
-    }
-    f64::to_bits(x)
-}
-
-// The pattern of a coefficient.
-fn pattern(x: i16) -> u64 {
-    let v = x as i64;
-    if v < 0 {
-        return 65536 - (0 - v) as u64;
-    }
-    v as u64
+    add_samples(line, 3, count(line), piece, pending)
 }
 
 // Writes the number of a refusal.
@@ -101,19 +45,9 @@ fn write_records(store: &[f64; 128], n: usize) {
     let end = least(n, 64);
     let mut k: usize = 0;
     while k < end {
-        io::write_all(1, b" ");
-        io::print_hex(1, float_pattern(store[2 * k]), 16);
-        io::print_hex(1, float_pattern(store[2 * k + 1]), 16);
-        k += 1;
-    }
-}
-
-// Writes the coefficients.
-fn write_coefficients(coefficients: &[i16; 16]) {
-    io::write_all(1, b" ");
-    let mut k: usize = 0;
-    while k < 16 {
-        io::print_hex(1, pattern(coefficients[k]), 4);
+        print_space();
+        io::print_hex(1, float_bits(store[2 * k]), 16);
+        io::print_hex(1, float_bits(store[2 * k + 1]), 16);
         k += 1;
     }
 }
@@ -122,7 +56,8 @@ fn write_coefficients(coefficients: &[i16; 16]) {
 fn write_answer(store: &[f64; 128], n: usize, coefficients: &[i16; 16]) -> bool {
     io::print_decimal(1, n as u64);
     write_records(store, n);
-    write_coefficients(coefficients);
+    print_space();
+    print_samples(coefficients);
     io::write_all(1, b"\n")
 }
 
@@ -134,7 +69,7 @@ fn mark(store: &mut [f64; 128], r: usize) {
 }
 
 // The number of records, with record r if its place is written.
-fn held(store: &[f64; 128], r: usize) -> usize {
+fn counted(store: &[f64; 128], r: usize) -> usize {
     if r < 64 {
         if store[2 * r] != 1.0e300 {
             return r + 1;
@@ -183,7 +118,7 @@ fn ask(calculator: CoefficientCalculator, pending: usize, store: &mut [f64; 128]
     let coefficients = done.coefficients;
     let next = done.calculator;
     let more = match answer {
-        Answer::Accepted => write_answer(store, held(store, r), &coefficients),
+        Answer::Accepted => write_answer(store, counted(store, r), &coefficients),
         Answer::Refused(why) => write_refusal(why),
     };
     State {
@@ -224,6 +159,7 @@ fn replay(state: State, piece: &mut [i16; 1024], store: &mut [f64; 128]) -> Stat
     }
 }
 
+// Replays every line of the list.
 fn main() {
     let mut piece = [0i16; 1024];
     let mut store = [0.0f64; 128];

@@ -1,4 +1,4 @@
--- finish_record, matrix_filter, merge_finish_record and the last conversion keep within bounds.
+-- Exported for the bounds of the coefficients: finish_record, matrix_filter, merge_finish_record and the last conversion keep within bounds.
 use mathlib.Core.Path.{_≡_, refl, sym, ap, _∙_, subst}
 use Prim.Native.Nat.{ℕ, zero, suc, _+_, _-_, _*_, _/_, _%_, _^_, _≤_, _<_, min, zero-le}
 use native.Mathlib.Nat.{le-trans, le-of-eq, lt-of-le-of-lt, zero-lt-suc, zero-mul, mul-one, mul-pos, min-le-left, div-lt-iff-lt-mul, lt-of-not-le, eq-or-lt-of-le, suc-mul, mul-left-comm}
@@ -13,14 +13,15 @@ use lib.Pow.{pow-pos}
 use lib.Ieee.{Float, nan, inf, fin, binary64, up, down, neg, add, lt, eq, le, ne, round, ofBits, fits, toSigned}
 use lib.Ieee.Fits.{down-pos, div-fits, cond-fits}
 use lib.Ieee.Compare.{differs-from-itself}
-use Rattle.coefficients.specs.Kit.{fma, larger, smaller, roundAway}
+use Rattle.coefficients.specs.Binary64.{fma, larger, smaller, roundAway}
+use Rattle.whole.proofs.Values.{abs-neg}
 use Rattle.float.specs.FusedMultiplyAdd.{times, fusedMultiplyAdd}
-use Rattle.float.specs.Operations.{negative, less, maximumNumber, minimumNumber, roundToIntegralTiesToAway}
+use Rattle.float.specs.Operations.{negative, isLess, maximumNumber, minimumNumber, roundToIntegralTiesToAway}
 use Rattle.float.proofs.Sizes.{Size, Reach, Number, nought, unit, size-neg, size-round, holds-up, holds-down, times-size, add-reach, div-number, factor-above, square-size}
 use Rattle.float.proofs.Signs.{less-plus, less-minus}
 use Rattle.float.proofs.Bounds.{Upto, Least, upto-more, upto-neg, upto-add, upto-fma, upto-mul, upto-div, upto-number}
 use Rattle.coefficients.specs.Constants.{f0, f1, fNear1, f2048, f32767, f32768, _*f_, _+f_, _/f_}
-use Rattle.coefficients.specs.Analysis.{held, finishRecord, matrixFilter, quotient, mergeFinish}
+use Rattle.coefficients.specs.Analysis.{withinOne, finishRecord, matrixFilter, quotient, mergeFinishRecord}
 use Rattle.coefficients.specs.Finish.{coefficient}
 use Rattle.coefficients.specs.declared.merging.Vec3.{Vec3}
 use Rattle.coefficients.specs.declared.merging.Record.{Record}
@@ -122,9 +123,9 @@ inside (fin false m e) n t p q = small false m e t (one (m * up e) (down e) (no-
     one : (a b : ℕ) → a * 1 < 1 * b → a < b
     one a b h = omega arith
 
-pub held-under : (x : Float) → Number x → T (fits binary64 x) → Under (held x)
-unfolding held
-held-under x n t = record { size = go (le f1 x) (le x (neg f1)) refl refl }
+pub within-one-under : (x : Float) → Number x → T (fits binary64 x) → Under (withinOne x)
+unfolding withinOne
+within-one-under x n t = record { size = go (le f1 x) (le x (neg f1)) refl refl }
   where
     go : (p q : Bool) → le f1 x ≡ p → le x (neg f1) ≡ q → Size (cond p fNear1 (cond q (neg fNear1) x)) 9007199254740991 9007199254740992
     go true q e d = near-under
@@ -153,8 +154,8 @@ pub record Good (r : Record) : Type 0 where
 pub finish-good : (a b : Float) → Number a → T (fits binary64 a) → Number b → T (fits binary64 b) → Good (finishRecord a b)
 unfolding finishRecord
 finish-good a b n t n' t' =
-    let p = held-under a n t in
-    let q = held-under b n' t' in
+    let p = within-one-under a n t in
+    let q = within-one-under b n' t' in
     record { first = upto-fma 1 (under-upto q) (under-upto p) (under-upto p) tt tt tt; second = q }
 
 -- ---- matrix_filter
@@ -191,9 +192,6 @@ is-yes e = subst T (sym e) tt
 above-nought : (x : Float) → T (lt f0 x) → T (lt nought x)
 above-nought x t = subst (λ (z : Float). T (lt z x)) f0-is t
 
-above-f0 : (x : Float) → T (lt nought x) → T (lt f0 x)
-above-f0 x t = subst (λ (z : Float). T (lt z x)) (sym f0-is) t
-
 quotient-number : (val x : Float) (k : ℕ) → (T (lt f0 val) → Upto x k) → Number (quotient val x)
 unfolding quotient
 quotient-number val x k h = go (lt f0 val) refl
@@ -226,8 +224,8 @@ first-upto x0 x n t = go (lt f0 x0) refl
         record { size = square-size (quotient x0 x) n (subst (λ (z : Float). T (lt nought (fma (quotient x0 x) (neg (quotient x0 x)) z))) f1-is u) }
     go false e = subst (λ (z : Float). Upto z 0) (sym (none e)) upto-f0
 
-pub merge-good : (s : Vec3) → Summed s 80 → Good (mergeFinish s)
-unfolding mergeFinish
+pub merge-good : (s : Vec3) → Summed s 80 → Good (mergeFinishRecord s)
+unfolding mergeFinishRecord
 merge-good s h =
     let e1 = f0 +f s .x1 in
     let d1 = quotient (s .x0) e1 in
@@ -272,14 +270,14 @@ f32768-is = refl
 smaller-is : (x : Float) → Upto x 12 → smaller x f32767 ≡ x
 unfolding minimumNumber
 smaller-is x h =
-    ap (λ (b : Bool). cond b f32767 (cond (less f32767 x) f32767 x)) (same-itself x 12 h)
-    ∙ ap (λ (b : Bool). cond b f32767 x) (ap (λ (z : Float). less z x) f32767-is ∙ less-plus (fin false 32767 (pos 0)) x refl ∙ not-over x (h .size))
+    ap (λ (b : Bool). cond b f32767 (cond (isLess f32767 x) f32767 x)) (same-itself x 12 h)
+    ∙ ap (λ (b : Bool). cond b f32767 x) (ap (λ (z : Float). isLess z x) f32767-is ∙ less-plus (fin false 32767 (pos 0)) x refl ∙ not-over x (h .size))
 
 larger-is : (x : Float) → Upto x 12 → larger x (neg f32768) ≡ x
 unfolding maximumNumber
 larger-is x h =
-    ap (λ (b : Bool). cond b (neg f32768) (cond (less x (neg f32768)) (neg f32768) x)) (same-itself x 12 h)
-    ∙ ap (λ (b : Bool). cond b (neg f32768) x) (ap (less x) f32768-is ∙ less-minus x (fin true 1 (pos 15)) minus ∙ not-below x (h .size))
+    ap (λ (b : Bool). cond b (neg f32768) (cond (isLess x (neg f32768)) (neg f32768) x)) (same-itself x 12 h)
+    ∙ ap (λ (b : Bool). cond b (neg f32768) x) (ap (isLess x) f32768-is ∙ less-minus x (fin true 1 (pos 15)) minus ∙ not-below x (h .size))
   where
     minus : negative (fin true 1 (pos 15)) ≡ true
     minus = unfold negative in refl
@@ -319,12 +317,8 @@ signed-size (fin s m e) q h = go s
         next : (a d q : ℕ) → 0 < d → a * 1 ≤ q * d → a < suc q * d
         next a d q D h = rw suc-mul (omega arith)
 
-    abs-neg : (n : ℕ) → natAbs (negℤ (pos n)) ≡ n
-    abs-neg zero = refl
-    abs-neg (suc n) = refl
-
     go : (b : Bool) → natAbs (cond b (negℤ (pos (min (m * up e / down e) 32768))) (pos (min (m * up e / down e) 32767))) ≤ q
-    go true = le-trans (le-of-eq (abs-neg (min (m * up e / down e) 32768))) (le-trans (min-le-left (m * up e / down e) 32768) part)
+    go true = le-trans (le-of-eq (abs-neg (pos (min (m * up e / down e) 32768)))) (le-trans (min-le-left (m * up e / down e) 32768) part)
     go false = le-trans (min-le-left (m * up e / down e) 32767) part
 
 pub coefficient-size : (v : Float) (k : ℕ) → Upto v k → T (leb k 1) → natAbs (coefficient v) ≤ 2 ^ (k + 11)
@@ -348,10 +342,3 @@ coefficient-size v k h t =
     pick : (b : Bool) (x y d : Float) → x ≡ d → y ≡ d → cond b x y ≡ d
     pick true x y d p q = p
     pick false x y d p q = q
-
--- the two coefficients of a finished record
-pub c0-within : (r : Record) → Good r → natAbs (coefficient (r .v1)) ≤ 4096
-c0-within r g = coefficient-size (r .v1) 1 (g .first) tt
-
-pub c1-within : (r : Record) → Good r → natAbs (coefficient (r .v2)) ≤ 2048
-c1-within r g = coefficient-size (r .v2) 0 (under-upto (g .second)) tt

@@ -4,9 +4,9 @@ use lib.Ieee.{ofBits, neg, lt, le, add, mul, div}
 use Rattle.float.specs.FusedMultiplyAdd.{fusedMultiplyAdd}
 use Rattle.coefficients.specs.declared.merging.Vec3.{Vec3}
 use Rattle.coefficients.specs.Constants.{f0, f1}
-use Rattle.coefficients.specs.Analysis.{held, finishRecord, quotient, mergeFinish}
-use Rattle.coefficients.specs.Clusters.{none, mean, led}
+use Rattle.coefficients.specs.Analysis.{withinOne, finishRecord, quotient, mergeFinishRecord}
+use Rattle.coefficients.specs.Clusters.{none, mean, withOne}
 
-pub unjoined : _≡_ {A = Vec3} (led (mergeFinish (mean none 0))) (record { x0 = f1; x1 = f0; x2 = f0 })
-unfolding led mergeFinish mean none quotient finishRecord held fusedMultiplyAdd ofBits neg lt le add mul div
+pub unjoined : _≡_ {A = Vec3} (withOne (mergeFinishRecord (mean none 0))) (record { x0 = f1; x1 = f0; x2 = f0 })
+unfolding withOne mergeFinishRecord mean none quotient finishRecord withinOne fusedMultiplyAdd ofBits neg lt le add mul div
 unjoined = refl

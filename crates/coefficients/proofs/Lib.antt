@@ -1,19 +1,23 @@
--- Laws.
-mod Samples
-mod Folds
-mod Picks
-mod Ends
-mod Hoists
-mod Filters
-mod Leads
-pub mod Measures
-pub mod Frames
+-- Laws: the exported ones are theorems of docs/GUARANTEES.md or serve proofs of other crates.
+mod SampleSizes
+mod StoredRecords
+mod ChosenVector
+mod RenewedVectors
+mod CastToSixteenBits
+mod SharedTerms
+mod PlainContrasts
+mod LeastAndNext
+mod OneSample
+mod AcceptedCalls
+mod RecordsAtFront
+pub mod FrameHistories
+pub mod StateOfSamples
 pub mod WholeRuns
-pub mod Cuts
+pub mod CutPieces
 pub mod Bounded
-pub mod Each
+pub mod EachCoefficient
 pub mod AnyStore
-pub mod Exactly
+pub mod ExactSums
 pub mod EmptyVector
-pub mod Agreeing
-pub mod SteppingBack
+pub mod SameStores
+pub mod Undo

@@ -1,10 +1,9 @@
--- The coefficient analysis, one definition for each function of coefficients.rs.
-use mathlib.Core.Bool.{Bool, true, false, cond}
-use lib.Ieee as Ieee
+-- The coefficient analysis, one definition for each function of coefficients.rs. Definitions only.
+use mathlib.Core.Bool.{true, cond}
 use lib.Ieee.{Float, neg, lt, le, eq}
 use Prim.Native.Nat.{ℕ}
 use lib.Dec.{eqb}
-use Rattle.coefficients.specs.Kit.{fma, abs, larger, smaller}
+use Rattle.coefficients.specs.Binary64.{fma, abs, larger, smaller}
 use Rattle.coefficients.specs.Constants.{f0, f1, f2, fNear1, fEps, fE10, fEm10, _*f_, _+f_, _/f_}
 use Rattle.coefficients.specs.declared.merging.Vec3.{Vec3}
 use Rattle.coefficients.specs.declared.merging.Record.{Record}
@@ -19,12 +18,13 @@ quadraticMerge v =
     let v1 = fma (v .x1) (neg (v .x2)) (v .x1) /f tmp in
     cond (eq tmp f0) (record { stop = true; v1 = v .x1; v2 = v .x2 }) (record { stop = lt f1 (abs v1); v1 = v1; v2 = v .x2 })
 
--- finish_record, of one number: held within -1 and 1
-unfoldable pub held : Float → Float
-held x = cond (le f1 x) fNear1 (cond (le x (neg f1)) (neg fNear1) x)
+-- finish_record, of one number: what stands for it where it is not within -1 and 1
+unfoldable pub withinOne : Float → Float
+withinOne x = cond (le f1 x) fNear1 (cond (le x (neg f1)) (neg fNear1) x)
 
+-- finish_record
 unfoldable pub finishRecord : Float → Float → Record
-finishRecord a b = record { v1 = fma (held b) (held a) (held a); v2 = held b }
+finishRecord a b = record { v1 = fma (withinOne b) (withinOne a) (withinOne a); v2 = withinOne b }
 
 -- contrast_vectors
 unfoldable pub contrast : Vec3 → Record → Float
@@ -44,12 +44,13 @@ matrixFilter s =
     let d1 = fma m11 f1 f0 in
     record { x0 = f1; x1 = d1; x2 = fma m22 f1 (fma m21 d1 f0) }
 
--- merge_finish_record: one step, and the whole
+-- one step of merge_finish_record: -x / val where val is above 0, and 0 where it is not
 unfoldable pub quotient : Float → Float → Float
 quotient val x = cond (lt f0 val) (neg x /f val) f0
 
-unfoldable pub mergeFinish : Vec3 → Record
-mergeFinish s =
+-- merge_finish_record
+unfoldable pub mergeFinishRecord : Vec3 → Record
+mergeFinishRecord s =
     let d1 = quotient (s .x0) (f0 +f s .x1) in
     let val = s .x0 *f fma d1 (neg d1) f1 in
     let d2 = quotient val (fma d1 (s .x1) f0 +f s .x2) in
@@ -59,6 +60,7 @@ mergeFinish s =
 unfoldable pub pivot : Float → Float → ℕ
 pivot a b = cond (le f0 a) (cond (le a b) 2 1) (cond (le f0 b) 2 0)
 
+-- 2, or the row chosen before where a does not compare
 unfoldable pub pivot2 : Float → ℕ → ℕ
 pivot2 a i = cond (le f0 a) 2 i
 
@@ -90,6 +92,7 @@ decomposed m r1 r2 =
     let high = larger (larger f0 (abs (o .a11))) (abs (o .a22)) in
     record { stop = lt (low /f high) fEm10; m = o; i1 = i1; i2 = i2 }
 
+-- analyze_ranges: no record where a row is all but zero
 unfoldable pub analyzeRanges : Mat2 → Ranges
 analyzeRanges m =
     let x1 = larger (abs (m .a11)) (abs (m .a12)) in
@@ -98,9 +101,11 @@ analyzeRanges m =
     (cond (lt x2 fEps) (record { stop = true; m = m; i1 = 0; i2 = 0 })
     (decomposed m (f1 /f x1) (f1 /f x2)))
 
+-- the vector's number at place i
 unfoldable pub at : Vec3 → ℕ → Float
 at v i = cond (eqb i 0) (v .x0) (cond (eqb i 1) (v .x1) (v .x2))
 
+-- the vector with x at place i
 unfoldable pub put : Vec3 → ℕ → Float → Vec3
 put v i x =
     cond (eqb i 0) (record { x0 = x; x1 = v .x1; x2 = v .x2 })
@@ -108,8 +113,8 @@ put v i x =
     (record { x0 = v .x0; x1 = v .x1; x2 = x }))
 
 -- bidirectional_filter
-unfoldable pub bidirectional : Ranges → Vec3 → Vec3
-bidirectional g v =
+unfoldable pub bidirectionalFilter : Ranges → Vec3 → Vec3
+bidirectionalFilter g v =
     let t1 = at v (g .i1) in
     let w1 = put (put v (g .i1) (v .x1)) 1 t1 in
     let t2 = at w1 (g .i2) in

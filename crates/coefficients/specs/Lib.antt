@@ -1,14 +1,16 @@
--- What the contracts cite.
-pub mod Kit
+-- What the contracts and the exported theorems cite; `inner` holds what only private functions cite.
+pub mod Binary64
 pub mod Constants
 pub mod Sums
-pub mod Summing
+pub mod RustSums
 pub mod Analysis
 pub mod Store
 pub mod Clusters
-pub mod Hoisted
-pub mod Filtered
 pub mod Finish
+pub mod FrameRecord
 pub mod Measure
 pub mod Runs
-pub mod Steps
+pub mod StateOfSamples
+pub mod Undo
+pub mod CoefficientLimits
+pub mod inner

@@ -1,6 +1,6 @@
--- Measuring pieces and asking for coefficients: what each call does to its state and to the lent store.
-use Prim.Native.Nat.{ℕ, zero, suc, _+_, _-_, _*_, _/_, _%_, _≤_}
-use mathlib.Core.List.{List, foldl}
+-- Measuring pieces and asking for coefficients: what each call does to its state and to the lent store. Definitions only.
+use Prim.Native.Nat.{ℕ, zero, suc, _+_, _-_, _*_, _/_, _%_}
+use mathlib.Core.List.{List, _++_, foldl}
 use mathlib.Core.Bool.{Bool, not, cond, _&&_}
 use lib.Dec.{leb, ltb, eqb}
 use lib.IntN.{ℤ, pos}
@@ -8,23 +8,28 @@ use lib.Ieee.{Float}
 use lib.ListN.{length, getD, set, replicate}
 use lib.Seq.{sets}
 use Rattle.whole.specs.Frames.{most, framesOf}
+use Rattle.whole.specs.Outcome.{Outcome, accepted, refused}
 use Rattle.coefficients.specs.declared.Answer.{Answer}
 use Rattle.coefficients.specs.declared.Answer.the-variants.{Accepted, Refused}
 use Rattle.coefficients.specs.declared.CoefficientCalculator.{CoefficientCalculator}
 use Rattle.coefficients.specs.declared.Refusal.{Refusal}
 use Rattle.coefficients.specs.declared.Refusal.the-variants.{InvalidState, TooManySamples, StoreTooShort}
 use Rattle.coefficients.specs.Store as Store
-use Rattle.coefficients.specs.Finish.{analyse, stored, counted, finish}
+use Rattle.coefficients.specs.FrameRecord.{analyse, stored, counted}
+use Rattle.coefficients.specs.Finish.{recordCoefficients}
+
+-- ---- the answers
 
 -- document 01's number of each refusal
-abbrev pub numberOf : Refusal → ℕ
-numberOf InvalidState = 1
-numberOf TooManySamples = 2
-numberOf StoreTooShort = 3
+abbrev pub code : Refusal → ℕ
+code InvalidState = 1
+code TooManySamples = 2
+code StoreTooShort = 3
 
--- numbers that the store must have for n samples
-abbrev pub neededOf : ℕ → ℕ
-neededOf n = 2 * framesOf n
+-- what an answer says
+abbrev pub outcome : Answer → Outcome Unit
+outcome Accepted = accepted tt
+outcome (Refused e) = refused (code e)
 
 -- ---- the state
 
@@ -36,25 +41,24 @@ calculator n r h = record { samples = n; records = r; history = h }
 unfoldable pub fresh : CoefficientCalculator
 fresh = calculator 0 0 (replicate 28 (pos 0))
 
--- code 1
-unfoldable pub validOf : ℕ → ℕ → Bool
-validOf n r = leb n most && leb r (n / 14)
+-- whether n samples and r records can be those of some samples: if not, code 1
+unfoldable pub valid : ℕ → ℕ → Bool
+valid n r = leb n most && leb r (n / 14)
 
--- n samples with r records, len samples more and a store of some size: what the calls' tests leave
-pub record Room (n r len size : ℕ) : Type 0 where
-  pub records : r ≤ n / 14
-  pub samples : n + len ≤ most
-  pub store : neededOf (n + len) ≤ size
-
--- ---- a piece is measured
+-- numbers that the store must have for n samples
+abbrev pub needed : ℕ → ℕ
+needed n = 2 * framesOf n
 
 -- the state and the store
 pub record Measuring : Type 0 where
   pub calculator : CoefficientCalculator
   pub store : List Float
 
+-- a state and a store
 abbrev pub measuring : CoefficientCalculator → List Float → Measuring
 measuring c s = record { calculator = c; store = s }
+
+-- ---- a piece is measured
 
 -- the first k of the last fourteen samples are copied to the front
 unfoldable pub copied : List ℤ → ℕ → List ℤ
@@ -62,45 +66,48 @@ copied h zero = h
 copied h (suc k) = set (copied h k) k (getD (copied h k) (14 + k) (pos 0))
 
 -- all fourteen are
-unfoldable pub shifted : List ℤ → List ℤ
+unfoldable pub shift : List ℤ → List ℤ
 unfolding copied
-shifted h = copied h 14
+shift h = copied h 14
 
 -- a full frame: its record, if it has one, goes to place r, and the history is shifted
 unfoldable pub framed : ℕ → ℕ → List ℤ → List Float → Measuring
-framed n r h s = measuring (calculator n (counted r (analyse h)) (shifted h)) (stored s r (analyse h))
+framed n r h s = measuring (calculator n (counted r (analyse h)) (shift h)) (stored s r (analyse h))
 
 -- one sample
-unfoldable pub pushed : Measuring → ℤ → Measuring
-pushed m x =
+unfoldable pub push : Measuring → ℤ → Measuring
+push m x =
     let n = m .calculator .samples in
     let r = m .calculator .records in
     let h = set (m .calculator .history) (14 + n % 14) x in
     cond (eqb (n % 14) 13) (framed (n + 1) r h (m .store)) (measuring (calculator (n + 1) r h) (m .store))
 
 -- codes 1, 2, 3 for a piece of some length and a store of some size
-unfoldable pub processAnswer : ℕ → ℕ → ℕ → ℕ → Answer
+unfoldable pub processAnswer : ℕ → ℕ → ℕ → ℕ → Outcome Unit
 processAnswer n r len size =
-    cond (not (validOf n r)) (Refused InvalidState)
-    (cond (ltb most (n + len)) (Refused TooManySamples)
-    (cond (ltb size (neededOf (n + len))) (Refused StoreTooShort)
-    Accepted))
+    cond (not (valid n r)) (refused 1)
+    (cond (ltb most (n + len)) (refused 2)
+    (cond (ltb size (needed (n + len))) (refused 3)
+    (accepted tt)))
 
 -- what `process` answers and leaves
-pub record ProcessOut : Type 0 where
-  pub answer : Answer
+pub record ProcessEffect : Type 0 where
+  pub outcome : Outcome Unit
   pub calculator : CoefficientCalculator
   pub store : List Float
 
-abbrev pub processOut : Answer → Measuring → ProcessOut
-processOut a m = record { answer = a; calculator = m .calculator; store = m .store }
+-- an outcome, and the state and the store that are left
+abbrev pub processEffect : Outcome Unit → Measuring → ProcessEffect
+processEffect o m = record { outcome = o; calculator = m .calculator; store = m .store }
 
-abbrev pub processBy : Answer → Measuring → List ℤ → ProcessOut
-processBy Accepted m xs = processOut Accepted (foldl pushed m xs)
-processBy (Refused e) m xs = processOut (Refused e) m
+-- an accepted piece is measured sample by sample; a refused one changes nothing
+abbrev pub processBy : Outcome Unit → Measuring → List ℤ → ProcessEffect
+processBy (accepted u) m xs = processEffect (accepted u) (foldl push m xs)
+processBy (refused n) m xs = processEffect (refused n) m
 
-unfoldable pub processOf : CoefficientCalculator → List ℤ → List Float → ProcessOut
-processOf c xs s = processBy (processAnswer (c .samples) (c .records) (length xs) (length s)) (measuring c s) xs
+-- a piece on a store
+unfoldable pub process : CoefficientCalculator → List ℤ → List Float → ProcessEffect
+process c xs s = processBy (processAnswer (c .samples) (c .records) (length xs) (length s)) (measuring c s) xs
 
 -- ---- coefficients are asked for
 
@@ -108,37 +115,41 @@ processOf c xs s = processBy (processAnswer (c .samples) (c .records) (length xs
 unfoldable pub padded : List ℤ → ℕ → List ℤ
 padded h k = sets h (14 + k) (replicate (14 - k) (pos 0))
 
--- the store and the count of records with the padded frame's, if there is such a frame and it has one
-unfoldable pub closedStore : CoefficientCalculator → List Float → List Float
-closedStore c s =
+-- the store with the padded frame's record, if there is such a frame and it has one
+unfoldable pub paddedStore : CoefficientCalculator → List Float → List Float
+paddedStore c s =
     let k = c .samples % 14 in
     cond (eqb k 0) s (stored s (c .records) (analyse (padded (c .history) k)))
 
-unfoldable pub closedCount : CoefficientCalculator → ℕ
-closedCount c =
+-- the count of records with it
+unfoldable pub paddedCount : CoefficientCalculator → ℕ
+paddedCount c =
     let k = c .samples % 14 in
     cond (eqb k 0) (c .records) (counted (c .records) (analyse (padded (c .history) k)))
 
 -- codes 1 and 3
-unfoldable pub finishAnswer : ℕ → ℕ → ℕ → Answer
+unfoldable pub finishAnswer : ℕ → ℕ → ℕ → Outcome Unit
 finishAnswer n r size =
-    cond (not (validOf n r)) (Refused InvalidState)
-    (cond (ltb size (neededOf n)) (Refused StoreTooShort)
-    Accepted)
+    cond (not (valid n r)) (refused 1)
+    (cond (ltb size (needed n)) (refused 3)
+    (accepted tt))
 
--- what `finish` answers and leaves; a refusal's coefficients are zeros
-pub record FinishOut : Type 0 where
-  pub answer : Answer
+-- what `finish` answers and leaves
+pub record FinishEffect : Type 0 where
+  pub outcome : Outcome Unit
   pub coefficients : List ℤ
   pub calculator : CoefficientCalculator
   pub store : List Float
 
-abbrev pub finishOut : Answer → List ℤ → CoefficientCalculator → List Float → FinishOut
-finishOut a cs c s = record { answer = a; coefficients = cs; calculator = c; store = s }
+-- an outcome and coefficients, and the state and the store that are left
+abbrev pub finishEffect : Outcome Unit → List ℤ → CoefficientCalculator → List Float → FinishEffect
+finishEffect o cs c s = record { outcome = o; coefficients = cs; calculator = c; store = s }
 
-abbrev pub finishBy : Answer → CoefficientCalculator → List Float → FinishOut
-finishBy Accepted c s = finishOut Accepted (finish (Store.records (closedStore c s) (closedCount c))) c (closedStore c s)
-finishBy (Refused e) c s = finishOut (Refused e) (replicate 16 (pos 0)) c s
+-- an accepted asking leaves the state as it was; a refused one changes nothing, and its coefficients are zeros
+abbrev pub finishBy : Outcome Unit → CoefficientCalculator → List Float → FinishEffect
+finishBy (accepted u) c s = finishEffect (accepted u) (recordCoefficients (Store.records (paddedStore c s) (paddedCount c))) c (paddedStore c s)
+finishBy (refused n) c s = finishEffect (refused n) (replicate 16 (pos 0)) c s
 
-unfoldable pub finishOf : CoefficientCalculator → List Float → FinishOut
-finishOf c s = finishBy (finishAnswer (c .samples) (c .records) (length s)) c s
+-- an asking on a store
+unfoldable pub finish : CoefficientCalculator → List Float → FinishEffect
+finish c s = finishBy (finishAnswer (c .samples) (c .records) (length s)) c s

@@ -1,4 +1,4 @@
--- Whole runs of measuring: a plain machine that sees only the calls and the store's length.
+-- Whole runs of measuring: a plain machine that sees only the calls and the store's length. Definitions only.
 use Prim.Native.Nat.{ℕ, zero, suc, _+_}
 use mathlib.Core.List.{List, [], _∷_, _++_}
 use mathlib.Core.Bool.{cond}
@@ -6,14 +6,13 @@ use lib.Dec.{ltb}
 use lib.IntN.{ℤ, pos}
 use lib.ListN.{length, take, drop, replicate}
 use Rattle.whole.specs.Frames.{frameAt, most, framesOf}
-use Rattle.coefficients.specs.declared.Answer.{Answer}
-use Rattle.coefficients.specs.declared.Answer.the-variants.{Accepted, Refused}
-use Rattle.coefficients.specs.declared.Refusal.the-variants.{TooManySamples, StoreTooShort}
+use Rattle.whole.specs.Outcome.{Outcome, accepted, refused}
 use Rattle.coefficients.specs.declared.framing.Found.{Found}
 use Rattle.coefficients.specs.declared.framing.Found.the-variants.{Nothing, One}
 use Rattle.coefficients.specs.declared.merging.Record.{Record}
-use Rattle.coefficients.specs.Finish.{analyse, finish}
-use Rattle.coefficients.specs.Measure.{neededOf, Measuring, measuring, processOf, finishOf}
+use Rattle.coefficients.specs.FrameRecord.{analyse}
+use Rattle.coefficients.specs.Finish.{recordCoefficients}
+use Rattle.coefficients.specs.Measure.{calculator, needed, Measuring, measuring, process, finish}
 
 -- ---- the coefficients of X
 
@@ -36,60 +35,53 @@ unfoldable pub recordsOf : List ℤ → ℕ → List Record
 recordsOf xs zero = []
 recordsOf xs (suc k) = recordsOf xs k ++ recordOf (analyse (holding (leftAt xs k) (frameAt xs k)))
 
+-- the coefficients of X: those of all its frames' records
 unfoldable pub coefficientsOf : List ℤ → List ℤ
-coefficientsOf xs = finish (recordsOf xs (framesOf (length xs)))
+coefficientsOf xs = recordCoefficients (recordsOf xs (framesOf (length xs)))
 
 -- ---- the plain machine
 
+-- a piece is measured, or coefficients are asked for
 pub data Call : Type 0 where
   measures : List ℤ → Call
   asks : Call
 
--- what a call answers: an asking that is accepted also has coefficients
-pub record Seen : Type 0 where
-  pub answer : Answer
-  pub coefficients : List ℤ
+-- the store has some size, X is what was accepted so far: a measuring that is accepted has no values, an asking has coefficients
+abbrev pub plainOutcome : ℕ → List ℤ → Call → Outcome (List ℤ)
+plainOutcome size xs (measures p) = cond (ltb most (length xs + length p)) (refused 2) (cond (ltb size (needed (length xs + length p))) (refused 3) (accepted []))
+plainOutcome size xs asks = cond (ltb size (needed (length xs))) (refused 3) (accepted (coefficientsOf xs))
 
-abbrev pub seen : Answer → List ℤ → Seen
-seen a cs = record { answer = a; coefficients = cs }
+-- X after a call: an accepted piece joins it
+abbrev pub plainNext : Outcome (List ℤ) → List ℤ → Call → List ℤ
+plainNext (accepted cs) xs (measures p) = xs ++ p
+plainNext (accepted cs) xs asks = xs
+plainNext (refused n) xs c = xs
 
--- the store has some size, X is what was accepted so far
-abbrev pub plainAnswer : ℕ → List ℤ → Call → Answer
-plainAnswer size xs (measures p) =
-    cond (ltb most (length xs + length p)) (Refused TooManySamples) (cond (ltb size (neededOf (length xs + length p))) (Refused StoreTooShort) Accepted)
-plainAnswer size xs asks = cond (ltb size (neededOf (length xs))) (Refused StoreTooShort) Accepted
-
-abbrev pub plainSeen : Answer → List ℤ → Call → Seen
-plainSeen Accepted xs (measures p) = seen Accepted []
-plainSeen Accepted xs asks = seen Accepted (coefficientsOf xs)
-plainSeen (Refused e) xs c = seen (Refused e) []
-
-abbrev pub plainNext : Answer → List ℤ → Call → List ℤ
-plainNext Accepted xs (measures p) = xs ++ p
-plainNext Accepted xs asks = xs
-plainNext (Refused e) xs c = xs
-
-unfoldable pub plainRun : ℕ → List ℤ → List Call → List Seen
+-- what a list of calls answers
+unfoldable pub plainRun : ℕ → List ℤ → List Call → List (Outcome (List ℤ))
 plainRun size xs [] = []
 plainRun size xs (c ∷ cs) =
-    let a = plainAnswer size xs c in
-    plainSeen a xs c ∷ plainRun size (plainNext a xs c) cs
+    let o = plainOutcome size xs c in
+    o ∷ plainRun size (plainNext o xs c) cs
 
 -- ---- the calls' own definitions, one after the other
 
--- an asking's coefficients are seen where it is accepted
-abbrev pub shown : Answer → List ℤ → List ℤ
-shown Accepted cs = cs
-shown (Refused e) cs = []
+-- the outcome of a call that has values where it is accepted
+abbrev pub withValues : Outcome Unit → List ℤ → Outcome (List ℤ)
+withValues (accepted u) cs = accepted cs
+withValues (refused n) cs = refused n
 
-abbrev pub callSeen : Measuring → Call → Seen
-callSeen m (measures p) = seen (processOf (m .calculator) p (m .store) .answer) []
-callSeen m asks = let o = finishOf (m .calculator) (m .store) in seen (o .answer) (shown (o .answer) (o .coefficients))
+-- what a call answers
+abbrev pub callOutcome : Measuring → Call → Outcome (List ℤ)
+callOutcome m (measures p) = withValues (process (m .calculator) p (m .store) .outcome) []
+callOutcome m asks = let e = finish (m .calculator) (m .store) in withValues (e .outcome) (e .coefficients)
 
+-- the state and the store after it
 abbrev pub callNext : Measuring → Call → Measuring
-callNext m (measures p) = let o = processOf (m .calculator) p (m .store) in measuring (o .calculator) (o .store)
-callNext m asks = let o = finishOf (m .calculator) (m .store) in measuring (o .calculator) (o .store)
+callNext m (measures p) = let e = process (m .calculator) p (m .store) in measuring (e .calculator) (e .store)
+callNext m asks = let e = finish (m .calculator) (m .store) in measuring (e .calculator) (e .store)
 
-unfoldable pub run : Measuring → List Call → List Seen
+-- what a list of calls answers
+unfoldable pub run : Measuring → List Call → List (Outcome (List ℤ))
 run m [] = []
-run m (c ∷ cs) = callSeen m c ∷ run (callNext m c) cs
+run m (c ∷ cs) = callOutcome m c ∷ run (callNext m c) cs

@@ -1,12 +1,12 @@
 // The vectors that the records are gathered around.
 ghost use mathlib.Core.Path.{_≡_};
-ghost use Prim.Native.Nat.{ℕ, _+_, _*_, _≤_, _<_};
-ghost use lib.ListN.{length, getD};
+ghost use Prim.Native.Nat.{_+_, _*_, _≤_, _<_};
+ghost use lib.ListN.{length};
 ghost use mathlib.Core.Bool.{true};
 ghost use Rattle.coefficients.specs.Clusters as Clusters;
-ghost use Rattle.coefficients.specs.Filtered.{AllSmall};
-ghost use Rattle.coefficients.specs.Hoisted as Hoisted;
-ghost use Rattle.coefficients.specs.Hoisted.{Nearest};
+ghost use Rattle.coefficients.specs.inner.PlainContrasts.{AllSmall};
+ghost use Rattle.coefficients.specs.inner.SharedTerms as SharedTerms;
+ghost use Rattle.coefficients.specs.inner.SharedTerms.{Nearest};
 ghost use Rattle.coefficients.specs.Store.{records};
 use crate::filter::all_small;
 use crate::filter::are_small;
@@ -16,21 +16,24 @@ use crate::merging::Record;
 use crate::merging::Side;
 use crate::merging::Vec3;
 use crate::merging::VectorTerms;
-use crate::merging::contrast_of;
+use crate::merging::record_side;
 use crate::merging::record_terms;
-use crate::merging::side_of;
+use crate::merging::terms_contrast;
 use crate::merging::vector_terms;
 
+// The least contrast so far, and its place.
 pub(crate) struct Best {
     pub value: f64,
     pub index: usize,
 }
 
+// How many records joined each vector, and the sums of what matrix_filter makes of them.
 pub(crate) struct Tally {
     pub counts: [u32; 8],
     pub sums: [Vec3; 8],
 }
 
+// The lower of the best so far and number i.
 fn better(b: Best, t: f64, i: usize) -> Best
     ensures { λ r. ⌜ r ≡ Clusters.better b t i ⌝ }
 {
@@ -44,7 +47,7 @@ fn better(b: Best, t: f64, i: usize) -> Best
 // The terms of the first m vectors.
 fn all_terms(vs: [Vec3; 8], m: usize) -> [VectorTerms; 8]
     requires { ⌜ m ≤ 8 ⌝ }
-    ensures { λ x. ⌜ x ≡ Hoisted.termsOf vs m ⌝ }
+    ensures { λ x. ⌜ x ≡ SharedTerms.allTerms vs m ⌝ }
 {
     let z = VectorTerms {
         val1: 0.0,
@@ -71,7 +74,7 @@ fn nearest(ts: [VectorTerms; 8], n: usize, s: Side) -> usize
     };
     let mut i: usize = 0;
     while i < n {
-        b = better(b, contrast_of(ts[i], s), i);
+        b = better(b, terms_contrast(ts[i], s), i);
         i += 1;
     }
     b.index
@@ -81,7 +84,7 @@ fn nearest(ts: [VectorTerms; 8], n: usize, s: Side) -> usize
 fn chosen(ts: [VectorTerms; 8], n: usize, small: bool, r: Record, val: f64) -> usize
     requires { ⌜ n ≤ 8 ⌝ }
     requires { ⌜ (small ≡ true → AllSmall ts n) ⌝ }
-    ensures { λ x. ⌜ Nearest ts n (Hoisted.sideOf r val) x ⌝ }
+    ensures { λ x. ⌜ Nearest ts n (SharedTerms.recordSide r val) x ⌝ }
 {
     if small && are_small(r.v1, r.v2, val) {
         let l = leading(ts, n, plain_side(r, val));
@@ -89,9 +92,10 @@ fn chosen(ts: [VectorTerms; 8], n: usize, small: bool, r: Record, val: f64) -> u
             return l.index;
         }
     }
-    nearest(ts, n, side_of(r, val))
+    nearest(ts, n, record_side(r, val))
 }
 
+// The sum of two vectors.
 fn plus3(a: Vec3, b: Vec3) -> Vec3
     ensures { λ r. ⌜ r ≡ Clusters.plus3 a b ⌝ }
 {
@@ -102,10 +106,10 @@ fn plus3(a: Vec3, b: Vec3) -> Vec3
     }
 }
 
-// What each record of the store adds.
+// Counts and sums of the store's records, each with the vector nearest to it.
 pub(crate) fn gather(vs: [Vec3; 8], m: usize, s: &[f64], n: usize) -> Tally
     requires { ⌜ (m ≤ 8) × (2 * n ≤ length (now s)) × (n ≤ 1048576) ⌝ }
-    ensures { λ x. ⌜ x ≡ Clusters.tally vs m (records (now (s .entry)) n) ⌝ }
+    ensures { λ x. ⌜ x ≡ Clusters.gather vs m (records (now (s .entry)) n) ⌝ }
 {
     let z = Vec3 {
         x0: 0.0,
@@ -135,7 +139,7 @@ pub(crate) fn gather(vs: [Vec3; 8], m: usize, s: &[f64], n: usize) -> Tally
     t
 }
 
-// What a vector becomes.
+// A sum over its count; over 0, the sum.
 fn mean(a: Vec3, c: u32) -> Vec3
     ensures { λ x. ⌜ x ≡ Clusters.mean a c ⌝ }
 {
@@ -150,8 +154,9 @@ fn mean(a: Vec3, c: u32) -> Vec3
     }
 }
 
-fn led(r: Record) -> Vec3
-    ensures { λ x. ⌜ x ≡ Clusters.led r ⌝ }
+// A record with the 1 that it does not store.
+fn with_one(r: Record) -> Vec3
+    ensures { λ x. ⌜ x ≡ Clusters.withOne r ⌝ }
 {
     Vec3 {
         x0: 1.0,
@@ -160,6 +165,7 @@ fn led(r: Record) -> Vec3
     }
 }
 
+// The first m vectors made anew.
 pub(crate) fn renewed(vs: [Vec3; 8], m: usize, t: Tally) -> [Vec3; 8]
     requires { ⌜ m ≤ 8 ⌝ }
     ensures { λ x. ⌜ x ≡ Clusters.renewed vs t m ⌝ }
@@ -169,15 +175,16 @@ pub(crate) fn renewed(vs: [Vec3; 8], m: usize, t: Tally) -> [Vec3; 8]
     while i < m {
         let a = t.sums[i];
         let c = t.counts[i];
-        ws[i] = led(crate::merging::merge_finish_record(mean(a, c)));
+        ws[i] = with_one(crate::merging::merge_finish_record(mean(a, c)));
         i += 1;
     }
     ws
 }
 
+// One of filter_records' two rounds.
 pub(crate) fn filter_round(vs: [Vec3; 8], m: usize, s: &[f64], n: usize) -> [Vec3; 8]
     requires { ⌜ (m ≤ 8) × (2 * n ≤ length (now s)) × (n ≤ 1048576) ⌝ }
-    ensures { λ x. ⌜ x ≡ Clusters.round vs m (records (now (s .entry)) n) ⌝ }
+    ensures { λ x. ⌜ x ≡ Clusters.filterRound vs m (records (now (s .entry)) n) ⌝ }
 {
     renewed(vs, m, gather(vs, m, s, n))
 }
@@ -218,6 +225,7 @@ pub(crate) fn grown(vs: [Vec3; 8], m: usize, s: &[f64], n: usize) -> [Vec3; 8]
     filter_round(filter_round(ws, e, s, n), e, s, n)
 }
 
+// The eight vectors of n records: one, grown three times.
 pub(crate) fn vectors(s: &[f64], n: usize) -> [Vec3; 8]
     requires { ⌜ (2 * n ≤ length (now s)) × (n ≤ 1048576) ⌝ }
     ensures { λ x. ⌜ x ≡ Clusters.vectors (records (now (s .entry)) n) ⌝ }
@@ -228,6 +236,6 @@ pub(crate) fn vectors(s: &[f64], n: usize) -> [Vec3; 8]
         x2: 0.0,
     };
     let mut vs = [z; 8];
-    vs[0] = led(crate::store::first_vector(s, n));
+    vs[0] = with_one(crate::store::first_vector(s, n));
     grown(grown(grown(vs, 1, s, n), 2, s, n), 4, s, n)
 }

@@ -2,8 +2,8 @@
 ghost use mathlib.Core.Path.{_≡_};
 ghost use mathlib.Core.Bool.{true};
 ghost use Prim.Native.Nat.{_≤_};
-ghost use Rattle.coefficients.specs.Filtered as Filtered;
-ghost use Rattle.coefficients.specs.Filtered.{Small, Smalls, SmallTerms, AllSmall};
+ghost use Rattle.coefficients.specs.inner.PlainContrasts as PlainContrasts;
+ghost use Rattle.coefficients.specs.inner.PlainContrasts.{Small, Smalls, SmallTerms, AllSmall};
 use crate::merging::Record;
 use crate::merging::Side;
 use crate::merging::VectorTerms;
@@ -22,6 +22,7 @@ fn is_small(x: f64) -> bool
     -16.0 < x && x < 16.0
 }
 
+// Whether three numbers are small.
 pub(crate) fn are_small(a: f64, b: f64, c: f64) -> bool
     ensures { λ r. ⌜ (r ≡ true → Smalls a b c) ⌝ }
 {
@@ -34,6 +35,7 @@ pub(crate) fn are_small(a: f64, b: f64, c: f64) -> bool
     is_small(c)
 }
 
+// Whether a vector's terms are small.
 fn small_terms(v: VectorTerms) -> bool
     ensures { λ r. ⌜ (r ≡ true → SmallTerms v) ⌝ }
 {
@@ -55,8 +57,9 @@ pub(crate) fn all_small(ts: [VectorTerms; 8], n: usize) -> bool
     true
 }
 
+// A record's part in its contrasts, each operation rounded.
 pub(crate) fn plain_side(b: Record, val: f64) -> Side
-    ensures { λ r. ⌜ r ≡ Filtered.plainSide b val ⌝ }
+    ensures { λ r. ⌜ r ≡ PlainContrasts.plainSide b val ⌝ }
 {
     Side {
         twice: 2.0 * val,
@@ -64,20 +67,23 @@ pub(crate) fn plain_side(b: Record, val: f64) -> Side
     }
 }
 
+// A contrast, each operation rounded.
 fn plain_contrast(v: VectorTerms, s: Side) -> f64
-    ensures { λ r. ⌜ r ≡ Filtered.plainContrast v s ⌝ }
+    ensures { λ r. ⌜ r ≡ PlainContrasts.plainContrast v s ⌝ }
 {
     s.last * v.val3 + (s.twice * v.val2 + v.val1)
 }
 
+// The lower of two numbers.
 fn lower(a: f64, b: f64) -> f64
-    ensures { λ r. ⌜ r ≡ Filtered.lower a b ⌝ }
+    ensures { λ r. ⌜ r ≡ PlainContrasts.lower a b ⌝ }
 {
     if a < b { a } else { b }
 }
 
+// The least and the next, with number i.
 fn closer(l: Lead, t: f64, i: usize) -> Lead
-    ensures { λ r. ⌜ r ≡ Filtered.closer l t i ⌝ }
+    ensures { λ r. ⌜ r ≡ PlainContrasts.closer l t i ⌝ }
 {
     if t < l.least {
         Lead {
@@ -97,7 +103,7 @@ fn closer(l: Lead, t: f64, i: usize) -> Lead
 // The least and the next of the plain contrasts with the first n vectors.
 pub(crate) fn leading(ts: [VectorTerms; 8], n: usize, s: Side) -> Lead
     requires { ⌜ n ≤ 8 ⌝ }
-    ensures { λ r. ⌜ r ≡ Filtered.leadOf ts s n ⌝ }
+    ensures { λ r. ⌜ r ≡ PlainContrasts.leading ts s n ⌝ }
 {
     let mut l = Lead {
         least: 1.0e30,

@@ -7,7 +7,7 @@ ghost use Rattle.coefficients.specs.Finish as Finish;
 ghost use Rattle.coefficients.specs.Store.{records};
 use crate::merging::Vec3;
 
-// Rust's `x as i16`: without its fraction, held within the type's range, and 0 for a NaN.
+// Rust's `x as i16`: without its fraction, cut down to the type's range, and 0 for a NaN.
 pub(crate) fn as_i16(x: f64) -> i16
     ensures { λ r. ⌜ r ≡ toSigned 15 x ⌝ }
 {
@@ -23,6 +23,7 @@ pub(crate) fn as_i16(x: f64) -> i16
     0
 }
 
+// A vector's number as a coefficient.
 pub(crate) fn coefficient(v: f64) -> i16
     ensures { λ r. ⌜ r ≡ Finish.coefficient v ⌝ }
 {
@@ -34,6 +35,7 @@ pub(crate) fn coefficient(v: f64) -> i16
     }
 }
 
+// The eight pairs.
 pub(crate) fn pairs(vs: [Vec3; 8]) -> [i16; 16]
     ensures { λ r. ⌜ r ≡ Finish.pairs vs 8 ⌝ }
 {
@@ -50,9 +52,10 @@ pub(crate) fn pairs(vs: [Vec3; 8]) -> [i16; 16]
     cs
 }
 
-pub(crate) fn finish(s: &[f64], n: usize) -> [i16; 16]
+// The coefficients of n records: zeros where there is none.
+pub(crate) fn record_coefficients(s: &[f64], n: usize) -> [i16; 16]
     requires { ⌜ (2 * n ≤ length (now s)) × (n ≤ 1048576) ⌝ }
-    ensures { λ r. ⌜ r ≡ Finish.finish (records (now (s .entry)) n) ⌝ }
+    ensures { λ r. ⌜ r ≡ Finish.recordCoefficients (records (now (s .entry)) n) ⌝ }
 {
     if n == 0 {
         return [0i16; 16];

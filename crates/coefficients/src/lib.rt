@@ -24,6 +24,7 @@ pub enum Refusal {
     StoreTooShort,
 }
 
+// Whether a call is accepted.
 pub enum Answer {
     Accepted,
     Refused(Refusal),
@@ -37,11 +38,13 @@ pub struct CoefficientCalculator {
     pub history: [i16; 28],
 }
 
+// What measuring a piece returns.
 pub struct Processed {
     pub answer: Answer,
     pub calculator: CoefficientCalculator,
 }
 
+// What asking for coefficients returns.
 pub struct Finished {
     pub answer: Answer,
     pub coefficients: [i16; 16],
@@ -50,7 +53,7 @@ pub struct Finished {
 
 // Document 01's number of a refusal.
 pub fn code(refusal: Refusal) -> u32
-    ensures { λ r. ⌜ r ≡ Measure.numberOf refusal ⌝ }
+    ensures { λ r. ⌜ r ≡ Measure.code refusal ⌝ }
 {
     match refusal {
         Refusal::InvalidState => 1,
@@ -73,8 +76,8 @@ impl CoefficientCalculator {
 
     // Measures a piece: the record of each frame that it fills goes to the store.
     pub fn process(self, samples: &[i16], records: &mut [f64]) -> Processed
-        ensures { λ r. ⌜ Measure.processOut (r .answer) (Measure.measuring (r .calculator) (now (records .exit)))
-            ≡ Measure.processOf self (now (samples .entry)) (now (records .entry)) ⌝ }
+        ensures { λ r. ⌜ Measure.processEffect (Measure.outcome (r .answer)) (Measure.measuring (r .calculator) (now (records .exit)))
+            ≡ Measure.process self (now (samples .entry)) (now (records .entry)) ⌝ }
     {
         let n = self.samples;
         let r = self.records;
@@ -96,8 +99,8 @@ impl CoefficientCalculator {
 
     // Works out the coefficients of all that was measured, the frame that is not full filled with zeros.
     pub fn finish(self, records: &mut [f64]) -> Finished
-        ensures { λ r. ⌜ Measure.finishOut (r .answer) (r .coefficients) (r .calculator) (now (records .exit))
-            ≡ Measure.finishOf self (now (records .entry)) ⌝ }
+        ensures { λ r. ⌜ Measure.finishEffect (Measure.outcome (r .answer)) (r .coefficients) (r .calculator) (now (records .exit))
+            ≡ Measure.finish self (now (records .entry)) ⌝ }
     {
         let n = self.samples;
         let r = self.records;
@@ -105,7 +108,7 @@ impl CoefficientCalculator {
         match answer {
             Answer::Accepted => {
                 let count = padded_record(self, records);
-                let coefficients = finishing::finish(records, count);
+                let coefficients = finishing::record_coefficients(records, count);
                 Finished {
                     answer: Answer::Accepted,
                     coefficients,

@@ -4,17 +4,20 @@ ghost use mathlib.Core.List.{foldl};
 ghost use Prim.Native.Nat.{_+_, _*_, _/_, _%_, _≤_, _<_};
 ghost use lib.ListN.{length};
 ghost use Rattle.coefficients.specs.Measure as Measure;
-ghost use Rattle.coefficients.specs.Measure.{Room};
+ghost use Rattle.coefficients.specs.inner.KeptRecord.{KeptPadded};
+ghost use Rattle.coefficients.specs.inner.Measurable.{Measurable};
 use crate::Answer;
 use crate::CoefficientCalculator;
 use crate::Refusal;
 use crate::framing::process_frame;
+use whole::MOST_SAMPLES;
+use whole::SAMPLES_PER_FRAME;
 
 // Whether the counts are those of some measured samples.
 fn valid(n: u32, r: u32) -> bool
-    ensures { λ q. ⌜ q ≡ Measure.validOf n r ⌝ }
+    ensures { λ q. ⌜ q ≡ Measure.valid n r ⌝ }
 {
-    if n > 14_680_064 {
+    if n > MOST_SAMPLES {
         return false;
     }
     r <= n / 14
@@ -23,13 +26,14 @@ fn valid(n: u32, r: u32) -> bool
 // Numbers that the store must have for n samples.
 fn needed(n: usize) -> usize
     requires { ⌜ n ≤ 14680064 ⌝ }
-    ensures { λ q. ⌜ q ≡ Measure.neededOf n ⌝ }
+    ensures { λ q. ⌜ q ≡ Measure.needed n ⌝ }
 {
-    2 * ((n + 13) / 14)
+    2 * ((n + 13) / SAMPLES_PER_FRAME)
 }
 
+// Whether a piece of some length on a store of some size is refused.
 pub(crate) fn process_answer(n: u32, r: u32, len: usize, size: usize) -> Answer
-    ensures { λ q. ⌜ q ≡ Measure.processAnswer n r len size ⌝ }
+    ensures { λ q. ⌜ Measure.outcome q ≡ Measure.processAnswer n r len size ⌝ }
 {
     if !valid(n, r) {
         return Answer::Refused(Refusal::InvalidState);
@@ -44,8 +48,9 @@ pub(crate) fn process_answer(n: u32, r: u32, len: usize, size: usize) -> Answer
     Answer::Accepted
 }
 
+// Whether an asking on a store of some size is refused.
 pub(crate) fn finish_answer(n: u32, r: u32, size: usize) -> Answer
-    ensures { λ q. ⌜ q ≡ Measure.finishAnswer n r size ⌝ }
+    ensures { λ q. ⌜ Measure.outcome q ≡ Measure.finishAnswer n r size ⌝ }
 {
     if !valid(n, r) {
         return Answer::Refused(Refusal::InvalidState);
@@ -58,11 +63,11 @@ pub(crate) fn finish_answer(n: u32, r: u32, size: usize) -> Answer
 
 // The last fourteen samples are copied to the front.
 fn shift(h: &mut [i16; 28])
-    ensures { λ _. ⌜ now (h .exit) ≡ Measure.shifted (now (h .entry)) ⌝ }
+    ensures { λ _. ⌜ now (h .exit) ≡ Measure.shift (now (h .entry)) ⌝ }
 {
     let mut i: usize = 0;
-    while i < 14 {
-        let x = h[14 + i];
+    while i < SAMPLES_PER_FRAME {
+        let x = h[SAMPLES_PER_FRAME + i];
         h[i] = x;
         i += 1;
     }
@@ -72,10 +77,10 @@ fn shift(h: &mut [i16; 28])
 fn push(n: u32, r: usize, h: &mut [i16; 28], x: i16, s: &mut [f64]) -> usize
     requires { ⌜ 2 * r + 1 < length (now s) ⌝ }
     ensures { λ q. ⌜ Measure.measuring (Measure.calculator (n + 1) q (now (h .exit))) (now (s .exit))
-        ≡ Measure.pushed (Measure.measuring (Measure.calculator n r (now (h .entry))) (now (s .entry))) x ⌝ }
+        ≡ Measure.push (Measure.measuring (Measure.calculator n r (now (h .entry))) (now (s .entry))) x ⌝ }
 {
     let k = (n % 14) as usize;
-    let at = 14 + k;
+    let at = SAMPLES_PER_FRAME + k;
     h[at] = x;
     if k == 13 {
         let q = process_frame(h, s, r);
@@ -91,9 +96,9 @@ pub(crate) fn push_all(
     samples: &[i16],
     s: &mut [f64],
 ) -> CoefficientCalculator
-    requires { ⌜ Room (c .samples) (c .records) (length (now samples)) (length (now s)) ⌝ }
+    requires { ⌜ Measurable (c .samples) (c .records) (length (now samples)) (length (now s)) ⌝ }
     ensures { λ q. ⌜ Measure.measuring q (now (s .exit))
-        ≡ foldl Measure.pushed (Measure.measuring c (now (s .entry))) (now (samples .entry)) ⌝ }
+        ≡ foldl Measure.push (Measure.measuring c (now (s .entry))) (now (samples .entry)) ⌝ }
 {
     let mut n = c.samples;
     let mut r = c.records as usize;
@@ -117,7 +122,7 @@ fn padded(h: [i16; 28], k: usize) -> [i16; 28]
     ensures { λ q. ⌜ q ≡ Measure.padded h k ⌝ }
 {
     let mut g = h;
-    let mut i = 14 + k;
+    let mut i = SAMPLES_PER_FRAME + k;
     while i < 28 {
         g[i] = 0;
         i += 1;
@@ -127,8 +132,8 @@ fn padded(h: [i16; 28], k: usize) -> [i16; 28]
 
 // The padded frame's record, if there is such a frame and it has one, goes to the store: the count of records with it.
 pub(crate) fn padded_record(c: CoefficientCalculator, s: &mut [f64]) -> usize
-    requires { ⌜ Room (c .samples) (c .records) 0 (length (now s)) ⌝ }
-    ensures { λ q. ⌜ (q ≡ Measure.closedCount c) × (now (s .exit) ≡ Measure.closedStore c (now (s .entry))) ⌝ }
+    requires { ⌜ Measurable (c .samples) (c .records) 0 (length (now s)) ⌝ }
+    ensures { λ q. ⌜ KeptPadded c (now (s .entry)) q (now (s .exit)) ⌝ }
 {
     let r = c.records as usize;
     let k = (c.samples % 14) as usize;

@@ -1,7 +1,7 @@
 // Records and vectors: what is made of each, and their contrast.
 ghost use mathlib.Core.Path.{_≡_};
 ghost use Rattle.coefficients.specs.Analysis as Analysis;
-ghost use Rattle.coefficients.specs.Hoisted as Hoisted;
+ghost use Rattle.coefficients.specs.inner.SharedTerms as SharedTerms;
 
 // A record: the two numbers that follow the leading 1.
 pub(crate) struct Record {
@@ -37,8 +37,8 @@ pub(crate) struct RecordTerms {
 }
 
 // x, or what stands for it where it is not within -1 and 1.
-pub(crate) fn held(x: f64) -> f64
-    ensures { λ r. ⌜ r ≡ Analysis.held x ⌝ }
+pub(crate) fn within_one(x: f64) -> f64
+    ensures { λ r. ⌜ r ≡ Analysis.withinOne x ⌝ }
 {
     if x >= 1.0 {
         0.9999999999
@@ -49,11 +49,12 @@ pub(crate) fn held(x: f64) -> f64
     }
 }
 
+// A record of two numbers, each within -1 and 1.
 pub(crate) fn finish_record(a: f64, b: f64) -> Record
     ensures { λ r. ⌜ r ≡ Analysis.finishRecord a b ⌝ }
 {
-    let x1 = held(a);
-    let x2 = held(b);
+    let x1 = within_one(a);
+    let x2 = within_one(b);
     Record {
         v1: float::mul_add(x2, x1, x1),
         v2: x2,
@@ -62,7 +63,7 @@ pub(crate) fn finish_record(a: f64, b: f64) -> Record
 
 // A vector's part in its contrast with a record.
 pub(crate) fn vector_terms(a: Vec3) -> VectorTerms
-    ensures { λ r. ⌜ r ≡ Hoisted.vectorTerms a ⌝ }
+    ensures { λ r. ⌜ r ≡ SharedTerms.vectorTerms a ⌝ }
 {
     VectorTerms {
         val1: float::mul_add(a.x2, a.x2, float::mul_add(a.x0, a.x0, a.x1 * a.x1)),
@@ -73,7 +74,7 @@ pub(crate) fn vector_terms(a: Vec3) -> VectorTerms
 
 // What a record's contrasts divide, and what matrix_filter makes of it.
 pub(crate) fn record_terms(b: Record) -> RecordTerms
-    ensures { λ r. ⌜ r ≡ Hoisted.recordTerms b ⌝ }
+    ensures { λ r. ⌜ r ≡ SharedTerms.recordTerms b ⌝ }
 {
     let val = float::mul_add(b.v2, b.v1, -b.v1) / float::mul_add(b.v2, -b.v2, 1.0);
     let d1 = val + 0.0;
@@ -85,8 +86,8 @@ pub(crate) fn record_terms(b: Record) -> RecordTerms
 }
 
 // A record's part in its contrasts.
-pub(crate) fn side_of(b: Record, val: f64) -> Side
-    ensures { λ r. ⌜ r ≡ Hoisted.sideOf b val ⌝ }
+pub(crate) fn record_side(b: Record, val: f64) -> Side
+    ensures { λ r. ⌜ r ≡ SharedTerms.recordSide b val ⌝ }
 {
     Side {
         twice: 2.0 * val,
@@ -95,8 +96,8 @@ pub(crate) fn side_of(b: Record, val: f64) -> Side
 }
 
 // contrast_vectors of the two.
-pub(crate) fn contrast_of(v: VectorTerms, s: Side) -> f64
-    ensures { λ r. ⌜ r ≡ Hoisted.contrastOf v s ⌝ }
+pub(crate) fn terms_contrast(v: VectorTerms, s: Side) -> f64
+    ensures { λ r. ⌜ r ≡ SharedTerms.termsContrast v s ⌝ }
 {
     float::mul_add(s.last, v.val3, float::mul_add(s.twice, v.val2, v.val1))
 }
@@ -108,8 +109,9 @@ fn quotient(val: f64, x: f64) -> f64
     if val > 0.0 { -x / val } else { 0.0 }
 }
 
+// A record of a sum of vectors.
 pub(crate) fn merge_finish_record(s: Vec3) -> Record
-    ensures { λ r. ⌜ r ≡ Analysis.mergeFinish s ⌝ }
+    ensures { λ r. ⌜ r ≡ Analysis.mergeFinishRecord s ⌝ }
 {
     let d1 = quotient(s.x0, 0.0 + s.x1);
     let val = s.x0 * float::mul_add(d1, -d1, 1.0);

@@ -30,6 +30,7 @@ pub(crate) struct Ranges {
     pub i2: u8,
 }
 
+// The second and third numbers of a vector, merged.
 pub(crate) fn quadratic_merge(v: Vec3) -> Merged
     ensures { λ r. ⌜ r ≡ Analysis.quadraticMerge v ⌝ }
 {
@@ -118,6 +119,7 @@ fn pick(i: u8, a: f64, b: f64) -> f64
     if i == 2 { a } else { b }
 }
 
+// The matrix decomposed, with the reciprocals of its rows' largest numbers.
 fn decomposed(m: Mat2, r1: f64, r2: f64) -> Ranges
     ensures { λ r. ⌜ r ≡ Analysis.decomposed m r1 r2 ⌝ }
 {
@@ -150,6 +152,7 @@ fn decomposed(m: Mat2, r1: f64, r2: f64) -> Ranges
     }
 }
 
+// The matrix decomposed, where no row is all but zero.
 pub(crate) fn analyze_ranges(m: Mat2) -> Ranges
     ensures { λ r. ⌜ r ≡ Analysis.analyzeRanges m ⌝ }
 {
@@ -201,8 +204,9 @@ fn put(v: Vec3, i: u8, x: f64) -> Vec3
     w
 }
 
+// The solution of the two equations.
 pub(crate) fn bidirectional_filter(g: Ranges, v: Vec3) -> Vec3
-    ensures { λ r. ⌜ r ≡ Analysis.bidirectional g v ⌝ }
+    ensures { λ r. ⌜ r ≡ Analysis.bidirectionalFilter g v ⌝ }
 {
     let t1 = at(v, g.i1);
     let w1 = put(put(v, g.i1, v.x1), 1, t1);

@@ -1,15 +1,16 @@
 // The lent store of records.
 ghost use mathlib.Core.Path.{_≡_};
-ghost use Prim.Native.Nat.{ℕ, _+_, _*_, _≤_, _<_};
+ghost use Prim.Native.Nat.{_+_, _*_, _≤_, _<_};
 ghost use lib.ListN.{length};
 ghost use Rattle.coefficients.specs.Store as Store;
 ghost use Rattle.coefficients.specs.Store.{records};
 use crate::merging::Record;
 use crate::merging::Vec3;
 
+// The record at place k.
 pub(crate) fn read_record(s: &[f64], k: usize) -> Record
     requires { ⌜ 2 * k + 1 < length (now s) ⌝ }
-    ensures { λ r. ⌜ r ≡ Store.recordAt (now (s .entry)) k ⌝ }
+    ensures { λ r. ⌜ r ≡ Store.readRecord (now (s .entry)) k ⌝ }
 {
     let at = 2 * k;
     let next = at + 1;
@@ -19,9 +20,10 @@ pub(crate) fn read_record(s: &[f64], k: usize) -> Record
     }
 }
 
+// The record r goes to place k.
 pub(crate) fn write_record(s: &mut [f64], k: usize, r: Record)
     requires { ⌜ 2 * k + 1 < length (now s) ⌝ }
-    ensures { λ _. ⌜ now (s .exit) ≡ Store.putRecord (now (s .entry)) k r ⌝ }
+    ensures { λ _. ⌜ now (s .exit) ≡ Store.writeRecord (now (s .entry)) k r ⌝ }
 {
     let at = 2 * k;
     let next = at + 1;
@@ -29,6 +31,7 @@ pub(crate) fn write_record(s: &mut [f64], k: usize, r: Record)
     s[next] = r.v2;
 }
 
+// What matrix_filter makes of a record, added.
 fn add_filtered(a: Vec3, r: Record) -> Vec3
     ensures { λ x. ⌜ x ≡ Store.addFiltered a r ⌝ }
 {
@@ -40,6 +43,7 @@ fn add_filtered(a: Vec3, r: Record) -> Vec3
     }
 }
 
+// The sums of what matrix_filter makes of each of n records.
 pub(crate) fn totals(s: &[f64], n: usize) -> Vec3
     requires { ⌜ 2 * n ≤ length (now s) ⌝ }
     ensures { λ r. ⌜ r ≡ Store.totals (records (now (s .entry)) n) ⌝ }
@@ -57,6 +61,7 @@ pub(crate) fn totals(s: &[f64], n: usize) -> Vec3
     a
 }
 
+// Their mean, finished.
 pub(crate) fn first_vector(s: &[f64], n: usize) -> Record
     requires { ⌜ (2 * n ≤ length (now s)) × (n ≤ 1048576) ⌝ }
     ensures { λ r. ⌜ r ≡ Store.firstVector (records (now (s .entry)) n) ⌝ }

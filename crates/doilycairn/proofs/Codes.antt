@@ -12,20 +12,20 @@ use Rattle.clip.specs.declared.Refusal.the-variants as OfClip
 use Rattle.clip.specs.Encoding as ClipNumbers
 use Rattle.image.specs.declared.Refusal as Image
 use Rattle.image.specs.declared.Refusal.the-variants as OfImage
-use Rattle.image.specs.Opened as ImageNumbers
+use Rattle.image.specs.Opening as ImageNumbers
 use Rattle.block.specs.declared.Refusal as Block
 use Rattle.block.specs.declared.Refusal.the-variants as OfBlock
 use Rattle.block.specs.Refusals as BlockNumbers
 
-pub measuring-refused : (r : Measuring.Refusal) → 0 < MeasuringNumbers.numberOf r
+pub measuring-refused : (r : Measuring.Refusal) → 0 < MeasuringNumbers.code r
 measuring-refused OfMeasuring.InvalidState = omega arith
 measuring-refused OfMeasuring.TooManySamples = omega arith
 measuring-refused OfMeasuring.StoreTooShort = omega arith
 
-pub frame-refused : (r : Frame.Refusal) → 0 < FrameNumbers.numberOf r
+pub frame-refused : (r : Frame.Refusal) → 0 < FrameNumbers.code r
 frame-refused OfFrame.CoefficientOutside = omega arith
 
-pub clip-refused : (r : Clip.Refusal) → 0 < ClipNumbers.numberOf r
+pub clip-refused : (r : Clip.Refusal) → 0 < ClipNumbers.code r
 clip-refused OfClip.InvalidState = omega arith
 clip-refused OfClip.BadSampleCount = omega arith
 clip-refused OfClip.RateZero = omega arith
@@ -36,14 +36,14 @@ clip-refused OfClip.AlreadyClosed = omega arith
 clip-refused OfClip.PieceTooLong = omega arith
 clip-refused OfClip.Unfinished = omega arith
 
-pub image-refused : (r : Image.Refusal) → 0 < ImageNumbers.numberOf r
+pub image-refused : (r : Image.Refusal) → 0 < ImageNumbers.code r
 image-refused OfImage.LowestPair = omega arith
 image-refused OfImage.OutputTooShort = omega arith
 image-refused OfImage.BadHead = omega arith
 image-refused OfImage.BadEntry = omega arith
 image-refused OfImage.NoSuchBlock = omega arith
 
-pub block-refused : (r : Block.Refusal) → 0 < BlockNumbers.numberOf r
+pub block-refused : (r : Block.Refusal) → 0 < BlockNumbers.code r
 block-refused OfBlock.LengthOutOfRange = omega arith
 block-refused OfBlock.LowestPair = omega arith
 block-refused OfBlock.OutputTooShort = omega arith

@@ -4,8 +4,7 @@ use mathlib.Core.Path.{_≡_, refl}
 use Prim.Native.Nat.{ℕ, _+_, _≤_}
 use native.Mathlib.Omega.{arith}
 use lib.ListN.{length}
-use Rattle.image.specs.declared.Answer.{Answer}
-use Rattle.image.specs.declared.Answer.the-variants.{Accepted, Refused}
+use Rattle.whole.specs.Outcome.{Outcome, accepted, refused}
 use Rattle.image.specs.Bodies.{blockAnswer}
 use Rattle.image.proofs.LawsBody.{block-accepted, found-end}
 use Rattle.doilycairn.specs.Reading.{placeBy, bodyAt, bodyInC}
@@ -15,6 +14,6 @@ pub body-within : (l : List ℕ) (k : ℕ) → bodyInC l k .returned .offset + b
 unfolding bodyInC bodyAt
 body-within l k = go (blockAnswer l k) refl
   where
-    go : (a : Answer) → blockAnswer l k ≡ a → placeBy a (bodyAt l k) .offset + placeBy a (bodyAt l k) .bytes ≤ length l
-    go Accepted p = found-end l k (block-accepted l k p)
-    go (Refused r) p = omega arith
+    go : (a : Outcome Unit) → blockAnswer l k ≡ a → placeBy a (bodyAt l k) .offset + placeBy a (bodyAt l k) .bytes ≤ length l
+    go (accepted u) p = found-end l k (block-accepted l k p)
+    go (refused n) p = omega arith

@@ -1,5 +1,6 @@
 -- What the contracts cite.
 pub mod Sizes
+pub mod Codes
 pub mod Measuring
 pub mod Writing
 pub mod Blocks

@@ -3,17 +3,11 @@ use mathlib.Core.List.{List}
 use Prim.Native.Nat.{ℕ}
 use lib.Ieee.{Float}
 use lib.IntN.{ℤ}
-use Rattle.coefficients.specs.declared.Answer.{Answer}
-use Rattle.coefficients.specs.declared.Answer.the-variants.{Accepted, Refused}
 use Rattle.coefficients.specs.declared.CoefficientCalculator.{CoefficientCalculator}
-use Rattle.coefficients.specs.Measure.{ProcessOut, FinishOut, numberOf, processOf, finishOf}
+use Rattle.coefficients.specs.Measure.{ProcessEffect, FinishEffect, process, finish}
+use Rattle.doilycairn.specs.Codes.{outcomeCode}
 use Rattle.doilycairn.specs.declared.measuring.Processed.{Processed}
 use Rattle.doilycairn.specs.declared.measuring.Finished.{Finished}
-
--- 0 where a call is accepted, else document 01's number
-abbrev pub codeOf : Answer → ℕ
-codeOf Accepted = 0
-codeOf (Refused r) = numberOf r
 
 -- ---- a piece is measured
 
@@ -22,14 +16,17 @@ pub record Processing : Type 0 where
   pub returned : Processed
   pub store : List Float
 
+-- what is returned, and a store
 abbrev pub processing : Processed → List Float → Processing
 processing r s = record { returned = r; store = s }
 
-abbrev pub processSeen : ProcessOut → Processing
-processSeen o = processing (record { code = codeOf (o .answer); calculator = o .calculator }) (o .store)
+-- what C sees of an effect
+abbrev pub processSeen : ProcessEffect → Processing
+processSeen e = processing (record { code = outcomeCode (e .outcome); calculator = e .calculator }) (e .store)
 
+-- a piece on a store
 unfoldable pub processInC : CoefficientCalculator → List ℤ → List Float → Processing
-processInC c xs s = processSeen (processOf c xs s)
+processInC c xs s = processSeen (process c xs s)
 
 -- ---- coefficients are asked for
 
@@ -38,11 +35,14 @@ pub record Finishing : Type 0 where
   pub returned : Finished
   pub store : List Float
 
+-- what is returned, and a store
 abbrev pub finishing : Finished → List Float → Finishing
 finishing r s = record { returned = r; store = s }
 
-abbrev pub finishSeen : FinishOut → Finishing
-finishSeen o = finishing (record { code = codeOf (o .answer); coefficients = o .coefficients; calculator = o .calculator }) (o .store)
+-- what C sees of an effect
+abbrev pub finishSeen : FinishEffect → Finishing
+finishSeen e = finishing (record { code = outcomeCode (e .outcome); coefficients = e .coefficients; calculator = e .calculator }) (e .store)
 
+-- an asking on a store
 unfoldable pub finishInC : CoefficientCalculator → List Float → Finishing
-finishInC c s = finishSeen (finishOf c s)
+finishInC c s = finishSeen (finish c s)

@@ -1,42 +1,41 @@
 -- Reading an image, as C sees it. Definitions only.
-use mathlib.Core.Bool.{true, false}
+use mathlib.Core.Bool.{Bool, true, false}
 use mathlib.Core.List.{List}
 use Prim.Native.Nat.{ℕ, _+_, _/_}
-use lib.IntN.{ℤ, pos}
+use lib.IntN.{ℤ}
 use lib.ListN.{take, drop}
+use Rattle.whole.specs.Outcome.{Outcome, accepted, refused}
 use Rattle.block.specs.declared.FrameContext.{FrameContext}
-use Rattle.block.specs.Context.{contextOf}
+use Rattle.block.specs.Context.{newContext}
 use Rattle.image.specs.declared.Answer.{Answer}
-use Rattle.image.specs.declared.Answer.the-variants.{Accepted, Refused}
-use Rattle.image.specs.declared.Opening as Image
 use Rattle.image.specs.declared.PlayAnswer.{PlayAnswer}
-use Rattle.image.specs.declared.PlayAnswer.the-variants as Played
 use Rattle.image.specs.declared.SameAnswer.{SameAnswer}
-use Rattle.image.specs.declared.SameAnswer.the-variants as Compared
 use Rattle.image.specs.Bodies.{blockAnswer, blockBody}
-use Rattle.image.specs.Opened.{numberOf, openOf}
+use Rattle.image.specs.Opening.{outcome, OpenEffect, openImage}
 use Rattle.image.specs.Reading.{offsetIn, lengthIn}
-use Rattle.image.specs.Samples.{contextIn, Effect, playOf}
-use Rattle.image.specs.Sameness.{sameOf}
-use Rattle.image.specs.AllBlocks.{playAllOf}
+use Rattle.image.specs.Playing.{playOutcome, contextIn, PlayEffect, play}
+use Rattle.image.specs.Sameness.{sameOutcome, same}
+use Rattle.image.specs.WholeImage.{playAll}
 use Rattle.doilycairn.specs.declared.blocks.Playback.{Playback}
 use Rattle.doilycairn.specs.declared.reading.Body.{Body}
 use Rattle.doilycairn.specs.declared.reading.Comparison.{Comparison}
 use Rattle.doilycairn.specs.declared.reading.Opening.{Opening}
-use Rattle.doilycairn.specs.Blocks.{Playing, playing}
+use Rattle.doilycairn.specs.Blocks.{PlaybackEffect, playbackEffect, playedAnswer}
+use Rattle.doilycairn.specs.Codes.{outcomeCode}
 
--- 0 where a call is accepted, else document 01's number
+-- the number of an answer
 abbrev pub codeOf : Answer → ℕ
-codeOf Accepted = 0
-codeOf (Refused r) = numberOf r
+codeOf a = outcomeCode (outcome a)
 
 -- ---- opening
 
-abbrev pub openSeen : Image.Opening → Opening
-openSeen o = record { code = codeOf (o .answer); head = o .head }
+-- what C sees of opening
+abbrev pub openSeen : OpenEffect → Opening
+openSeen e = record { code = outcomeCode (e .outcome); head = e .head }
 
+-- an image is opened
 unfoldable pub openInC : List ℕ → Opening
-openInC l = openSeen (openOf l)
+openInC l = openSeen (openImage l)
 
 -- ---- the body of a block
 
@@ -53,9 +52,9 @@ unfoldable pub bodyAt : List ℕ → ℕ → Body
 bodyAt l k = record { code = 0; offset = offsetIn l k; bytes = (lengthIn l k + 1) / 2; nibbles = lengthIn l k; context = contextIn l k }
 
 -- the refusal's number, and zeros
-abbrev pub placeBy : Answer → Body → Body
-placeBy Accepted place = place
-placeBy (Refused r) place = record { code = numberOf r; offset = 0; bytes = 0; nibbles = 0; context = contextOf 0 (pos 0) (pos 0) }
+abbrev pub placeBy : Outcome Unit → Body → Body
+placeBy (accepted u) place = place
+placeBy (refused n) place = record { code = n; offset = 0; bytes = 0; nibbles = 0; context = newContext }
 
 -- the bytes that it points to are the block's body; refused, none
 unfoldable pub bodyInC : List ℕ → ℕ → Handed
@@ -63,27 +62,25 @@ bodyInC l k = record { returned = placeBy (blockAnswer l k) (bodyAt l k); body =
 
 -- ---- playing
 
--- the sample count and code 0, or no samples and document 01's number
-abbrev pub playbackOf : PlayAnswer → FrameContext → Playback
-playbackOf (Played.Played n) c = record { code = 0; samples = n; context = c }
-playbackOf (Played.Refused r) c = record { code = numberOf r; samples = 0; context = c }
+-- what C sees of a call of playing
+abbrev pub playSeen : PlayEffect → PlaybackEffect
+playSeen e = playbackEffect (playedAnswer (e .outcome) (e .context)) (e .out)
 
-abbrev pub playSeen : Effect → Playing
-playSeen e = playing (playbackOf (e .answer) (e .context)) (e .out)
+-- a block is played
+unfoldable pub playInC : List ℕ → ℕ → List ℤ → PlaybackEffect
+playInC l k out = playSeen (play l k out)
 
-unfoldable pub playInC : List ℕ → ℕ → List ℤ → Playing
-playInC l k out = playSeen (playOf l k out)
-
-unfoldable pub playAllInC : List ℕ → List ℤ → Playing
-playAllInC l out = playSeen (playAllOf l out)
+-- a whole image is played
+unfoldable pub playAllInC : List ℕ → List ℤ → PlaybackEffect
+playAllInC l out = playSeen (playAll l out)
 
 -- ---- sameness
 
 -- whether they are the same, with code 0, or not the same and document 01's number
-abbrev pub comparisonOf : SameAnswer → Comparison
-comparisonOf Compared.Same = record { code = 0; same = true }
-comparisonOf Compared.Different = record { code = 0; same = false }
-comparisonOf (Compared.Refused r) = record { code = numberOf r; same = false }
+abbrev pub comparedAnswer : Outcome Bool → Comparison
+comparedAnswer (accepted t) = record { code = 0; same = t }
+comparedAnswer (refused n) = record { code = n; same = false }
 
+-- two images are compared
 unfoldable pub sameInC : List ℕ → List ℕ → Comparison
-sameInC a b = comparisonOf (sameOf a b)
+sameInC a b = comparedAnswer (same a b)

@@ -3,54 +3,61 @@ use mathlib.Core.List.{List}
 use Prim.Native.Nat.{ℕ}
 use lib.IntN.{ℤ}
 use Rattle.clip.specs.declared.Answer.{Answer}
-use Rattle.clip.specs.declared.Answer.the-variants.{Accepted, Refused}
 use Rattle.clip.specs.declared.Encoder.{Encoder}
-use Rattle.clip.specs.Encoding.{Out, numberOf, startOf, feedOf, closeOf}
-use Rattle.frame.specs.declared.History.{History}
-use Rattle.frame.specs.declared.OneFrame.{OneFrame}
+use Rattle.clip.specs.declared.starting.Start.{Start}
+use Rattle.clip.specs.Encoding as Clip
+use Rattle.whole.specs.declared.History.{History}
 use Rattle.frame.specs.declared.Verdict.{Verdict}
-use Rattle.frame.specs.declared.Verdict.the-variants as Frames
-use Rattle.frame.specs.Frame as OneFrames
-use Rattle.frame.specs.Frame.{encodeOneFrame}
+use Rattle.frame.specs.Frame.{Effect, outcome, encodeOneFrame}
+use Rattle.doilycairn.specs.Codes.{outcomeCode}
 use Rattle.doilycairn.specs.declared.writing.Frame.{Frame}
 use Rattle.doilycairn.specs.declared.writing.Encoding.{Encoding}
 
 -- ---- one frame
 
--- 0 where the frame is encoded, else document 01's number
+-- the number of a frame's verdict
 abbrev pub frameCode : Verdict → ℕ
-frameCode Frames.Encoded = 0
-frameCode (Frames.Refused r) = OneFrames.numberOf r
+frameCode v = outcomeCode (outcome v)
 
-abbrev pub frameSeen : OneFrame → Frame
-frameSeen o = record { code = frameCode (o .verdict); bytes = o .bytes; passes = o .passes; history = o .history }
+-- what C sees of a call on a frame
+abbrev pub frameSeen : Effect → Frame
+frameSeen o = record { code = outcomeCode (o .outcome); bytes = o .bytes; passes = o .passes; history = o .history }
 
+-- encoding one frame
 unfoldable pub frameInC : History → List ℤ → List ℤ → Frame
 frameInC h xs cs = frameSeen (encodeOneFrame h xs cs)
 
 -- ---- a clip
 
--- 0 where a call is accepted, else document 01's number
+-- the number of an answer
 abbrev pub codeOf : Answer → ℕ
-codeOf Accepted = 0
-codeOf (Refused r) = numberOf r
+codeOf a = outcomeCode (Clip.outcome a)
 
 -- what a call returns, and the image buffer after it
 pub record Encoded : Type 0 where
   pub returned : Encoding
   pub image : List ℕ
 
+-- what is returned and an image, together
 abbrev pub encoded : Encoding → List ℕ → Encoded
 encoded r l = record { returned = r; image = l }
 
-abbrev pub clipSeen : Out → Encoded
-clipSeen o = encoded (record { code = codeOf (o .answer); encoder = o .encoder }) (o .bytes)
+-- what C sees of a call on a clip
+abbrev pub clipSeen : Clip.Effect → Encoded
+clipSeen e = encoded (record { code = outcomeCode (e .outcome); encoder = e .encoder }) (e .bytes)
 
+-- what a clip is started with, from C's arguments
+abbrev pub given : ℕ → ℕ → ℕ → ℕ → List ℤ → History → Start
+given n rate size gain cs h = record { total = n; rate = rate; block = size; gain = gain; coefficients = cs; history = h }
+
+-- starting
 unfoldable pub startInC : ℕ → ℕ → ℕ → ℕ → List ℤ → History → List ℕ → Encoded
-startInC n rate size gain cs h l = clipSeen (startOf n rate size gain cs h l)
+startInC n rate size gain cs h l = clipSeen (Clip.start (given n rate size gain cs h) l)
 
+-- feeding
 unfoldable pub feedInC : Encoder → List ℤ → List ℕ → Encoded
-feedInC e xs l = clipSeen (feedOf e xs l)
+feedInC e xs l = clipSeen (Clip.feed e xs l)
 
+-- closing
 unfoldable pub closeInC : Encoder → List ℕ → Encoded
-closeInC e l = clipSeen (closeOf e l)
+closeInC e l = clipSeen (Clip.close e l)

@@ -3,7 +3,7 @@ ghost use mathlib.Core.Path.{_≡_};
 ghost use Rattle.block.specs.Address.{addressToSample, sampleToAddress};
 ghost use Rattle.block.specs.Join.{joinOutcome};
 ghost use Rattle.block.specs.Play.{playOutcome};
-ghost use Rattle.doilycairn.specs.Blocks.{playbackOf, playing, playBytesInC, joiningOf, joined, joinInC};
+ghost use Rattle.doilycairn.specs.Blocks.{playedAnswer, playbackEffect, playBytesInC, joinedAnswer, joiningEffect, joinInC};
 use block::FrameContext;
 use block::JoinAnswer;
 use block::PlayAnswer;
@@ -25,7 +25,7 @@ pub struct Joining {
 
 // The sample count of an answer, or its number.
 fn played_answer(answer: PlayAnswer, context: FrameContext) -> Playback
-    ensures { λ r. ⌜ r ≡ playbackOf (playOutcome answer) context ⌝ }
+    ensures { λ r. ⌜ r ≡ playedAnswer (playOutcome answer) context ⌝ }
 {
     match answer {
         PlayAnswer::Played(samples) => Playback {
@@ -43,7 +43,7 @@ fn played_answer(answer: PlayAnswer, context: FrameContext) -> Playback
 
 // The lengths' sum of an answer, or its number.
 fn joined_answer(answer: JoinAnswer) -> Joining
-    ensures { λ r. ⌜ r ≡ joiningOf (joinOutcome answer) ⌝ }
+    ensures { λ r. ⌜ r ≡ joinedAnswer (joinOutcome answer) ⌝ }
 {
     match answer {
         JoinAnswer::Joined(nibbles) => Joining {
@@ -66,7 +66,7 @@ pub extern "C" fn doilycairn_play_bytes(
     context: FrameContext,
     out: &mut [i16],
 ) -> Playback
-    ensures { λ r. ⌜ playing r (now (out .exit)) ≡ playBytesInC (now (bytes .entry)) nibbles (now (coefficients .entry)) context (now (out .entry)) ⌝ }
+    ensures { λ r. ⌜ playbackEffect r (now (out .exit)) ≡ playBytesInC (now (bytes .entry)) nibbles (now (coefficients .entry)) context (now (out .entry)) ⌝ }
 {
     let done = block::play_bytes(bytes, nibbles, *coefficients, context, out);
     let answer = done.answer;
@@ -85,7 +85,7 @@ pub extern "C" fn doilycairn_join(
     second_coefficients: &[i16; 16],
     out: &mut [u8],
 ) -> Joining
-    ensures { λ r. ⌜ joined r (now (out .exit)) ≡ joinInC (now (first .entry)) «first_nibbles» (now («first_coefficients» .entry)) (now (second .entry)) «second_nibbles» (now («second_coefficients» .entry)) (now (out .entry)) ⌝ }
+    ensures { λ r. ⌜ joiningEffect r (now (out .exit)) ≡ joinInC (now (first .entry)) «first_nibbles» (now («first_coefficients» .entry)) (now (second .entry)) «second_nibbles» (now («second_coefficients» .entry)) (now (out .entry)) ⌝ }
 {
     let answer = block::extend_samples(
         first,

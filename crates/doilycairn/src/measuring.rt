@@ -1,7 +1,8 @@
 // Measuring samples and asking for coefficients (section 1).
 ghost use mathlib.Core.Path.{_≡_};
-ghost use Rattle.coefficients.specs.Measure.{fresh};
-ghost use Rattle.doilycairn.specs.Measuring.{codeOf, processing, processInC, finishing, finishInC};
+ghost use Rattle.coefficients.specs.Measure.{fresh, outcome};
+ghost use Rattle.doilycairn.specs.Codes.{outcomeCode};
+ghost use Rattle.doilycairn.specs.Measuring.{processing, processInC, finishing, finishInC};
 use coefficients::Answer;
 use coefficients::CoefficientCalculator;
 
@@ -20,9 +21,9 @@ pub struct Finished {
     pub calculator: CoefficientCalculator,
 }
 
-// The number of an answer.
+// The number of an answer: 0 where the call is accepted.
 fn code_of(answer: Answer) -> u32
-    ensures { λ r. ⌜ r ≡ codeOf answer ⌝ }
+    ensures { λ r. ⌜ r ≡ outcomeCode (outcome answer) ⌝ }
 {
     match answer {
         Answer::Accepted => 0,

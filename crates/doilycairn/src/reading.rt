@@ -1,16 +1,18 @@
 // Reading an image: opening, the place of a block's body, playing a block or the whole, sameness (sections 4 and 5).
 ghost use mathlib.Core.Path.{_≡_};
-ghost use Rattle.image.specs.Facts.{Found};
-ghost use Rattle.doilycairn.specs.Blocks.{playing};
-ghost use Rattle.doilycairn.specs.Reading.{codeOf, openInC, bodyAt, handed, bodyInC, playbackOf, playInC, playAllInC, comparisonOf, sameInC};
+ghost use Rattle.image.specs.inner.Asked.{Found};
+ghost use Rattle.image.specs.Opening.{outcome};
+ghost use Rattle.image.specs.Playing.{playOutcome};
+ghost use Rattle.image.specs.Sameness.{sameOutcome};
+ghost use Rattle.doilycairn.specs.Blocks.{playbackEffect, playedAnswer};
+ghost use Rattle.doilycairn.specs.Reading.{codeOf, openInC, bodyAt, handed, bodyInC, playInC, playAllInC, comparedAnswer, sameInC};
 use crate::blocks::Playback;
 use block::FrameContext;
 use image::Answer;
 use image::Head;
 use image::PlayAnswer;
 use image::SameAnswer;
-use image::bodies::read_context;
-use layout::fields::get32;
+use image::bodies::read_entry;
 
 // What opening returns.
 #[repr(C)]
@@ -48,7 +50,7 @@ fn code_of(answer: Answer) -> u32
 
 // The sample count of an answer, or its number.
 fn played_answer(answer: PlayAnswer, context: FrameContext) -> Playback
-    ensures { λ r. ⌜ r ≡ playbackOf answer context ⌝ }
+    ensures { λ r. ⌜ r ≡ playedAnswer (playOutcome answer) context ⌝ }
 {
     match answer {
         PlayAnswer::Played(samples) => Playback {
@@ -66,7 +68,7 @@ fn played_answer(answer: PlayAnswer, context: FrameContext) -> Playback
 
 // Whether an answer is `Same`, or its number.
 fn compared_answer(answer: SameAnswer) -> Comparison
-    ensures { λ r. ⌜ r ≡ comparisonOf answer ⌝ }
+    ensures { λ r. ⌜ r ≡ comparedAnswer (sameOutcome answer) ⌝ }
 {
     match answer {
         SameAnswer::Same => Comparison {
@@ -89,13 +91,12 @@ fn body_at(image: &[u8], k: usize) -> Body
     requires { ⌜ Found (now image) k ⌝ }
     ensures { λ r. ⌜ r ≡ bodyAt (now (image .entry)) k ⌝ }
 {
-    let at = 56 + 16 * k;
-    let offset = get32(image, at);
-    let nibbles = get32(image, at + 4);
-    let context = read_context(image, k);
+    let entry = read_entry(image, k);
+    let nibbles = entry.nibbles;
+    let context = entry.context;
     Body {
         code: 0,
-        offset: offset,
+        offset: entry.offset,
         bytes: nibbles / 2 + nibbles % 2,
         nibbles: nibbles,
         context: context,
@@ -140,7 +141,7 @@ pub extern "C" fn doilycairn_block_body(image: &[u8], k: u32) -> Body
 // Plays block k.
 #[no_mangle]
 pub extern "C" fn doilycairn_play(image: &[u8], k: u32, out: &mut [i16]) -> Playback
-    ensures { λ r. ⌜ playing r (now (out .exit)) ≡ playInC (now (image .entry)) k (now (out .entry)) ⌝ }
+    ensures { λ r. ⌜ playbackEffect r (now (out .exit)) ≡ playInC (now (image .entry)) k (now (out .entry)) ⌝ }
 {
     let done = image::play(image, k, out);
     let answer = done.answer;
@@ -151,7 +152,7 @@ pub extern "C" fn doilycairn_play(image: &[u8], k: u32, out: &mut [i16]) -> Play
 // Plays the whole image.
 #[no_mangle]
 pub extern "C" fn doilycairn_play_all(image: &[u8], out: &mut [i16]) -> Playback
-    ensures { λ r. ⌜ playing r (now (out .exit)) ≡ playAllInC (now (image .entry)) (now (out .entry)) ⌝ }
+    ensures { λ r. ⌜ playbackEffect r (now (out .exit)) ≡ playAllInC (now (image .entry)) (now (out .entry)) ⌝ }
 {
     let done = image::play_all(image, out);
     let answer = done.answer;

@@ -1,13 +1,16 @@
 // How much room the calls' buffers need.
 ghost use mathlib.Core.Path.{_≡_};
-ghost use Rattle.coefficients.specs.Measure.{neededOf};
+ghost use Rattle.coefficients.specs.Measure.{needed};
 ghost use Rattle.doilycairn.specs.Sizes.{imageSize};
-use layout::sizes::size;
+use layout::Shape;
+use layout::sizes::cut_down;
+use layout::sizes::image_size;
+use whole::MOST_SAMPLES;
 
 // The numbers of the store that measuring so many samples needs.
 #[no_mangle]
 pub extern "C" fn doilycairn_store_size(samples: u32) -> u64
-    ensures { λ r. ⌜ r ≡ neededOf samples ⌝ }
+    ensures { λ r. ⌜ r ≡ needed samples ⌝ }
 {
     2 * ((samples as u64 + 13) / 14)
 }
@@ -20,7 +23,7 @@ pub extern "C" fn doilycairn_image_size(total: u32, block_size: u32) -> u64
     if total < 1 {
         return 0;
     }
-    if total > 14_680_064 {
+    if total > MOST_SAMPLES {
         return 0;
     }
     if block_size < 8 {
@@ -29,5 +32,10 @@ pub extern "C" fn doilycairn_image_size(total: u32, block_size: u32) -> u64
     if block_size > 65_536 {
         return 0;
     }
-    size(total as usize, (block_size / 8 * 8) as usize) as u64
+    let shape = Shape {
+        total: total as usize,
+        block: cut_down(block_size) as usize,
+        extra: 0,
+    };
+    image_size(shape) as u64
 }

@@ -3,8 +3,9 @@ ghost use mathlib.Core.Path.{_≡_};
 ghost use Rattle.doilycairn.specs.Writing.{frameCode, codeOf, frameInC, encoded, startInC, feedInC, closeInC};
 use clip::Answer;
 use clip::Encoder;
-use frame::History;
+use clip::starting::Start;
 use frame::Verdict;
+use whole::History;
 
 // What encoding one frame returns.
 #[repr(C)]
@@ -76,7 +77,15 @@ pub extern "C" fn doilycairn_start(
 ) -> Encoding
     ensures { λ r. ⌜ encoded r (now (image .exit)) ≡ startInC total rate «block_size» gain (now (coefficients .entry)) history (now (image .entry)) ⌝ }
 {
-    let done = clip::start(total, rate, block_size, gain, *coefficients, history, image);
+    let given = Start {
+        total: total,
+        rate: rate,
+        block: block_size,
+        gain: gain,
+        coefficients: *coefficients,
+        history: history,
+    };
+    let done = clip::start(given, image);
     let answer = done.answer;
     let encoder = done.encoder;
     Encoding {

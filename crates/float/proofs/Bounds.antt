@@ -1,16 +1,16 @@
--- Bounds by powers of two, for binary64. The exponents are numerals, so a law's side conditions are answered by `tt`.
+-- Exported for bounds of the coefficients. Bounds by powers of two, for binary64. The exponents are numerals, so a law's side conditions are answered by `tt`.
 use mathlib.Core.Path.{_≡_, sym, ap, _∙_, subst}
-use Prim.Native.Nat.{ℕ, zero, suc, _+_, _*_, _/_, _^_, _≤_, _<_, zero-le}
+use Prim.Native.Nat.{ℕ, zero, suc, _+_, _*_, _^_, _≤_, _<_, zero-le}
 use native.Mathlib.Nat.{le-trans, le-of-eq, one-mul, mul-le-mul-right, add-mul, add-le-add, two-pow-succ}
 use native.Mathlib.Omega.{arith}
-use mathlib.Core.Bool.{true, false, not}
+use mathlib.Core.Bool.{true, false}
 use lib.IntN.{ℤ, pos, negsuc, natAbs}
 use lib.Dec.{T, ltb, leb, ltb→lt, leb→le, lit<}
 use lib.Pow.{pow-add, pow-pos, pow-mono}
 use lib.Ieee.{Float, nan, inf, fin, binary64, down, neg, add, mul, div, ofInt}
 use Rattle.float.specs.FusedMultiplyAdd.{times, fusedMultiplyAdd}
-use Rattle.float.specs.Operations.{abs, maximumNumber}
-use Rattle.float.proofs.Sizes.{Size, Reach, Number, size-neg, reach-neg, size-round, reach-round, holds-up, holds-down, holds-many, times-size, add-size, mul-size, mul-reach, div-size, div-reach}
+use Rattle.float.specs.Operations.{abs}
+use Rattle.float.proofs.Sizes.{Size, Reach, Number, size-neg, size-round, reach-round, holds-up, holds-down, holds-many, times-size, add-size, mul-size, mul-reach, div-size, div-reach}
 
 -- |x| ≤ 2 ^ k: so x is finite
 pub record Upto (x : Float) (k : ℕ) : Type 0 where
@@ -60,9 +60,6 @@ reach-abs (fin s m e) n d h = h
 pub least-abs : {x : Float} {k : ℕ} → Least x k → Least (abs x) k
 least-abs {x} {k} h = record { reach = reach-abs x 1 (2 ^ k) (h .reach) }
 
-pub least-neg : {x : Float} {k : ℕ} → Least x k → Least (neg x) k
-least-neg {x} {k} h = record { reach = reach-neg x 1 (2 ^ k) (h .reach) }
-
 -- ---- the operations
 
 two-of : (a b k : ℕ) → a < k → b < k → 2 ^ a + 2 ^ b ≤ 2 ^ k
@@ -80,7 +77,10 @@ ones x y h = omega arith
 
 pub upto-add : {x y : Float} {a b : ℕ} (k : ℕ) → Upto x a → Upto y b → T (ltb a k) → T (ltb b k) → T (leb k 1023) → Upto (add binary64 x y) k
 upto-add {x} {y} {a} {b} k h l s t u =
-    record { size = add-size binary64 x y (2 ^ a) (2 ^ b) 1 (2 ^ k) 1 (lit< tt) (lit< tt) (holds-up k (leb→le k 1023 u)) (h .size) (l .size) (ones (2 ^ a + 2 ^ b) (2 ^ k) (two-of a b k (ltb→lt a k s) (ltb→lt b k t))) }
+    record {
+      size = add-size binary64 x y (2 ^ a) (2 ^ b) 1 (2 ^ k) 1 (lit< tt) (lit< tt) (holds-up k (leb→le k 1023 u)) (h .size) (l .size)
+          (ones (2 ^ a + 2 ^ b) (2 ^ k) (two-of a b k (ltb→lt a k s) (ltb→lt b k t)));
+    }
 
 -- the exact product
 times-upto : (x y : Float) (a b : ℕ) → Upto x a → Upto y b → Size (times x y) (2 ^ (a + b)) 1
@@ -89,23 +89,38 @@ times-upto x y a b h l = subst (λ (n : ℕ). Size (times x y) n 1) (sym (pow-ad
 pub upto-fma : {x y z : Float} {a b c : ℕ} (k : ℕ) → Upto x a → Upto y b → Upto z c → T (ltb (a + b) k) → T (ltb c k) → T (leb k 1023) → Upto (fusedMultiplyAdd binary64 x y z) k
 unfolding fusedMultiplyAdd
 upto-fma {x} {y} {z} {a} {b} {c} k h l m s t u =
-    record { size = add-size binary64 (times x y) z (2 ^ (a + b)) (2 ^ c) 1 (2 ^ k) 1 (lit< tt) (lit< tt) (holds-up k (leb→le k 1023 u)) (times-upto x y a b h l) (m .size) (ones (2 ^ (a + b) + 2 ^ c) (2 ^ k) (two-of (a + b) c k (ltb→lt (a + b) k s) (ltb→lt c k t))) }
+    record {
+      size = add-size binary64 (times x y) z (2 ^ (a + b)) (2 ^ c) 1 (2 ^ k) 1 (lit< tt) (lit< tt) (holds-up k (leb→le k 1023 u)) (times-upto x y a b h l) (m .size)
+          (ones (2 ^ (a + b) + 2 ^ c) (2 ^ k) (two-of (a + b) c k (ltb→lt (a + b) k s) (ltb→lt c k t)));
+    }
 
 pub upto-mul : {x y : Float} {a b : ℕ} → Upto x a → Upto y b → T (leb (a + b) 1023) → Upto (mul binary64 x y) (a + b)
 upto-mul {x} {y} {a} {b} h l t =
-    record { size = mul-size binary64 x y (2 ^ a) 1 (2 ^ b) 1 (2 ^ (a + b)) 1 (lit< tt) (lit< tt) (lit< tt) (holds-up (a + b) (leb→le (a + b) 1023 t)) (h .size) (l .size) (ones (2 ^ a * 2 ^ b) (2 ^ (a + b)) (le-of-eq (sym (pow-add 2 a b)))) }
+    record {
+      size = mul-size binary64 x y (2 ^ a) 1 (2 ^ b) 1 (2 ^ (a + b)) 1 (lit< tt) (lit< tt) (lit< tt) (holds-up (a + b) (leb→le (a + b) 1023 t)) (h .size) (l .size)
+          (ones (2 ^ a * 2 ^ b) (2 ^ (a + b)) (le-of-eq (sym (pow-add 2 a b))));
+    }
 
 pub least-mul : {x y : Float} {i j : ℕ} → Least x i → Least y j → T (leb (i + j) 1074) → Least (mul binary64 x y) (i + j)
 least-mul {x} {y} {i} {j} h l t =
-    record { reach = mul-reach binary64 x y 1 (2 ^ i) 1 (2 ^ j) 1 (2 ^ (i + j)) (pow-pos i) (pow-pos j) (pow-pos (i + j)) (lit< tt) (lit< tt) (holds-down (i + j) (leb→le (i + j) 1074 t)) (h .reach) (l .reach) (le-of-eq (ap (λ (z : ℕ). 1 * z) (sym (pow-add 2 i j)))) }
+    record {
+      reach = mul-reach binary64 x y 1 (2 ^ i) 1 (2 ^ j) 1 (2 ^ (i + j)) (pow-pos i) (pow-pos j) (pow-pos (i + j)) (lit< tt) (lit< tt) (holds-down (i + j) (leb→le (i + j) 1074 t)) (h .reach)
+          (l .reach) (le-of-eq (ap (λ (z : ℕ). 1 * z) (sym (pow-add 2 i j))));
+    }
 
 pub upto-div : {x y : Float} {a j : ℕ} → Upto x a → Least y j → T (leb (a + j) 1023) → Upto (div binary64 x y) (a + j)
 upto-div {x} {y} {a} {j} h l t =
-    record { size = div-size binary64 x y (2 ^ a) 1 1 (2 ^ j) (2 ^ (a + j)) 1 (lit< tt) (lit< tt) (lit< tt) (holds-up (a + j) (leb→le (a + j) 1023 t)) (h .size) (l .reach) (ones (2 ^ a * 2 ^ j) (2 ^ (a + j)) (le-of-eq (sym (pow-add 2 a j)))) }
+    record {
+      size = div-size binary64 x y (2 ^ a) 1 1 (2 ^ j) (2 ^ (a + j)) 1 (lit< tt) (lit< tt) (lit< tt) (holds-up (a + j) (leb→le (a + j) 1023 t)) (h .size) (l .reach)
+          (ones (2 ^ a * 2 ^ j) (2 ^ (a + j)) (le-of-eq (sym (pow-add 2 a j))));
+    }
 
 pub least-div : {x y : Float} {i b : ℕ} → Least x i → Upto y b → T (leb (i + b) 1074) → Least (div binary64 x y) (i + b)
 least-div {x} {y} {i} {b} h l t =
-    record { reach = div-reach binary64 x y 1 (2 ^ i) (2 ^ b) 1 1 (2 ^ (i + b)) (lit< tt) (pow-pos i) (pow-pos b) (lit< tt) (pow-pos (i + b)) (holds-down (i + b) (leb→le (i + b) 1074 t)) (h .reach) (l .size) (le-of-eq (ap (λ (z : ℕ). 1 * z) (sym (pow-add 2 i b)))) }
+    record {
+      reach = div-reach binary64 x y 1 (2 ^ i) (2 ^ b) 1 1 (2 ^ (i + b)) (lit< tt) (pow-pos i) (pow-pos b) (lit< tt) (pow-pos (i + b)) (holds-down (i + b) (leb→le (i + b) 1074 t)) (h .reach)
+          (l .size) (le-of-eq (ap (λ (z : ℕ). 1 * z) (sym (pow-add 2 i b))));
+    }
 
 -- ---- a whole number, rounded
 
@@ -129,7 +144,10 @@ one-more n p = sym (add-mul n 1 p ∙ ap (λ (z : ℕ). n * p + z) (one-mul p)) 
 
 pub many-add : {x y : Float} {n k : ℕ} → Many x n k → Upto y k → suc n < 2 ^ 53 → T (leb k 971) → Many (add binary64 x y) (suc n) k
 many-add {x} {y} {n} {k} h l s t =
-    record { size = add-size binary64 x y (n * 2 ^ k) (2 ^ k) 1 (suc n * 2 ^ k) 1 (lit< tt) (lit< tt) (holds-many (suc n) k s (leb→le k 971 t)) (h .size) (l .size) (ones (n * 2 ^ k + 2 ^ k) (suc n * 2 ^ k) (le-of-eq (one-more n (2 ^ k)))) }
+    record {
+      size = add-size binary64 x y (n * 2 ^ k) (2 ^ k) 1 (suc n * 2 ^ k) 1 (lit< tt) (lit< tt) (holds-many (suc n) k s (leb→le k 971 t)) (h .size) (l .size)
+          (ones (n * 2 ^ k + 2 ^ k) (suc n * 2 ^ k) (le-of-eq (one-more n (2 ^ k))));
+    }
 
 -- ---- numbers, an infinity among them
 size-number : (x : Float) (n d : ℕ) → Size x n d → Number x

@@ -1,21 +1,23 @@
 -- x + x is exact where x is below 2 ^ 52, and its whole part gives x rounded half away from zero.
 use mathlib.Core.Path.{_≡_, refl, sym, ap, subst, _∙_}
-use mathlib.Core.Bool.{Bool, true, false, not, cond, _&&_}
-use Prim.Native.Nat.{ℕ, zero, suc, _+_, _-_, _*_, _/_, _%_, _^_, _≤_, _<_, min}
-use native.Mathlib.Nat.{min-eq-left, mul-assoc, mul-comm, mul-one, zero-mul, mul-pos, div-lt-iff-lt-mul, div-div-eq-div-mul, add-div-right, lt-of-lt-of-le, lt-of-le-of-lt, le-trans, le-of-lt, lt-of-not-le, le-suc, zero-lt-suc, mul-le-mul, mul-lt-mul-of-pos-right, not-le-of-lt, pow-succ'}
+use mathlib.Core.Bool.{Bool, true, false, not, _&&_}
+use Prim.Native.Nat.{ℕ, zero, suc, _+_, _-_, _*_, _/_, _%_, _^_, _≤_, _<_}
+use native.Mathlib.Nat.{min-eq-left, mul-assoc, mul-comm, mul-one, zero-mul, mul-pos, div-lt-iff-lt-mul, div-div-eq-div-mul, add-div-right, lt-of-lt-of-le, le-trans, le-of-lt}
+use native.Mathlib.Nat.{lt-of-not-le, le-suc, zero-lt-suc, not-le-of-lt, pow-succ'}
 use native.Mathlib.Omega.{arith}
 use native.Mathlib.Decide.{decLe}
 use lib.Dec.{T, eqb, eqb→eq, lt→ltb, nltb→le, ltb, leb, ltb→lt, leb→le}
 use lib.IntN.{ℤ, pos, negsuc}
 use lib.Pow.{pow-pos, pow-add, pow-mono, pow-lt, shl-lt}
-use lib.Ieee.{Float, nan, inf, fin, Format, binary64, prec, emax, low, up, down, add, sum, round, units, odd, neg, fits, lt, eq, ofInt, toUnsigned}
+use lib.Ieee.{Float, nan, inf, fin, Format, binary64, prec, emax, low, up, down, add, sum, round, neg, fits, lt, eq, ofInt, toUnsigned}
 use Rattle.float.specs.Operations.{abs, roundToIntegralTiesToAway}
 use borrow.Author.Tests.{lt-ltb, le-ltb}
-use lib.Ieee.Fits.{down-pos, up-pos, and-l, and-r, and-i, eq→eqb, round-fits}
+use lib.Ieee.Fits.{down-pos, up-pos, and-l, and-i, eq→eqb, round-fits}
 use lib.Ieee.Back.{round-whole, whole-unique}
 use mir.Facts.{T-not}
 use lib.Ieee.Exact.{HasValue, round-exact}
 use lib.Ieee.Nearest.{div-same}
+use Rattle.float.proofs.Sizes.{round-neg}
 
 -- what `fits` says of a number that is not 0
 parts : (a b c d : Bool) → T (a && b && c && d) → T b × T c
@@ -123,23 +125,6 @@ unfolding fits
 fits-plus f s zero e t = t
 fits-plus f s (suc m) e t = t
 
-neg-odd : (d q k l : ℕ) → neg (odd d false q k l) ≡ odd d true q k l
-unfolding neg odd
-neg-odd d zero k l = refl
-neg-odd d (suc q) k l = refl
-
-neg-cond : (b : Bool) (d q k l : ℕ) → neg (cond b (odd d false q k l) (inf false)) ≡ cond b (odd d true q k l) (inf true)
-neg-cond true d q k l = neg-odd d q k l
-neg-cond false d q k l = unfold neg in refl
-
-neg-units : (f : Format) (q k : ℕ) → neg (units f false q k) ≡ units f true q k
-unfolding units
-neg-units f q k = neg-cond (ltb (q * 2 ^ k) (2 ^ (low f + suc (emax f)))) (suc (prec f)) q k (low f)
-
-pub neg-round : (f : Format) (a c : ℕ) → neg (round f false a c) ≡ round f true a c
-unfolding round
-neg-round f a c = neg-units f _ _
-
 -- ---- x + x, for x = m * 2 ^ e below 2 ^ 52
 
 module _ (m : ℕ) (e : ℤ) (t : T (fits binary64 (fin false m e))) (h : m * up e * 1 < 4503599627370496 * down e) where
@@ -212,19 +197,6 @@ zero-value s e = (refl, simp zero-mul)
 round-zero : (s : Bool) (e : ℤ) → T (fits binary64 (fin s zero e)) → fin s zero e ≡ round binary64 s 0 1
 round-zero s e t = whole-unique binary64 (fin s zero e) (round binary64 s 0 1) s 0 t (round-fits binary64 s 0 1) (zero-value s e) (round-whole binary64 s 0 (le-of-lt (pow-pos 53)))
 
-pub zero-stays : (x : Float) → T (fits binary64 x) → T (eq x (fin false 0 (pos 0))) → x ≡ roundToIntegralTiesToAway x
-unfolding roundToIntegralTiesToAway eq
-zero-stays nan t p = absurd p
-zero-stays (inf s) t p = absurd p
-zero-stays (fin s (suc m) e) t p = absurd (zero-only s m e p)
-zero-stays (fin s zero e) t p =
-    let d = down-pos e in
-    let c : ltb (0 * up e) (4503599627370496 * down e) ≡ true = lt-ltb (0 * up e) (4503599627370496 * down e) (omega arith) in
-    let w : 0 < 2 * down e = omega arith in
-    let b : (2 * (0 * up e) + down e) / (2 * down e) < 1 = div-lt-iff-lt-mul w .1 (omega arith) in
-    let q : (2 * (0 * up e) + down e) / (2 * down e) ≡ 0 = omega arith in
-    rw (c, q) (round-zero s e t)
-
 pub large-stays : (x : Float) → T (not (lt (abs x) (fin false 1 (pos 52)))) → x ≡ roundToIntegralTiesToAway x
 unfolding roundToIntegralTiesToAway abs lt
 large-stays nan p = refl
@@ -287,6 +259,19 @@ near s m e t h =
     let c : ltb (m * up e) (4503599627370496 * down e) ≡ true = lt-ltb (m * up e) (4503599627370496 * down e) (omega arith) in
     rw (floor m e (fits-plus binary64 s m e t) h, halves (m * up e) (down e) (down-pos e), c)
 
+pub zero-stays : (x : Float) → T (fits binary64 x) → T (eq x (fin false 0 (pos 0))) → x ≡ roundToIntegralTiesToAway x
+unfolding eq
+zero-stays nan t p = absurd p
+zero-stays (inf s) t p = absurd p
+zero-stays (fin s (suc m) e) t p = absurd (zero-only s m e p)
+zero-stays (fin s zero e) t p =
+    let d = down-pos e in
+    let h : 0 * up e * 1 < 4503599627370496 * down e = omega arith in
+    let f = floor 0 e (fits-plus binary64 s 0 e t) h in
+    let b : 2 * (0 * up e) / down e < 1 = div-lt-iff-lt-mul d .1 (omega arith) in
+    let n : 0 ≡ (toUnsigned 64 (add binary64 (fin false 0 e) (fin false 0 e)) + 1) / 2 = omega (arith, f, b) in
+    round-zero s e t ∙ ap (λ (z : ℕ). round binary64 s z 1) n ∙ near s 0 e t h
+
 pub near-plus : (x : Float) → T (fits binary64 x) → Below x → T (not (lt x (fin false 0 (pos 0)))) → T (not (eq x (fin false 0 (pos 0))))
     → ofInt binary64 (pos ((toUnsigned 64 (add binary64 (abs x) (abs x)) + 1) / 2)) ≡ roundToIntegralTiesToAway x
 unfolding abs lt ofInt
@@ -300,5 +285,6 @@ pub near-minus : (x : Float) → T (fits binary64 x) → Below x → T (lt x (fi
 unfolding abs lt ofInt
 near-minus nan t h p = absurd h
 near-minus (inf s) t h p = absurd h
-near-minus (fin true m e) t h p = neg-round binary64 ((toUnsigned 64 (add binary64 (fin false m e) (fin false m e)) + 1) / 2) 1 ∙ near true m e t (ltb→lt (m * up e * 1) (4503599627370496 * down e) h)
+near-minus (fin true m e) t h p =
+    sym (round-neg binary64 ((toUnsigned 64 (add binary64 (fin false m e) (fin false m e)) + 1) / 2) 1) ∙ near true m e t (ltb→lt (m * up e * 1) (4503599627370496 * down e) h)
 near-minus (fin false m e) t h p = absurd (not-below m e p)

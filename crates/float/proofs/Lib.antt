@@ -1,23 +1,24 @@
--- Laws. Those that other crates cite are public: sizes of floats by fractions and by powers of two, their signs, their counts, and how far a rounding moves.
-mod Align
-mod Apart
+-- Laws. Those that other crates cite are public: sizes of floats by fractions and by powers of two, their signs, floats in units, and how far a rounding moves.
+mod AlignedSums
+mod Alignment
 pub mod Bounds
-mod Columns
-pub mod Counts
-pub mod Drifts
-pub mod Errors
-mod Frame
-pub mod HalfAway
-mod Halves
-mod Jam
-mod Less
+mod Decomposition
+mod Flags
+mod HalfAway
+pub mod InUnits
+mod LessThan
+mod NearestEven
 mod Patterns
-mod Ranges
-mod Rounding
+mod RoundedByExponent
+mod RoundingByDigits
+pub mod RoundingDistance
+pub mod RoundingError
 pub mod Signs
 pub mod Sizes
-mod Special
-mod Stand
-mod Sums
+mod SpecialValues
+mod Sticky
+mod StickyRounding
+mod TwoWordProducts
+mod TwoWordShifts
+mod TwoWordSums
 pub mod Value
-mod Words

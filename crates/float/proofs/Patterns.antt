@@ -1,21 +1,22 @@
 -- The bit pattern of q * 2 ^ k units, where q is a rounded number: k * 2 ^ (prec - 1) + q, whether or not the result is normal and whether or not rounding carried. Assumes nothing.
 use mathlib.Core.Path.{_≡_, refl, sym, ap, _∙_, subst}
 use mathlib.Core.Logic.{_⊎_, inl, inr}
-use Prim.Native.Nat.{ℕ, zero, suc, _+_, _-_, _*_, _/_, _%_, _^_, _≤_, _<_, zero-le}
-use native.Mathlib.Nat.{le-refl, le-of-eq, le-trans, lt-of-lt-of-le, lt-of-le-of-lt, le-of-lt, eq-or-lt-of-le, mul-assoc, mul-comm, mul-one, mul-pos, mul-div-cancel, mul-le-mul-right, suc-mul, add-mul, pow-succ', add-assoc}
+use Prim.Native.Nat.{ℕ, suc, _+_, _-_, _*_, _/_, _^_, _≤_, _<_}
+use native.Mathlib.Nat.{le-refl, le-of-eq, le-trans, lt-of-lt-of-le, lt-of-le-of-lt, eq-or-lt-of-le, mul-one, mul-div-cancel, mul-le-mul-right, suc-mul}
+use native.Mathlib.Nat.{add-mul, pow-succ', add-assoc}
 use native.Mathlib.Omega.{arith}
 use mathlib.Core.Bool.{Bool, true, false, not, cond}
 use lib.IntN.{ℤ}
-use lib.Dec.{T, ltb, lt→ltb, ltb→lt, nltb→le, lit<}
+use lib.Dec.{T, ltb, ltb→lt, nltb→le}
 use borrow.Author.Tests.{lt-ltb, le-ltb}
 use lib.Arith.{le→nltb}
 use lib.Pow.{pow-add, pow-pos, pow-mono, pow-lt, shl-lt}
-use lib.Ieee.{Float, nan, inf, fin, Format, binary64, prec, emax, low, up, down, hid, ones, top, size, odd, units, round, toBits, ofBits, isNan}
+use lib.Ieee.{Float, nan, inf, fin, Format, binary64, prec, emax, low, up, down, hid, ones, top, size, odd, units, toBits}
 use lib.Ieee.Digits.{size-le}
-use lib.Ieee.Fits.{two, two-le-pos, down-pos, round-fits}
-use lib.Ieee.Bits.{ofBits-toBits, cond-no}
+use lib.Ieee.Fits.{two, down-pos}
+use lib.Ieee.Bits.{cond-no}
 use lib.Ieee.Exact.{HasValue, units-val}
-use Rattle.float.proofs.Rounding.{size-exact}
+use Rattle.float.proofs.RoundingByDigits.{size-exact}
 
 -- ---- the bits of a finite value, by its size in units
 toBits-fin : (f : Format) (s : Bool) (m : ℕ) (e : ℤ) (n : ℕ) → m * up e * 2 ^ low f / down e ≡ n → toBits f (fin s m e) ≡ cond s (top f) 0 + (size n - prec f) * hid f + n / 2 ^ (size n - prec f)
@@ -73,10 +74,10 @@ module _ (f : Format) (s : Bool) (q k : ℕ) where
 
   -- q below 2 ^ prec
   below : (k ≡ 0) ⊎ (hid f ≤ q) → k < 2 * emax f → q < 2 ^ prec f → toBits f (units f s q k) ≡ cond s (top f) 0 + (k * hid f + q)
-  below d l h = fine k q (lt-of-lt-of-le (shl-lt (prec f) k h) (pow-mono (room (prec f) (emax f) k (two f) l))) (digits d h) refl
+  below d l h = fine k q (lt-of-lt-of-le (shl-lt (prec f) k h) (pow-mono (bound (prec f) (emax f) k (two f) l))) (digits d h) refl
     where
-      room : (p e k : ℕ) → 2 ≤ p → k < 2 * e → p + k ≤ e + p - 2 + suc e
-      room p e k a b = omega arith
+      bound : (p e k : ℕ) → 2 ≤ p → k < 2 * e → p + k ≤ e + p - 2 + suc e
+      bound p e k a b = omega arith
 
   -- rounding carried: q is 2 ^ prec
   carried : k < 2 * emax f → q ≡ 2 ^ prec f → toBits f (units f s q k) ≡ cond s (top f) 0 + (k * hid f + q)
@@ -94,8 +95,8 @@ module _ (f : Format) (s : Bool) (q k : ℕ) where
       spread : (k h : ℕ) → (k + 2) * h ≡ k * h + 2 * h
       spread k h = simp add-mul
 
-      room : (p e k : ℕ) → 2 ≤ p → suc k < 2 * e → suc (p + k) ≤ e + p - 2 + suc e
-      room p e k a b = omega arith
+      bound : (p e k : ℕ) → 2 ≤ p → suc k < 2 * e → suc (p + k) ≤ e + p - 2 + suc e
+      bound p e k a b = omega arith
 
       is : q * 2 ^ k ≡ 2 ^ (prec f + k)
       is = ap (λ (z : ℕ). z * 2 ^ k) e ∙ sym (pow-add 2 (prec f) k)
@@ -115,7 +116,7 @@ module _ (f : Format) (s : Bool) (q k : ℕ) where
           ∙ toBits-inf f s
           ∙ ap (λ (z : ℕ). cond s (top f) 0 + z) (tops k (emax f) (hid f) q (2 ^ prec f) t (pw' f) e ∙ spread k (hid f) ∙ ap (λ (z : ℕ). k * hid f + z) (sym (pw' f) ∙ sym e))
       go (inr t) =
-          fine (suc k) (hid f) (lt-of-le-of-lt (le-of-eq is) (pow-lt (room (prec f) (emax f) k (two f) t)))
+          fine (suc k) (hid f) (lt-of-le-of-lt (le-of-eq is) (pow-lt (bound (prec f) (emax f) k (two f) t)))
           (ap (λ (z : ℕ). z - prec f) (ap size is ∙ size-exact (2 ^ (prec f + k)) (prec f + k) (le-refl (2 ^ (prec f + k))) (pow-lt (le-refl (suc (prec f + k))))) ∙ cut (prec f) k)
           (sym (pow-add 2 (prec f - 1) (suc k)) ∙ ap (λ (z : ℕ). 2 ^ z) (meet (prec f) k (two f)) ∙ sym is)
           ∙ ap (λ (z : ℕ). cond s (top f) 0 + z) (one-up k (hid f) q (e ∙ pw' f))
@@ -130,21 +131,24 @@ module _ (f : Format) (s : Bool) (q k : ℕ) where
   -- and an infinity's from there on
   pub pack-inf : hid f ≤ q → 2 * emax f ≤ k → toBits f (units f s q k) ≡ cond s (top f) 0 + ones f * hid f
   pack-inf g l =
-      ap (toBits f) (units-inf f s q k (le-trans (pow-mono (room (prec f) (emax f) k (two f) l)) (le-trans (le-of-eq (pow-add 2 (prec f - 1) k)) (mul-le-mul-right (2 ^ k) g)))) ∙ toBits-inf f s
+      ap (toBits f) (units-inf f s q k (le-trans (pow-mono (bound (prec f) (emax f) k (two f) l)) (le-trans (le-of-eq (pow-add 2 (prec f - 1) k)) (mul-le-mul-right (2 ^ k) g)))) ∙ toBits-inf f s
     where
-      room : (p e k : ℕ) → 2 ≤ p → 2 * e ≤ k → e + p - 2 + suc e ≤ p - 1 + k
-      room p e k a b = omega arith
-
--- ---- a float made of the pattern of a rounded value is that value
-pub made : (f : Format) (s : Bool) (m d b : ℕ) (v : Float) → round f s m d ≡ v → toBits f v ≡ b → ofBits f b ≡ round f s m d
-made f s m d b v e h = ap (ofBits f) (sym h ∙ ap (toBits f) (sym e)) ∙ ofBits-toBits f (round f s m d) (round-fits f s m d)
+      bound : (p e k : ℕ) → 2 ≤ p → 2 * e ≤ k → e + p - 2 + suc e ≤ p - 1 + k
+      bound p e k a b = omega arith
 
 -- ---- at an f64, as `magnitude` and `pattern` write it
-pub magnitude-under : (k q : ℕ) → k < 2046 → q ≤ 2 ^ 53 → (k * 2 ^ 52 + q ≡ cond (ltb k 2046) (k * 2 ^ 52 + q) (2047 * 2 ^ 52)) × (k * 2 ^ 52 + q < 2 ^ 63)
-magnitude-under k q h l = (sym (ap (λ (b : Bool). cond b (k * 2 ^ 52 + q) (2047 * 2 ^ 52)) (lt-ltb k 2046 h)), omega arith)
+pub magnitude-under : (k q : ℕ) → k < 2046 → k * 2 ^ 52 + q ≡ cond (ltb k 2046) (k * 2 ^ 52 + q) (2047 * 2 ^ 52)
+magnitude-under k q h = sym (ap (λ (b : Bool). cond b (k * 2 ^ 52 + q) (2047 * 2 ^ 52)) (lt-ltb k 2046 h))
 
-pub magnitude-over : (k q : ℕ) → 2046 ≤ k → (2047 * 2 ^ 52 ≡ cond (ltb k 2046) (k * 2 ^ 52 + q) (2047 * 2 ^ 52)) × (2047 * 2 ^ 52 < 2 ^ 63)
-magnitude-over k q h = (sym (ap (λ (b : Bool). cond b (k * 2 ^ 52 + q) (2047 * 2 ^ 52)) (le-ltb k 2046 h)), lit< tt)
+pub magnitude-over : (k q : ℕ) → 2046 ≤ k → 2047 * 2 ^ 52 ≡ cond (ltb k 2046) (k * 2 ^ 52 + q) (2047 * 2 ^ 52)
+magnitude-over k q h = sym (ap (λ (b : Bool). cond b (k * 2 ^ 52 + q) (2047 * 2 ^ 52)) (le-ltb k 2046 h))
+
+pub magnitude-lt : (k q n : ℕ) → q ≤ 2 ^ 53 → n ≡ cond (ltb k 2046) (k * 2 ^ 52 + q) (2047 * 2 ^ 52) → n < 2 ^ 63
+magnitude-lt k q n l e = go (ltb k 2046) (ltb→lt k 2046) e
+  where
+    go : (b : Bool) → (T b → k < 2046) → n ≡ cond b (k * 2 ^ 52 + q) (2047 * 2 ^ 52) → n < 2 ^ 63
+    go true h e = let g = h tt in omega arith
+    go false h e = omega arith
 
 pub pattern-law : (s : Bool) (q k n : ℕ) → q ≤ 2 ^ 53 → (k ≡ 0) ⊎ (2 ^ 52 ≤ q) → n ≡ cond (ltb k 2046) (k * 2 ^ 52 + q) (2047 * 2 ^ 52) → cond s (2 ^ 63) 0 + n ≡ toBits binary64 (units binary64 s q k)
 pattern-law s q k n l d e = go (ltb k 2046) (ltb→lt k 2046) (nltb→le k 2046) e

@@ -1,10 +1,10 @@
--- Values with no minus sign: the tests on them, and the larger and the smaller of two.
+-- Exported for bounds of the coefficients. Values with no minus sign: the tests on them, and the larger and the smaller of two.
 use mathlib.Core.Path.{_≡_, refl, sym, ap, _∙_, subst}
 use mathlib.Core.Logic.{inl, inr}
-use Prim.Native.Nat.{ℕ, zero, suc, _*_, _/_, _^_, _≤_, _<_, zero-le}
+use Prim.Native.Nat.{ℕ, zero, suc, _*_, _≤_, _<_, zero-le}
 use native.Mathlib.Nat.{le-trans, le-of-eq, le-of-lt, lt-of-lt-of-le, lt-of-le-of-lt, zero-lt-suc, zero-mul, mul-comm, mul-le-mul-right, mul-lt-mul-of-pos-right, mul-pos, eq-or-lt-of-le}
 use native.Mathlib.Omega.{arith}
-use mathlib.Core.Bool.{Bool, true, false, not, _&&_, _||_, cond, true≢false}
+use mathlib.Core.Bool.{Bool, true, false, _&&_, _||_, cond, true≢false}
 use borrow.Author.Tests.{ltb-true, lt-ltb, le-ltb}
 use lib.IntN.{ℤ, pos, negsuc, natAbs}
 use lib.Dec.{T, ltb, eqb, eqb-refl, eqb→eq, eqb·suc-zero, lit<}
@@ -12,8 +12,8 @@ use lib.Ieee.{Float, nan, inf, fin, Format, binary64, up, down, mul, div, lt, eq
 use lib.Ieee.Fits.{up-pos, down-pos}
 use lib.Ieee.Compare.{differs-from-itself}
 use lib.Ieee.Positive.{through}
-use Rattle.float.specs.Operations.{abs, negative, less, maximumNumber, minimumNumber}
-use Rattle.float.proofs.Sizes.{Size, Reach, Plus, Number, nought, holds-zero, size-round, round-plus, some-digit}
+use Rattle.float.specs.Operations.{abs, negative, isLess, maximumNumber, minimumNumber}
+use Rattle.float.proofs.Sizes.{Size, Reach, Plus, Number, nought, holds-zero, size-round, round-plus, plus-number, some-digit}
 
 pub plus-abs : (x : Float) → Number x → Plus (abs x)
 unfolding abs
@@ -42,7 +42,8 @@ plus-div f (fin false m e) (inf false) n d b g B h k p q = refl
 plus-div f (fin true m e) (fin t m' e') n d b g B h k p q = absurd (true≢false p)
 plus-div f (fin false m e) (fin true m' e') n d b g B h k p q = absurd (true≢false q)
 plus-div f (fin false m e) (fin false m' e') n d b g B h k p q =
-    subst (λ (w : Bool). Plus (cond w (cond (eqb m 0) nan (inf false)) (round f false (m * up e * down e') (m' * up e' * down e)))) (sym (some-digit m' (up e') g (b * down e') (mul-pos B (down-pos e')) k))
+    subst (λ (w : Bool). Plus (cond w (cond (eqb m 0) nan (inf false)) (round f false (m * up e * down e') (m' * up e' * down e))))
+    (sym (some-digit m' (up e') g (b * down e') (mul-pos B (down-pos e')) k))
     (round-plus f (m * up e * down e') (m' * up e' * down e))
 
 pub plus-pick : (b : Bool) (x y : Float) → Plus x → Plus y → Plus (cond b x y)
@@ -85,7 +86,8 @@ zero-first (fin false m e) nan h p q = absurd q
 zero-first (fin false m e) (inf true) h p q = absurd (true≢false q)
 zero-first (fin false m e) (inf false) h p q = refl
 zero-first (fin false m e) (fin true n d) h p q = absurd (true≢false q)
-zero-first (fin false m e) (fin false n d) h p q = yes-le (m * up e * down d) (n * up d * down e) (le-trans (le-of-eq (ap (λ (z : ℕ). z * down d) (none (m * up e) (down e) h) ∙ zero-mul (down d))) zero-le)
+zero-first (fin false m e) (fin false n d) h p q =
+    yes-le (m * up e * down d) (n * up d * down e) (le-trans (le-of-eq (ap (λ (z : ℕ). z * down d) (none (m * up e) (down e) h) ∙ zero-mul (down d))) zero-le)
   where
     none : (a b : ℕ) → a * 1 ≤ 0 * b → a ≡ 0
     none a b h = omega arith
@@ -102,7 +104,9 @@ above-zero (fin true m e) y g h p k = absurd (true≢false p)
 above-zero (fin false m e) nan g h p k = refl
 above-zero (fin false m e) (inf t) g h p k = absurd k
 above-zero (fin false zero e) (fin t n d) g h p k = absurd (true≢false (some-digit 0 (up e) g (1 * down e) (mul-pos (lit< tt) (down-pos e)) h))
-above-zero (fin false (suc m) e) (fin true n d) g h p k = ap (λ (z : Bool). z && (false || eqb (suc m * up e * down d) 0)) (other (suc m * up e * down d) (mul-pos (mul-pos (zero-lt-suc m) (up-pos e)) (down-pos d)) (n * up d * down e) (none (n * up d) (down d) (down e) k))
+above-zero (fin false (suc m) e) (fin true n d) g h p k =
+    ap (λ (z : Bool). z && (false || eqb (suc m * up e * down d) 0))
+    (other (suc m * up e * down d) (mul-pos (mul-pos (zero-lt-suc m) (up-pos e)) (down-pos d)) (n * up d * down e) (none (n * up d) (down d) (down e) k))
   where
     none : (a b c : ℕ) → a * 1 ≤ 0 * b → a * c ≡ 0
     none a b c h = ap (λ (z : ℕ). z * c) (nil a b h) ∙ zero-mul c
@@ -138,11 +142,11 @@ small-first (fin false m e) (inf false) h p k q = refl
 small-first (fin false m e) (fin true n d) h p k q = absurd (true≢false q)
 small-first (fin false m e) (fin false n d) h p k q =
     lt-ltb (m * up e * down d) (n * up d * down e)
-    (lt-of-lt-of-le (mul-lt-mul-of-pos-right (less (m * up e) (down e) (down-pos e) h) (down-pos d))
+    (lt-of-lt-of-le (mul-lt-mul-of-pos-right (under-one (m * up e) (down e) (down-pos e) h) (down-pos d))
     (le-trans (le-of-eq (mul-comm (down e) (down d))) (mul-le-mul-right (down e) (at (n * up d) (down d) k))))
   where
-    less : (a b : ℕ) → 0 < b → a * 17179869184 ≤ 1 * b → a < b
-    less a b B h = omega arith
+    under-one : (a b : ℕ) → 0 < b → a * 17179869184 ≤ 1 * b → a < b
+    under-one a b B h = omega arith
 
     at : (a b : ℕ) → 1 * b ≤ a * 1 → b ≤ a
     at a b h = omega arith
@@ -169,26 +173,21 @@ is-number x h = go (ne x x) refl
     go true e = absurd (subst Number (differs-from-itself x (subst T (sym e) tt)) h)
     go false e = e
 
-plus-number : (x : Float) → Plus x → Number x
-plus-number nan h = h
-plus-number (inf s) h = tt
-plus-number (fin s m e) h = tt
-
 plain : (a b : Bool) → (a || (b && false)) ≡ a
 plain true b = refl
 plain false true = refl
 plain false false = refl
 
 -- where x has no minus sign, `less` is `lt`
-pub less-plus : (x y : Float) → Plus x → less x y ≡ lt x y
-unfolding less negative
+pub less-plus : (x y : Float) → Plus x → isLess x y ≡ lt x y
+unfolding isLess negative
 less-plus nan y p = absurd p
 less-plus (inf s) y p = rw p (plain (lt (inf false) y) (eq (inf false) y))
 less-plus (fin s m e) y p = rw p (plain (lt (fin false m e) y) (eq (fin false m e) y))
 
 -- where y has a minus sign too
-pub less-minus : (x y : Float) → negative y ≡ true → less x y ≡ lt x y
-unfolding less
+pub less-minus : (x y : Float) → negative y ≡ true → isLess x y ≡ lt x y
+unfolding isLess
 less-minus x y e = rw e (none (lt x y) (eq x y) (negative x))
   where
     none : (a b c : Bool) → (a || (b && (c && false))) ≡ a
@@ -200,15 +199,15 @@ less-minus x y e = rw e (none (lt x y) (eq x y) (negative x))
 pub larger-reach : (x y : Float) (n g : ℕ) → Plus x → Plus y → Reach x n g → Reach (maximumNumber x y) n g
 unfolding maximumNumber
 larger-reach x y n g p q h =
-    subst (λ (b : Bool). Reach (cond b y (cond (less x y) y x)) n g) (sym (is-number x (plus-number x p))) (go (less x y) refl)
+    subst (λ (b : Bool). Reach (cond b y (cond (isLess x y) y x)) n g) (sym (is-number x (plus-number x p))) (go (isLess x y) refl)
   where
-    go : (b : Bool) → less x y ≡ b → Reach (cond b y x) n g
+    go : (b : Bool) → isLess x y ≡ b → Reach (cond b y x) n g
     go true e = lt-reach x y n g (sym (less-plus x y p) ∙ e) p q h
     go false e = h
 
 pub larger-size : (x y : Float) (n g : ℕ) → Size x n g → Size y n g → Size (maximumNumber x y) n g
 unfolding maximumNumber
-larger-size x y n g h k = go (ne x x) (less x y)
+larger-size x y n g h k = go (ne x x) (isLess x y)
   where
     go : (a b : Bool) → Size (cond a y (cond b y x)) n g
     go true b = k
@@ -217,15 +216,15 @@ larger-size x y n g h k = go (ne x x) (less x y)
 
 pub larger-plus : (x y : Float) → Plus x → Plus y → Plus (maximumNumber x y)
 unfolding maximumNumber
-larger-plus x y h k = plus-pick (ne x x) y (cond (less x y) y x) k (plus-pick (less x y) y x k h)
+larger-plus x y h k = plus-pick (ne x x) y (cond (isLess x y) y x) k (plus-pick (isLess x y) y x k h)
 
 pub smaller-plus : (x y : Float) → Plus x → Plus y → Plus (minimumNumber x y)
 unfolding minimumNumber
-smaller-plus x y h k = plus-pick (ne x x) y (cond (less y x) y x) k (plus-pick (less y x) y x k h)
+smaller-plus x y h k = plus-pick (ne x x) y (cond (isLess y x) y x) k (plus-pick (isLess y x) y x k h)
 
 pub smaller-reach : (x y : Float) (n g : ℕ) → Reach x n g → Reach y n g → Reach (minimumNumber x y) n g
 unfolding minimumNumber
-smaller-reach x y n g h k = go (ne x x) (less y x)
+smaller-reach x y n g h k = go (ne x x) (isLess y x)
   where
     go : (a b : Bool) → Reach (cond a y (cond b y x)) n g
     go true b = k
@@ -235,9 +234,9 @@ smaller-reach x y n g h k = go (ne x x) (less y x)
 -- of a number from 1 on and one up to 1 / 2 ^ 34, the smaller is the latter
 pub smaller-small : (x y : Float) → Reach x 1 1 → Plus x → Size y 1 17179869184 → Plus y → Size (minimumNumber x y) 1 17179869184
 unfolding minimumNumber
-smaller-small x y h p k q = go (ne x x) (less y x) refl
+smaller-small x y h p k q = go (ne x x) (isLess y x) refl
   where
-    go : (a b : Bool) → less y x ≡ b → Size (cond a y (cond b y x)) 1 17179869184
+    go : (a b : Bool) → isLess y x ≡ b → Size (cond a y (cond b y x)) 1 17179869184
     go true b e = k
     go false true e = k
     go false false e = absurd (true≢false (sym (less-plus y x q ∙ small-first y x k q h p) ∙ e))
@@ -245,9 +244,9 @@ smaller-small x y h p k q = go (ne x x) (less y x) refl
 -- of 0 and a number from 1 on, the larger is the latter
 pub larger-zero : (x : Float) → Reach x 1 1 → Plus x → Reach (maximumNumber nought x) 1 1
 unfolding maximumNumber
-larger-zero x h p = go (ne nought nought) (less nought x) refl
+larger-zero x h p = go (ne nought nought) (isLess nought x) refl
   where
-    go : (a b : Bool) → less nought x ≡ b → Reach (cond a x (cond b x nought)) 1 1
+    go : (a b : Bool) → isLess nought x ≡ b → Reach (cond a x (cond b x nought)) 1 1
     go true b e = h
     go false true e = h
     go false false e = absurd (true≢false (sym (less-plus nought x refl ∙ small-first nought x zero-le refl h p) ∙ e))

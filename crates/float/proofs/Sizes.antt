@@ -1,10 +1,11 @@
--- How large a float is, and how small, by fractions; and that rounding respects both where the fraction is a value of the format.
--- Assumes nothing.
+-- Exported for bounds of the coefficients: how large a float is, and how small, by fractions; and that rounding respects both where the
+-- fraction is a value of the format. Assumes nothing.
 use mathlib.Core.Path.{_≡_, refl, sym, ap, ap₂, _∙_, subst}
 use mathlib.Core.Logic.{_⊎_, inl, inr}
-use Prim.Native.Nat.{ℕ, zero, suc, _+_, _-_, _*_, _/_, _^_, _≤_, _<_, zero-le}
+use Prim.Native.Nat.{ℕ, zero, suc, _+_, _-_, _*_, _^_, _≤_, _<_, zero-le}
 use native.Mathlib.Decide.{decLe}
-use native.Mathlib.Nat.{lt-irrefl, lt-of-not-le, not-le-of-lt, mul-zero, le-refl, le-trans, le-of-eq, le-of-lt, lt-of-lt-of-le, lt-of-le-of-lt, zero-lt-suc, zero-mul, one-mul, mul-one, mul-comm, mul-assoc, mul-left-comm, mul-right-comm, mul-le-mul, mul-le-mul-right, le-of-mul-le-mul-right, mul-pos, mul-mul-mul-comm, mul-sub, add-mul, add-le-add}
+use native.Mathlib.Nat.{lt-irrefl, lt-of-not-le, not-le-of-lt, mul-zero, le-refl, le-trans, le-of-eq, le-of-lt, lt-of-lt-of-le, lt-of-le-of-lt, zero-lt-suc, zero-mul, one-mul, mul-one, mul-comm}
+use native.Mathlib.Nat.{mul-assoc, mul-left-comm, mul-right-comm, mul-le-mul, mul-le-mul-right, le-of-mul-le-mul-right, mul-pos, mul-mul-mul-comm, mul-sub, add-mul, add-le-add}
 use native.Mathlib.Omega.{arith}
 use mathlib.Core.Bool.{Bool, true, false, not, _&&_, _||_, Bool·beq, cond, true≢false}
 use lib.IntN.{ℤ, pos, negsuc, _+ℤ_, subℕ}
@@ -197,27 +198,30 @@ pub up-add : (e d : ℤ) → up (e +ℤ d) * (down e * down d) ≡ up e * up d *
 up-add (pos a) (pos b) = ap (λ (z : ℕ). z * 1) (pow-add 2 a b)
 up-add (pos a) (negsuc b) = ap (λ (z : ℕ). up (subℕ a (suc b)) * z) (one-mul (2 ^ suc b)) ∙ up-sub a (suc b) ∙ ap (λ (z : ℕ). z * down (subℕ a (suc b))) (sym (mul-one (2 ^ a)))
 up-add (negsuc a) (pos b) = ap (λ (z : ℕ). up (subℕ b (suc a)) * z) (mul-one (2 ^ suc a)) ∙ up-sub b (suc a) ∙ ap (λ (z : ℕ). z * down (subℕ b (suc a))) (sym (one-mul (2 ^ b)))
-up-add (negsuc a) (negsuc b) = one-mul (2 ^ suc a * 2 ^ suc b) ∙ sym (pow-add 2 (suc a) (suc b)) ∙ ap (λ (z : ℕ). 2 ^ z) (two a b) ∙ sym (one-mul (2 ^ suc (suc (a + b)))) ∙ ap (λ (z : ℕ). z * 2 ^ suc (suc (a + b))) (sym (one-mul 1))
+up-add (negsuc a) (negsuc b) =
+    one-mul (2 ^ suc a * 2 ^ suc b) ∙ sym (pow-add 2 (suc a) (suc b)) ∙ ap (λ (z : ℕ). 2 ^ z) (two a b) ∙ sym (one-mul (2 ^ suc (suc (a + b)))) ∙ ap (λ (z : ℕ). z * 2 ^ suc (suc (a + b)))
+    (sym (one-mul 1))
   where
     two : (a b : ℕ) → suc a + suc b ≡ suc (suc (a + b))
     two a b = omega arith
+
+-- regroupings of the products of both
+pub cross-left : (m n u k l : ℕ) → m * n * u * k * l ≡ m * n * k * (u * l)
+cross-left m n u k l = simp (mul-assoc, mul-comm, mul-left-comm)
+
+pub cross-mid : (m n c g ue ud ds : ℕ) → m * n * (c * g) * (ue * ud * ds) ≡ m * ue * c * (n * ud * g) * ds
+cross-mid m n c g ue ud ds = simp (mul-assoc, mul-comm, mul-left-comm)
+
+pub cross-right : (a de b dd ds : ℕ) → a * de * (b * dd) * ds ≡ a * b * ds * (de * dd)
+cross-right a de b dd ds = simp (mul-assoc, mul-comm, mul-left-comm)
 
 -- m * ue / de ≤ a / c and n * ud / dd ≤ b / g, so for the product too
 cross : (m ue de a c n ud dd b g us ds : ℕ) → 0 < de → 0 < dd → m * ue * c ≤ a * de → n * ud * g ≤ b * dd → us * (de * dd) ≡ ue * ud * ds → m * n * us * (c * g) ≤ a * b * ds
 cross m ue de a c n ud dd b g us ds D E p q r =
     le-of-mul-le-mul-right
-    (le-trans (le-of-eq (left m n us (c * g) (de * dd) ∙ ap (λ (z : ℕ). m * n * (c * g) * z) r ∙ mid m n c g ue ud ds))
-    (le-trans (mul-le-mul-right ds (mul-le-mul p q)) (le-of-eq (right a de b dd ds))))
+    (le-trans (le-of-eq (cross-left m n us (c * g) (de * dd) ∙ ap (λ (z : ℕ). m * n * (c * g) * z) r ∙ cross-mid m n c g ue ud ds))
+    (le-trans (mul-le-mul-right ds (mul-le-mul p q)) (le-of-eq (cross-right a de b dd ds))))
     (mul-pos D E)
-  where
-    left : (m n u k l : ℕ) → m * n * u * k * l ≡ m * n * k * (u * l)
-    left m n u k l = simp (mul-assoc, mul-comm, mul-left-comm)
-
-    mid : (m n c g ue ud ds : ℕ) → m * n * (c * g) * (ue * ud * ds) ≡ m * ue * c * (n * ud * g) * ds
-    mid m n c g ue ud ds = simp (mul-assoc, mul-comm, mul-left-comm)
-
-    right : (a de b dd ds : ℕ) → a * de * (b * dd) * ds ≡ a * b * ds * (de * dd)
-    right a de b dd ds = simp (mul-assoc, mul-comm, mul-left-comm)
 
 pub times-size : (x y : Float) (a c b g : ℕ) → Size x a c → Size y b g → Size (times x y) (a * b) (c * g)
 unfolding times
@@ -295,6 +299,13 @@ mul-reach f (fin u m e) (fin t m' e') a c b g n d C G D A B v h k l =
     (through n (a * b) (m * up e * (m' * up e')) d (c * g) (down e * down e') (mul-pos C G) l
     (le-trans (le-of-eq (mul-mul-mul-comm a b (down e) (down e'))) (le-trans (mul-le-mul h k) (le-of-eq (mul-mul-mul-comm (m * up e) c (m' * up e') g)))))
 
+-- regroupings of the products of a quotient
+quot-left : (x q d c b : ℕ) → x * q * d * (c * b) ≡ x * c * (b * q) * d
+quot-left x q d c b = simp (mul-assoc, mul-comm, mul-left-comm)
+
+quot-right : (a p y g d : ℕ) → a * p * (y * g) * d ≡ a * g * d * (y * p)
+quot-right a p y g d = simp (mul-assoc, mul-comm, mul-left-comm)
+
 -- |x| ≤ a / c, |y| ≥ b / g, and (a / c) / (b / g) ≤ n / d
 pub div-size : (f : Format) (x y : Float) (a c b g n d : ℕ) → 0 < c → 0 < b → 0 < d → Holds f n d → Size x a c → Reach y b g → a * g * d ≤ n * (c * b) → Size (div f x y) n d
 unfolding div
@@ -316,17 +327,11 @@ div-size f (fin u m e) (fin t m' e') a c b g n d C B D v h k l =
     quot : (x p y q a c b g n d : ℕ) → 0 < c → 0 < b → x * c ≤ a * p → b * q ≤ y * g → a * g * d ≤ n * (c * b) → x * q * d ≤ n * (y * p)
     quot x p y q a c b g n d C B h k l =
         le-of-mul-le-mul-right
-        (le-trans (le-of-eq (one x q d c b))
+        (le-trans (le-of-eq (quot-left x q d c b))
         (le-trans (mul-le-mul-right d (mul-le-mul h k))
-        (le-trans (le-of-eq (two a p y g d))
+        (le-trans (le-of-eq (quot-right a p y g d))
         (le-trans (mul-le-mul-right (y * p) l) (le-of-eq (mul-right-comm n (c * b) (y * p)))))))
         (mul-pos C B)
-      where
-        one : (x q d c b : ℕ) → x * q * d * (c * b) ≡ x * c * (b * q) * d
-        one x q d c b = simp (mul-assoc, mul-comm, mul-left-comm)
-
-        two : (a p y g d : ℕ) → a * p * (y * g) * d ≡ a * g * d * (y * p)
-        two a p y g d = simp (mul-assoc, mul-comm, mul-left-comm)
 
 -- |x| ≥ a / c, |y| ≤ b / g, and n / d ≤ (a / c) / (b / g)
 pub div-reach : (f : Format) (x y : Float) (a c b g n d : ℕ) → 0 < a → 0 < c → 0 < b → 0 < g → 0 < d → Holds f n d → Reach x a c → Size y b g → n * (c * b) ≤ a * g * d → Reach (div f x y) n d
@@ -350,15 +355,9 @@ div-reach f (fin u m e) (fin t (suc m') e') a c b g n d A C B G D v h k l =
         le-of-mul-le-mul-right
         (le-trans (le-of-eq (mul-right-comm n (y * p) (c * b)))
         (le-trans (mul-le-mul-right (y * p) l)
-        (le-trans (le-of-eq (sym (two a p y g d)))
-        (le-trans (mul-le-mul-right d (mul-le-mul h k)) (le-of-eq (sym (one x q d c b)))))))
+        (le-trans (le-of-eq (sym (quot-right a p y g d)))
+        (le-trans (mul-le-mul-right d (mul-le-mul h k)) (le-of-eq (sym (quot-left x q d c b)))))))
         (mul-pos C B)
-      where
-        one : (x q d c b : ℕ) → x * q * d * (c * b) ≡ x * c * (b * q) * d
-        one x q d c b = simp (mul-assoc, mul-comm, mul-left-comm)
-
-        two : (a p y g d : ℕ) → a * p * (y * g) * d ≡ a * g * d * (y * p)
-        two a p y g d = simp (mul-assoc, mul-comm, mul-left-comm)
 
 -- ---- a sum that keeps away from 0: |x| ≤ a / c, |y| ≥ b / c, and n / d ≤ (b - a) / c
 
@@ -430,7 +429,7 @@ Number nan = ⊥
 Number (inf s) = Unit {0}
 Number (fin s m e) = Unit {0}
 
-plus-number : (x : Float) → Plus x → Number x
+pub plus-number : (x : Float) → Plus x → Number x
 plus-number nan h = h
 plus-number (inf s) h = tt
 plus-number (fin s m e) h = tt
@@ -514,7 +513,8 @@ factor-above f (fin false m e) (inf true) s t = absurd (no-inf (eqb m 0) t)
 factor-above f (fin false m e) (inf false) s t = tt
 factor-above f (fin false m e) (fin true n d) s t = absurd (true≢false (round-above f true (m * up e * (n * up d)) (down e * down d) (mul-pos (down-pos e) (down-pos d)) t .0))
 factor-above f (fin false m e) (fin false n d) s t =
-    lt→ltb (0 * down d) (n * up d * 1) (lt-of-le-of-lt (le-of-eq (zero-mul (down d))) (lt-of-lt-of-le (second (m * up e) (n * up d) (round-above f false (m * up e * (n * up d)) (down e * down d) (mul-pos (down-pos e) (down-pos d)) t .1)) (le-of-eq (sym (mul-one (n * up d))))))
+    lt→ltb (0 * down d) (n * up d * 1) (lt-of-le-of-lt (le-of-eq (zero-mul (down d)))
+    (lt-of-lt-of-le (second (m * up e) (n * up d) (round-above f false (m * up e * (n * up d)) (down e * down d) (mul-pos (down-pos e) (down-pos d)) t .1)) (le-of-eq (sym (mul-one (n * up d))))))
   where
     second : (a b : ℕ) → 0 < a * b → 0 < b
     second a zero h = absurd (lt-irrefl 0 (lt-of-lt-of-le h (le-of-eq (mul-zero a))))
@@ -552,7 +552,8 @@ under-one f m e t = go (ltb (m * up e * 1) (1 * down e)) (ltb→lt (m * up e * 1
     two : (x y : ℕ) → x * 1 < 1 * y → x < y
     two x y h = omega arith
 
-    last : (w : Bool) → (T w → 1 * down e < m * up e * 1) → (T (not w) → m * up e * 1 ≤ 1 * down e) → (1 * down e ≤ m * up e * 1) → T (lt nought (round f w (m * up e * 1 - 1 * down e) (down e * 1))) → m * up e < down e
+    last : (w : Bool) → (T w → 1 * down e < m * up e * 1) → (T (not w) → m * up e * 1 ≤ 1 * down e) → (1 * down e ≤ m * up e * 1)
+        → T (lt nought (round f w (m * up e * 1 - 1 * down e) (down e * 1))) → m * up e < down e
     last true k l g t = absurd (true≢false (round-above f true (m * up e * 1 - 1 * down e) (down e * 1) (mul-pos (down-pos e) (lit< tt)) t .0))
     last false k l g t = absurd (clash (m * up e * 1) (1 * down e) (l tt) (round-above f false (m * up e * 1 - 1 * down e) (down e * 1) (mul-pos (down-pos e) (lit< tt)) t .1))
       where
@@ -560,7 +561,8 @@ under-one f m e t = go (ltb (m * up e * 1) (1 * down e)) (ltb→lt (m * up e * 1
         clash a b p q = omega arith
 
     go : (z : Bool) → (T z → m * up e * 1 < 1 * down e) → (T (not z) → 1 * down e ≤ m * up e * 1)
-        → T (lt nought (cond z (round f false (1 * down e - m * up e * 1) (down e * 1)) (round f (true && ltb (1 * down e) (m * up e * 1)) (m * up e * 1 - 1 * down e) (down e * 1)))) → m * up e < down e
+        → T (lt nought (cond z (round f false (1 * down e - m * up e * 1) (down e * 1)) (round f (true && ltb (1 * down e) (m * up e * 1)) (m * up e * 1 - 1 * down e) (down e * 1))))
+        → m * up e < down e
     go true k g t = two (m * up e) (down e) (k tt)
     go false k g t = last (ltb (1 * down e) (m * up e * 1)) (ltb→lt (1 * down e) (m * up e * 1)) (nltb→le (1 * down e) (m * up e * 1)) (g tt) t
 

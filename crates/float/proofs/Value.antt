@@ -1,20 +1,17 @@
 -- Sums and exact products of floats, by any fractions that they equal. Assumes nothing.
 use mathlib.Core.Path.{_≡_, refl, sym, ap, ap₂, _∙_, subst}
-use mathlib.Core.Logic.{_⊎_, inl, inr}
-use mathlib.Core.Bool.{Bool, true, false, not, _&&_, Bool·beq, cond}
-use Prim.Native.Nat.{ℕ, zero, suc, _+_, _-_, _*_, _/_, _%_, _^_, _≤_, _<_, zero-le}
-use native.Mathlib.Nat.{le-of-eq, le-of-lt, le-trans, lt-of-lt-of-le, lt-of-le-of-lt, lt-irrefl, zero-lt-suc, add-zero, add-comm, add-mul, mul-one, one-mul, zero-mul, mul-zero, mul-comm, mul-assoc, mul-left-comm, mul-right-comm, mul-sub, mul-pos, mul-lt-mul-of-pos-right, lt-of-mul-lt-mul-right, eq-of-mul-eq-mul-right, sub-zero}
-use native.Mathlib.Omega.{arith}
-use lib.IntN.{ℤ, pos, negsuc, _+ℤ_, subℕ}
-use lib.Dec.{T, ltb, eqb, ltb→lt, lt→ltb, nltb→le}
-use lib.Pow.{pow-add, pow-pos}
-use borrow.Author.Tests.{lt-ltb, le-ltb}
-use lib.Ieee.{Float, nan, inf, fin, Format, prec, emax, low, unlike, up, down, round, sum, add, mul}
-use lib.Ieee.Fits.{up-pos, down-pos}
-use lib.Ieee.Exact.{HasValue, round-exact}
+use mathlib.Core.Bool.{Bool, true, false, _&&_, Bool·beq, cond}
+use Prim.Native.Nat.{ℕ, _+_, _-_, _*_, _<_}
+use native.Mathlib.Nat.{le-of-eq, lt-of-lt-of-le, lt-of-le-of-lt, add-mul, mul-comm, mul-assoc}
+use native.Mathlib.Nat.{mul-right-comm, mul-sub, mul-pos, mul-lt-mul-of-pos-right, lt-of-mul-lt-mul-right, eq-of-mul-eq-mul-right}
+use lib.IntN.{_+ℤ_}
+use lib.Dec.{T, ltb, ltb→lt, lt→ltb}
+use lib.Ieee.{Float, nan, inf, fin, Format, unlike, up, down, round, sum, add}
+use lib.Ieee.Fits.{down-pos}
+use lib.Ieee.Exact.{HasValue}
 use lib.Ieee.Scale.{round-same}
-use Rattle.float.specs.FusedMultiplyAdd.{times, fusedMultiplyAdd, plainly}
-use Rattle.float.proofs.Sizes.{up-add}
+use Rattle.float.specs.FusedMultiplyAdd.{times, fusedMultiplyAdd}
+use Rattle.float.proofs.Sizes.{cross-left, cross-mid, cross-right, up-add}
 
 -- ---- a fraction at another scale
 pub value-scale : (x : Float) (s : Bool) (a c k : ℕ) → HasValue x s a c → HasValue x s (a * k) (c * k)
@@ -31,20 +28,11 @@ value-is x s a b c d p q h = subst (λ (z : ℕ). HasValue x s b z) q (subst (λ
 cross : (m ue de a c n ud dd b g us ds : ℕ) → 0 < de → 0 < dd → m * ue * c ≡ a * de → n * ud * g ≡ b * dd → us * (de * dd) ≡ ue * ud * ds → m * n * us * (c * g) ≡ a * b * ds
 cross m ue de a c n ud dd b g us ds D E p q r =
     eq-of-mul-eq-mul-right (de * dd) (mul-pos D E) (m * n * us * (c * g)) (a * b * ds)
-    (left m n us (c * g) (de * dd)
+    (cross-left m n us (c * g) (de * dd)
     ∙ ap (λ (z : ℕ). m * n * (c * g) * z) r
-    ∙ mid m n c g ue ud ds
+    ∙ cross-mid m n c g ue ud ds
     ∙ ap₂ (λ (y z : ℕ). y * z * ds) p q
-    ∙ right a de b dd ds)
-  where
-    left : (m n u k l : ℕ) → m * n * u * k * l ≡ m * n * k * (u * l)
-    left m n u k l = simp (mul-assoc, mul-comm, mul-left-comm)
-
-    mid : (m n c g ue ud ds : ℕ) → m * n * (c * g) * (ue * ud * ds) ≡ m * ue * c * (n * ud * g) * ds
-    mid m n c g ue ud ds = simp (mul-assoc, mul-comm, mul-left-comm)
-
-    right : (a de b dd ds : ℕ) → a * de * (b * dd) * ds ≡ a * b * ds * (de * dd)
-    right a de b dd ds = simp (mul-assoc, mul-comm, mul-left-comm)
+    ∙ cross-right a de b dd ds)
 
 pub times-value : (x y : Float) (s t : Bool) (a b c g : ℕ) → HasValue x s a c → HasValue y t b g → HasValue (times x y) (unlike s t) (a * b) (c * g)
 unfolding times
@@ -64,7 +52,7 @@ same-test true false p q = absurd (p tt)
 same-test false true p q = absurd (q tt)
 same-test false false p q = refl
 
-less-same : (a b c x y z : ℕ) → 0 < c → 0 < z → a * z ≡ x * c → b * z ≡ y * c → ltb a b ≡ ltb x y
+pub less-same : (a b c x y z : ℕ) → 0 < c → 0 < z → a * z ≡ x * c → b * z ≡ y * c → ltb a b ≡ ltb x y
 less-same a b c x y z C Z p q =
     same-test (ltb a b) (ltb x y)
     (λ t. lt→ltb x y (lt-of-mul-lt-mul-right c (lt-of-le-of-lt (le-of-eq (sym p)) (lt-of-lt-of-le (mul-lt-mul-of-pos-right (ltb→lt a b t) Z) (le-of-eq q)))))
@@ -76,7 +64,8 @@ diff-same a b c x y z p q = spread a b z ∙ ap₂ (λ (m n : ℕ). m - n) p q �
     spread : (a b z : ℕ) → (a - b) * z ≡ a * z - b * z
     spread a b z = mul-comm (a - b) z ∙ mul-sub z a b ∙ ap₂ (λ (m n : ℕ). m - n) (mul-comm z a) (mul-comm z b)
 
-pub sum-is : (f : Format) (s : Bool) (a : ℕ) (t : Bool) (b c : ℕ) → sum f s a t b c ≡ cond (Bool·beq s t) (round f s (a + b) c) (cond (ltb a b) (round f t (b - a) c) (round f (s && ltb b a) (a - b) c))
+pub sum-is : (f : Format) (s : Bool) (a : ℕ) (t : Bool) (b c : ℕ)
+    → sum f s a t b c ≡ cond (Bool·beq s t) (round f s (a + b) c) (cond (ltb a b) (round f t (b - a) c) (round f (s && ltb b a) (a - b) c))
 unfolding sum
 sum-is f s a t b c = refl
 
@@ -84,7 +73,8 @@ pub sum-same : (f : Format) (s t : Bool) (a b c x y z : ℕ) → 0 < c → 0 < z
 sum-same f s t a b c x y z C Z p q =
     sum-is f s a t b c
     ∙ ap₂ (λ (i j : Bool). cond (Bool·beq s t) (round f s (a + b) c) (cond i (round f t (b - a) c) (round f (s && j) (a - b) c))) (less-same a b c x y z C Z p q) (less-same b a c y x z C Z q p)
-    ∙ ap (λ (v : Float). cond (Bool·beq s t) v (cond (ltb x y) (round f t (b - a) c) (round f (s && ltb y x) (a - b) c))) (round-same f s (a + b) c (x + y) z C Z (add-mul a b z ∙ ap₂ (λ (m n : ℕ). m + n) p q ∙ sym (add-mul x y c)))
+    ∙ ap (λ (v : Float). cond (Bool·beq s t) v (cond (ltb x y) (round f t (b - a) c) (round f (s && ltb y x) (a - b) c)))
+    (round-same f s (a + b) c (x + y) z C Z (add-mul a b z ∙ ap₂ (λ (m n : ℕ). m + n) p q ∙ sym (add-mul x y c)))
     ∙ ap (λ (v : Float). cond (Bool·beq s t) (round f s (x + y) z) (cond (ltb x y) v (round f (s && ltb y x) (a - b) c))) (round-same f t (b - a) c (y - x) z C Z (diff-same b a c y x z q p))
     ∙ ap (λ (v : Float). cond (Bool·beq s t) (round f s (x + y) z) (cond (ltb x y) (round f t (y - x) z) v)) (round-same f (s && ltb y x) (a - b) c (x - y) z C Z (diff-same a b c x y z p q))
     ∙ sym (sum-is f s x t y z)

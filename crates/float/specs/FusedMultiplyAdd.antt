@@ -1,8 +1,8 @@
 -- IEEE 754's fusedMultiplyAdd: the sum of the exact product and z, rounded once. Definitions only.
-use Prim.Native.Nat.{ℕ, _*_}
-use mathlib.Core.Bool.{Bool, false, cond}
+use Prim.Native.Nat.{_*_}
+use mathlib.Core.Bool.{cond}
 use lib.IntN.{_+ℤ_}
-use lib.Dec.{eqb, ltb}
+use lib.Dec.{eqb}
 use lib.Ieee.{Float, nan, inf, fin, Format, unlike, add}
 
 -- x times y, exactly: no format is asked to hold it
@@ -19,9 +19,3 @@ times (fin s m e) (fin t n d) = fin (unlike s t) (m * n) (e +ℤ d)
 unfoldable pub fusedMultiplyAdd : Format → Float → Float → Float → Float
 unfolding times add
 fusedMultiplyAdd f x y z = add f (times x y) z
-
--- finite, and not a zero
-abbrev pub plainly : Float → Bool
-plainly nan = false
-plainly (inf s) = false
-plainly (fin s m e) = ltb 0 m

@@ -1,7 +1,4 @@
--- What the contracts cite. The public functions' are FusedMultiplyAdd and Operations; the others are the private functions'.
+-- What the contracts cite: FusedMultiplyAdd and Operations are the public functions'; what only private ones cite is in inner.
 pub mod FusedMultiplyAdd
 pub mod Operations
-pub mod Jam
-pub mod Wide
-pub mod Split
-pub mod Worked
+pub mod inner

@@ -17,16 +17,16 @@ negative (inf s) = s
 negative (fin s m e) = s
 
 -- x is less than y, and -0 is less than +0
-unfoldable pub less : Float → Float → Bool
-less x y = lt x y || (eq x y && (negative x && not (negative y)))
+unfoldable pub isLess : Float → Float → Bool
+isLess x y = lt x y || (eq x y && (negative x && not (negative y)))
 
 -- the larger of two numbers; of a NaN and a number, the number
 unfoldable pub maximumNumber : Float → Float → Float
-maximumNumber x y = cond (ne x x) y (cond (less x y) y x)
+maximumNumber x y = cond (ne x x) y (cond (isLess x y) y x)
 
 -- the smaller of two numbers; of a NaN and a number, the number
 unfoldable pub minimumNumber : Float → Float → Float
-minimumNumber x y = cond (ne x x) y (cond (less y x) y x)
+minimumNumber x y = cond (ne x x) y (cond (isLess y x) y x)
 
 -- The whole number nearest to x, of two the one away from zero, with the sign of x: the whole part of |x| + 1/2.
 -- From 2 ^ 52 on every value is whole.

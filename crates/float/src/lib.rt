@@ -61,7 +61,7 @@ pub fn abs(x: f64) -> f64
 
 // Whether a is less than b, where -0 is less than +0.
 fn is_less(a: f64, b: f64) -> bool
-    ensures { λ r. ⌜ r ≡ Op.less a b ⌝ }
+    ensures { λ r. ⌜ r ≡ Op.isLess a b ⌝ }
 {
     if a == b {
         // Only zeros can be equal and have different signs, and these show in their reciprocals.

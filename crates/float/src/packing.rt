@@ -6,8 +6,8 @@ ghost use Prim.Native.Nat.{ℕ, _+_, _*_, _^_, _≤_, _<_};
 ghost use lib.Dec.{ltb};
 ghost use lib.Ieee.{binary64, units, toBits};
 ghost use lib.Ieee.Nearest.{closest};
-ghost use Rattle.float.specs.Jam.{Jam, rounding};
-ghost use Rattle.float.specs.Wide.{Stands};
+ghost use Rattle.float.specs.inner.Sticky.{Sticky, ExactOrSticky};
+ghost use Rattle.float.specs.inner.Rounded.{rounded};
 use crate::two_words::leading;
 
 // w / 2^d to the nearest, a tie to the even one.
@@ -37,7 +37,7 @@ fn nearest_even_53(w: u64) -> u64
 // The pattern of q * 2^k units of 2^-1074, without its sign: an infinity's where that is too large.
 fn magnitude(q: u64, k: u64) -> u64
     requires { ⌜ q ≤ 2 ^ 53 ⌝ }
-    ensures { λ r. ⌜ (r ≡ cond (ltb k 2046) (k * 2 ^ 52 + q) (2047 * 2 ^ 52)) × (r < 2 ^ 63) ⌝ }
+    ensures { λ r. ⌜ r ≡ cond (ltb k 2046) (k * 2 ^ 52 + q) (2047 * 2 ^ 52) ⌝ }
 {
     if k < 2046 {
         k * 0x10_0000_0000_0000 + q
@@ -55,10 +55,10 @@ fn pattern(neg: bool, q: u64, k: u64) -> u64
     if neg { 0x8000_0000_0000_0000 + n } else { n }
 }
 
-// The pattern of the f64 nearest to w * 2^x / 2^2336, or to any number that w * 2^x stands for. w's highest bit is set.
+// The pattern of the f64 nearest to ±m / 2^2336, where w, whose highest bit is set, is m / 2^x with a sticky bit.
 fn rounded(neg: bool, w: u64, x: u64) -> u64
     requires { ⌜ (2 ^ 63 ≤ w) × (x < 8192) ⌝ }
-    ensures { λ r. ⌜ ((m : ℕ) → Jam m w (2 ^ x) → r ≡ toBits binary64 (rounding 1262 neg m)) ⌝ }
+    ensures { λ r. ⌜ ((m : ℕ) → Sticky m w (2 ^ x) → r ≡ toBits binary64 (rounded 1262 neg m)) ⌝ }
 {
     if x < 1198 {
         pattern(neg, 0, 0)
@@ -69,11 +69,11 @@ fn rounded(neg: bool, w: u64, x: u64) -> u64
     }
 }
 
-// The pattern of the f64 nearest to w * 2^e / 2^2272, or to any number that w * 2^e stands for, where
-// w is hi * 2^64 + lo. The number is shifted by its leading zeros.
+// The pattern of the f64 nearest to ±m / 2^2272, where hi * 2^64 + lo is m / 2^e, exactly or with a sticky bit: it is shifted by
+// its leading zeros.
 pub(crate) fn normalised(neg: bool, hi: u64, lo: u64, e: u64) -> u64
     requires { ⌜ (0 < hi * 2 ^ 64 + lo) × (e < 8000) ⌝ }
-    ensures { λ r. ⌜ ((m : ℕ) → Stands m (hi * 2 ^ 64 + lo) (2 ^ e) → r ≡ toBits binary64 (rounding 1198 neg m)) ⌝ }
+    ensures { λ r. ⌜ ((m : ℕ) → ExactOrSticky m (hi * 2 ^ 64 + lo) (2 ^ e) → r ≡ toBits binary64 (rounded 1198 neg m)) ⌝ }
 {
     if hi == 0 {
         let l = u64::leading_zeros(lo) as u64;

@@ -3,8 +3,8 @@ ghost use mathlib.Core.Path.{_≡_};
 ghost use Prim.Native.Nat.{_+_, _-_, _*_, _^_, _≤_, _<_};
 ghost use mathlib.Core.Bool.{cond};
 ghost use lib.Dec.{eqb};
-ghost use Rattle.float.specs.Jam.{Jam, jammed};
-ghost use Rattle.float.specs.Wide.{wide, Merging};
+ghost use Rattle.float.specs.inner.Sticky.{Sticky, sticky};
+ghost use Rattle.float.specs.inner.TwoWords.{wide, Merged};
 
 // The number hi * 2^64 + lo.
 pub(crate) struct Wide {
@@ -14,7 +14,7 @@ pub(crate) struct Wide {
 
 // v, made odd where rest is not 0.
 pub(crate) fn sticky(v: u64, rest: u64) -> u64
-    ensures { λ r. ⌜ r ≡ jammed v rest ⌝ }
+    ensures { λ r. ⌜ r ≡ sticky v rest ⌝ }
 {
     if rest == 0 { v } else { v | 1 }
 }
@@ -22,15 +22,15 @@ pub(crate) fn sticky(v: u64, rest: u64) -> u64
 // The upper word of (hi * 2^64 + lo) * 2^l, with what is below it marked in the lowest bit.
 pub(crate) fn leading(hi: u64, lo: u64, l: u64) -> u64
     requires { ⌜ (l < 64) × (hi * 2 ^ l < 2 ^ 64) ⌝ }
-    ensures { λ r. ⌜ Jam (hi * 2 ^ 64 + lo) r (2 ^ (64 - l)) × (hi * 2 ^ l ≤ r) ⌝ }
+    ensures { λ r. ⌜ Sticky (hi * 2 ^ 64 + lo) r (2 ^ (64 - l)) ⌝ }
 {
     sticky((hi << l) + (lo / 2 >> (63 - l)), lo << l)
 }
 
 // (hi * 2^64 + lo) / 2^d for a d below 64, with what is cut off marked in the lowest bit.
-fn shift_right_jam_less(hi: u64, lo: u64, d: u64) -> Wide
+fn shift_right_sticky_less(hi: u64, lo: u64, d: u64) -> Wide
     requires { ⌜ d < 64 ⌝ }
-    ensures { λ r. ⌜ Jam (hi * 2 ^ 64 + lo) (wide r) (2 ^ d) ⌝ }
+    ensures { λ r. ⌜ Sticky (hi * 2 ^ 64 + lo) (wide r) (2 ^ d) ⌝ }
 {
     if d == 0 {
         Wide { hi: hi, lo: lo }
@@ -43,15 +43,15 @@ fn shift_right_jam_less(hi: u64, lo: u64, d: u64) -> Wide
     }
 }
 
-// The same for any d.
-pub(crate) fn shift_right_jam(hi: u64, lo: u64, d: u64) -> Wide
+// (hi * 2^64 + lo) / 2^d for any d, with what is cut off marked in the lowest bit.
+pub(crate) fn shift_right_sticky(hi: u64, lo: u64, d: u64) -> Wide
     requires { ⌜ 0 < hi * 2 ^ 64 + lo ⌝ }
-    ensures { λ r. ⌜ Jam (hi * 2 ^ 64 + lo) (wide r) (2 ^ d) ⌝ }
+    ensures { λ r. ⌜ Sticky (hi * 2 ^ 64 + lo) (wide r) (2 ^ d) ⌝ }
 {
     if d < 64 {
-        shift_right_jam_less(hi, lo, d)
+        shift_right_sticky_less(hi, lo, d)
     } else if d < 128 {
-        shift_right_jam_less(0, sticky(hi, lo), d - 64)
+        shift_right_sticky_less(0, sticky(hi, lo), d - 64)
     } else {
         Wide { hi: 0, lo: 1 }
     }
@@ -79,7 +79,7 @@ fn carried(a: u64, b: u64) -> Wide
     }
 }
 
-// Every bit of x turned round, where n.
+// x, with every bit turned round where n.
 fn flipped(n: bool, x: u64) -> u64
     ensures { λ r. ⌜ r ≡ cond n (0xffff_ffff_ffff_ffff - x) x ⌝ }
 {
@@ -111,7 +111,7 @@ pub(crate) struct Side {
 // does not, 1 is missing.
 pub(crate) fn merged(apart: bool, ah: u64, al: u64, bh: u64, bl: u64) -> Side
     requires { ⌜ (ah < 2 ^ 62) × (bh < 2 ^ 62) ⌝ }
-    ensures { λ r. ⌜ Merging apart (ah * 2 ^ 64 + al) (bh * 2 ^ 64 + bl) (r .under) (r .hi * 2 ^ 64 + r .lo) ⌝ }
+    ensures { λ r. ⌜ Merged apart (ah * 2 ^ 64 + al) (bh * 2 ^ 64 + bl) (r .under) (r .hi * 2 ^ 64 + r .lo) ⌝ }
 {
     let s = carried(al, flipped(apart, bl));
     let t = carried(ah + s.hi, flipped(apart, bh));

@@ -11,16 +11,11 @@ use denote.Array.{Array, each}
 use denote.Laws.{Is}
 use denote.Shadow.{shadow}
 use denote.Signed.{SInt}
-
--- every element of a frame's fourteen samples fits 16 bits
-pub record Fit (n : ℕ) (xs : List ℤ) : Type 0 where
-  pub at : (i : ℕ) → i < n → SFits w16 (getD xs i (pos 0))
+use Rattle.frame.specs.Fits.{Fit}
+use Rattle.frame.proofs.LawsOrder.{none-below}
 
 each-fits : (w : Width) (xs : List ℤ) (us : List Val) → shadow (each ℤ (SInt w .own) xs us) → (i : ℕ) → i < length xs → SFits w (getD xs i (pos 0))
-each-fits w [] us s i h = absurd (never i h)
-  where
-    never : (i : ℕ) → i < 0 → ⊥
-    never i h = omega arith
+each-fits w [] us s i h = absurd (none-below i h)
 each-fits w (x ∷ xs) [] s i h = absurd s
 each-fits w (x ∷ xs) (u ∷ us) s zero h = record { sfits = s .0 .1 }
 each-fits w (x ∷ xs) (u ∷ us) s (suc i) h = each-fits w xs us (s .1) i (omega arith)

@@ -16,10 +16,10 @@ use mir.Syntax.{w16}
 use mir.Val.{SFits}
 use Rattle.whole.specs.Whole.{clamp16, floored}
 use Rattle.whole.proofs.Differences.{Diff, diff-of, diff-pos, diff-neg, diff-add, diff-sub, diff-times, diff-same, diff-abs, abs-diff, over, under, left, floor-law}
-use Rattle.whole.proofs.Laws.{clamp-nearer}
-use Rattle.frame.specs.Estimate.{weighted}
-use Rattle.frame.specs.Quantise.{unit24, round24, scale, nearestDown, signed, quantised, clamp4}
-use Rattle.frame.specs.Pass.{Bounded, residual, reconstruct, stepOf}
+use Rattle.whole.proofs.Clamping.{clamp-nearer}
+use Rattle.frame.specs.Estimate.{weigh}
+use Rattle.frame.specs.Quantise.{unit24, round24, scale, nearestDown, withSign, quantise, clamp4}
+use Rattle.frame.specs.Pass.{Bounded, residual, reconstruct, codeSample}
 use Rattle.frame.proofs.LawsQuantise.{cmp-lt, cmp-gt, cmp-eq, size-above, unit-pos, round-same, scale-pos, clamp4-size}
 use Rattle.frame.proofs.LawsPass.{residual-size}
 
@@ -116,8 +116,8 @@ Near n d s = (over n * s * 2 + under d * 2 ≤ under n * s * 2 + over d * 2 + (s
 scale-11 : (p : ℕ) → p ≤ 11 → scale p ≤ 4194304
 scale-11 p l = let m : 2 ^ p ≤ 2048 = pow-mono l in omega arith
 
-nibble-near : (d : ℤ) (p : ℕ) → p ≤ 11 → natAbs (quantised d p -ℤ clamp4 (quantised d p)) ≤ 1 → Near (clamp4 (quantised d p)) d (scale p)
-unfolding quantised
+nibble-near : (d : ℤ) (p : ℕ) → p ≤ 11 → natAbs (quantise d p -ℤ clamp4 (quantise d p)) ≤ 1 → Near (clamp4 (quantise d p)) d (scale p)
+unfolding quantise
 nibble-near (pos m) p l h =
     let q = nearestDown (round24 m) (scale p) in
     let b = beside (clamp4 (pos q)) q h (clamp4-size (pos q)) in
@@ -142,7 +142,8 @@ floor-near a x n w h =
     let f = floored z 2048 in
     let law = floor-law z 2048 (omega arith) in
     let here : Diff z (over a + over n * (2048 * w) + 1024) (under a + under n * (2048 * w) + 0) = diff-add (diff-add (diff-of a) (diff-times (diff-of n) (2048 * w))) (diff-pos 1024) in
-    let there : Diff z (over f * 2048 + left z 2048) (under f * 2048 + 0) = subst (λ (v : ℤ). Diff v (over f * 2048 + left z 2048) (under f * 2048 + 0)) (sym (law .0)) (diff-add (diff-times (diff-of f) 2048) (diff-pos (left z 2048))) in
+    let there : Diff z (over f * 2048 + left z 2048) (under f * 2048 + 0) =
+    subst (λ (v : ℤ). Diff v (over f * 2048 + left z 2048) (under f * 2048 + 0)) (sym (law .0)) (diff-add (diff-times (diff-of f) 2048) (diff-pos (left z 2048))) in
     let x-times : Diff (pos 2048 *ℤ x) (over x * 2048) (under x * 2048) = subst (λ (v : ℤ). Diff v (over x * 2048) (under x * 2048)) (*ℤ-comm x (pos 2048)) (diff-times (diff-of x) 2048) in
     let e = diff-same here there in
     let d = diff-same (diff-of (pos 2048 *ℤ x -ℤ a)) (diff-sub x-times (diff-of a)) in
@@ -150,10 +151,10 @@ floor-near a x n w h =
     abs-diff (diff-sub (diff-of f) (diff-of x)) ((3 * w + 1) / 2) (omega arith) (omega arith)
 
 -- a sample whose nibble was at most one out of range is within ⌊(3 × 2^p + 1) / 2⌋ of its original
-pub step-distance : (c0 c1 s0 s1 x : ℤ) (p : ℕ) → SFits w16 x → p ≤ 11 → stepOf c0 c1 s0 s1 x p .overflow ≤ 1 → natAbs (stepOf c0 c1 s0 s1 x p .sample -ℤ x) ≤ (3 * 2 ^ p + 1) / 2
-unfolding stepOf reconstruct residual
+pub step-distance : (c0 c1 s0 s1 x : ℤ) (p : ℕ) → SFits w16 x → p ≤ 11 → codeSample c0 c1 s0 s1 x p .overflow ≤ 1 → natAbs (codeSample c0 c1 s0 s1 x p .sample -ℤ x) ≤ (3 * 2 ^ p + 1) / 2
+unfolding codeSample reconstruct residual
 step-distance c0 c1 s0 s1 x p f l h =
-    let a = weighted c0 c1 s0 s1 in
+    let a = weigh c0 c1 s0 s1 in
     let d = pos 2048 *ℤ x -ℤ a in
-    let n = clamp4 (quantised d p) in
+    let n = clamp4 (quantise d p) in
     clamp-nearer x (floored (a +ℤ n *ℤ pos (scale p) +ℤ pos 1024) 2048) ((3 * 2 ^ p + 1) / 2) f (floor-near a x n (2 ^ p) (nibble-near d p l h))

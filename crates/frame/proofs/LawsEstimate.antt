@@ -16,47 +16,49 @@ use mir.Val.{SFits}
 use Rattle.whole.specs.Whole.{towardsZero}
 use Rattle.whole.proofs.Values.{abs-add, abs-mul, abs-sfits}
 use Rattle.whole.proofs.Differences.{diff-pos, diff-sub, diff-eq}
-use Rattle.whole.proofs.Laws.{clamp-fits}
-use Rattle.frame.specs.declared.History.{History}
-use Rattle.frame.specs.Estimate.{weighted, difference, larger, isLowest, look, estimate, isSmall, halvingsWithin, halvings, maxZ, exponentOf, firstExponent}
+use Rattle.whole.proofs.Clamping.{clamp-fits}
+use Rattle.whole.specs.declared.History.{History}
+use Rattle.frame.specs.Estimate.{weigh, difference, largerMagnitude, isLowest, look, largestDifference, isSmall, halvingsWithin, halvings, maxZ, exponentOf, firstExponent}
 
 -- ---- sizes
 
-pub weighted-any : (c0 c1 s0 s1 : ℤ) → SFits w16 c0 → SFits w16 c1 → SFits w16 s0 → SFits w16 s1 → natAbs (weighted c0 c1 s0 s1) ≤ 2147483648
-unfolding weighted
-weighted-any c0 c1 s0 s1 f g h k =
+pub weigh-any : (c0 c1 s0 s1 : ℤ) → SFits w16 c0 → SFits w16 c1 → SFits w16 s0 → SFits w16 s1 → natAbs (weigh c0 c1 s0 s1) ≤ 2147483648
+unfolding weigh
+weigh-any c0 c1 s0 s1 f g h k =
     let a : natAbs c0 * natAbs s0 ≤ 32768 * 32768 = mul-le-mul (abs-sfits f) (abs-sfits h) in
     let b : natAbs c1 * natAbs s1 ≤ 32768 * 32768 = mul-le-mul (abs-sfits g) (abs-sfits k) in
     omega (arith, abs-add (c0 *ℤ s0) (c1 *ℤ s1), abs-mul c0 s0, abs-mul c1 s1)
 
 pub difference-fits : (c0 c1 s0 s1 x : ℤ) → SFits w16 (difference c0 c1 s0 s1 x)
 unfolding difference
-difference-fits c0 c1 s0 s1 x = clamp-fits (x -ℤ towardsZero (weighted c0 c1 s0 s1) 2048)
+difference-fits c0 c1 s0 s1 x = clamp-fits (x -ℤ towardsZero (weigh c0 c1 s0 s1) 2048)
 
-pub larger-yes : (d e : ℤ) → natAbs d < natAbs e → e ≡ larger d e
-unfolding larger
-larger-yes d e h = rw (lt-ltb _ _ h)
+pub larger-magnitude-yes : (d e : ℤ) → natAbs d < natAbs e → e ≡ largerMagnitude d e
+unfolding largerMagnitude
+larger-magnitude-yes d e h = rw (lt-ltb _ _ h)
 
-pub larger-no : (d e : ℤ) → natAbs e ≤ natAbs d → d ≡ larger d e
-unfolding larger
-larger-no d e h = rw (le-ltb _ _ h)
+pub larger-magnitude-no : (d e : ℤ) → natAbs e ≤ natAbs d → d ≡ largerMagnitude d e
+unfolding largerMagnitude
+larger-magnitude-no d e h = rw (le-ltb _ _ h)
 
 fits-either : (t : Bool) {a b : ℤ} → SFits w16 a → SFits w16 b → SFits w16 (cond t a b)
 fits-either true f g = f
 fits-either false f g = g
 
-pub larger-fits : (d e : ℤ) → SFits w16 d → SFits w16 e → SFits w16 (larger d e)
-unfolding larger
-larger-fits d e f g = fits-either (ltb (natAbs d) (natAbs e)) g f
+pub larger-magnitude-fits : (d e : ℤ) → SFits w16 d → SFits w16 e → SFits w16 (largerMagnitude d e)
+unfolding largerMagnitude
+larger-magnitude-fits d e f g = fits-either (ltb (natAbs d) (natAbs e)) g f
 
 -- ---- the look, from place i on
 module _ (c0 c1 d p b : ℤ) (xs : List ℤ) (i : ℕ) (E : ℤ) (h : i < 14) (inv : look c0 c1 xs (14 - i) i d p b ≡ E) where
   one : 14 - i ≡ suc (14 - (i + 1))
   one = omega arith
 
-  pub look-more : isLowest (difference c0 c1 p b (getD xs i (pos 0))) ≡ false → look c0 c1 xs (14 - (i + 1)) (i + 1) (larger d (difference c0 c1 p b (getD xs i (pos 0)))) (getD xs i (pos 0)) p ≡ E
+  pub look-more : isLowest (difference c0 c1 p b (getD xs i (pos 0))) ≡ false
+      → look c0 c1 xs (14 - (i + 1)) (i + 1) (largerMagnitude d (difference c0 c1 p b (getD xs i (pos 0)))) (getD xs i (pos 0)) p ≡ E
   unfolding look
-  look-more e = ap (λ (j : ℕ). look c0 c1 xs (14 - (i + 1)) j (larger d (difference c0 c1 p b (getD xs i (pos 0)))) (getD xs i (pos 0)) p) (add-one i) ∙ sym (ap (λ (k : ℕ). look c0 c1 xs k i d p b) one ∙ rw e) ∙ inv
+  look-more e = ap (λ (j : ℕ). look c0 c1 xs (14 - (i + 1)) j (largerMagnitude d (difference c0 c1 p b (getD xs i (pos 0)))) (getD xs i (pos 0)) p) (add-one i)
+      ∙ sym (ap (λ (k : ℕ). look c0 c1 xs k i d p b) one ∙ rw e) ∙ inv
 
   pub look-low : isLowest (difference c0 c1 p b (getD xs i (pos 0))) ≡ true → difference c0 c1 p b (getD xs i (pos 0)) ≡ E
   unfolding look
@@ -74,11 +76,11 @@ look-fits c0 c1 xs zero i d p b f = f
 look-fits c0 c1 xs (suc k) i d p b f =
     let x = getD xs i (pos 0) in
     let e = difference c0 c1 p b x in
-    fits-either (isLowest e) (difference-fits c0 c1 p b x) (look-fits c0 c1 xs k (suc i) (larger d e) x p (larger-fits d e f (difference-fits c0 c1 p b x)))
+    fits-either (isLowest e) (difference-fits c0 c1 p b x) (look-fits c0 c1 xs k (suc i) (largerMagnitude d e) x p (larger-magnitude-fits d e f (difference-fits c0 c1 p b x)))
 
-pub estimate-fits : (c0 c1 : ℤ) (h : History) (xs : List ℤ) → SFits w16 (estimate c0 c1 h xs)
-unfolding estimate
-estimate-fits c0 c1 h xs = look-fits c0 c1 xs 14 0 (pos 0) (h .newest) (h .older) (record { sfits = omega arith })
+pub largest-fits : (c0 c1 : ℤ) (h : History) (xs : List ℤ) → SFits w16 (largestDifference c0 c1 h xs)
+unfolding largestDifference
+largest-fits c0 c1 h xs = look-fits c0 c1 xs 14 0 (pos 0) (h .newest) (h .older) (record { sfits = omega arith })
 
 -- ---- the halvings
 pub halve-more : (k : ℕ) (z : ℤ) → isSmall z ≡ false → halvingsWithin (suc k) z ≡ suc (halvingsWithin k (quotZ z (pos 2)))
@@ -147,4 +149,4 @@ exponent-is (suc (suc n)) =
 -- the first exponent is 0 to 11
 pub first-le : (c0 c1 : ℤ) (h : History) (xs : List ℤ) → firstExponent c0 c1 h xs ≤ 11
 unfolding firstExponent
-first-le c0 c1 h xs = omega (arith, exponent-is (halvings (estimate c0 c1 h xs)), halvings-end (estimate c0 c1 h xs) (estimate-fits c0 c1 h xs))
+first-le c0 c1 h xs = omega (arith, exponent-is (halvings (largestDifference c0 c1 h xs)), halvings-end (largestDifference c0 c1 h xs) (largest-fits c0 c1 h xs))

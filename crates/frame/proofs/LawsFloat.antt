@@ -3,7 +3,8 @@ use mathlib.Core.Path.{_≡_, refl, sym, ap, ap₂, _∙_, subst}
 use mathlib.Core.Logic.{_⊎_, inl, inr}
 use mathlib.Core.Bool.{Bool, true, false, not, _&&_, Bool·beq, cond, true≢false, false≢true}
 use Prim.Native.Nat.{ℕ, zero, suc, _+_, _-_, _*_, _/_, _^_, _≤_, _<_, min}
-use native.Mathlib.Nat.{lt-irrefl, le-trans, le-of-lt, le-of-eq, lt-of-not-le, add-comm, div-one, mod-one, mul-right-comm, mul-le-mul-right, lt-of-le-of-lt, lt-of-lt-of-le, eq-or-lt-of-le, mul-assoc, mul-comm, mul-left-comm, mul-pos, mul-one, one-mul, zero-mul, eq-of-mul-eq-mul-right}
+use native.Mathlib.Nat.{lt-irrefl, le-trans, le-of-lt, le-of-eq, lt-of-not-le, add-comm, div-one, mod-one, mul-right-comm, mul-le-mul-right}
+use native.Mathlib.Nat.{lt-of-le-of-lt, lt-of-lt-of-le, eq-or-lt-of-le, mul-assoc, mul-comm, mul-left-comm, mul-pos, mul-one, one-mul, zero-mul, eq-of-mul-eq-mul-right}
 use native.Mathlib.Decide.{decLe}
 use native.Mathlib.Omega.{arith}
 use lib.Dec.{T, lit<, eqb, eqb·suc-zero, ltb, lt→ltb}
@@ -26,8 +27,9 @@ shifted q k j l h =
     let e : 2 ^ k * 2 ^ l ≡ 2 ^ (k + (l - j)) * 2 ^ j = sym (pow-add 2 k l) ∙ ap (λ (n : ℕ). 2 ^ n) (omega arith) ∙ pow-add 2 (k + (l - j)) j in
     mul-assoc q (2 ^ k) (2 ^ l) ∙ ap (λ (n : ℕ). q * n) e ∙ sym (mul-assoc q (2 ^ (k + (l - j))) (2 ^ j))
 
-held : (f : Format) (s : Bool) (q k j : ℕ) → q < 2 ^ prec f → q * 2 ^ (k + (low f - j)) < 2 ^ (low f + suc (emax f)) → j ≤ low f → HasValue (round f s (q * 2 ^ k) (2 ^ j)) s (q * 2 ^ k) (2 ^ j)
-held f s q k j small fine J = round-exact f s (q * 2 ^ k) (2 ^ j) q (k + (low f - j)) (pow-pos j) small fine (shifted q k j (low f) J)
+digits-exact : (f : Format) (s : Bool) (q k j : ℕ) → q < 2 ^ prec f → q * 2 ^ (k + (low f - j)) < 2 ^ (low f + suc (emax f)) → j ≤ low f
+    → HasValue (round f s (q * 2 ^ k) (2 ^ j)) s (q * 2 ^ k) (2 ^ j)
+digits-exact f s q k j small fine J = round-exact f s (q * 2 ^ k) (2 ^ j) q (k + (low f - j)) (pow-pos j) small fine (shifted q k j (low f) J)
 
 one-lt : (p : ℕ) → 2 ≤ p → 1 < 2 ^ p
 one-lt p h = pow-lt {i = 0} (omega arith)
@@ -48,9 +50,9 @@ few-digits f s q k j small K J = go (eq-or-lt-of-le small)
     go : (q ≡ 2 ^ prec f) ⊎ (q < 2 ^ prec f) → HasValue (round f s (q * 2 ^ k) (2 ^ j)) s (q * 2 ^ k) (2 ^ j)
     go (inl e) =
         subst (λ (n : ℕ). HasValue (round f s n (2 ^ j)) s n (2 ^ j)) (top ∙ ap (λ (n : ℕ). n * 2 ^ k) (sym e))
-        (held f s 1 (prec f + k) j (one-lt (prec f) (two f)) (top-fine (prec f) (emax f) (low f) K) J)
+        (digits-exact f s 1 (prec f + k) j (one-lt (prec f) (two f)) (top-fine (prec f) (emax f) (low f) K) J)
     go (inr l) =
-        held f s q k j l (lt-of-lt-of-le (shl-lt (prec f) (k + (low f - j)) l) (pow-mono (le-of-lt (room (prec f) (emax f) (low f) K)))) J
+        digits-exact f s q k j l (lt-of-lt-of-le (shl-lt (prec f) (k + (low f - j)) l) (pow-mono (le-of-lt (room (prec f) (emax f) (low f) K)))) J
 
 -- ---- a whole number rounded: to its prec leading digits, a tie to the even one
 size-shift : (a l : ℕ) → 0 < size a → size (a * 2 ^ l) ≡ size a + l
@@ -72,11 +74,14 @@ long-at f s a h fine =
     let l = low f in
     let k = size a - prec f in
     let q = closest a (2 ^ k) in
-    let digits : size (a * 2 ^ l / 1) - prec f ≡ k + l = ap (λ (n : ℕ). size n - prec f) (div-one (a * 2 ^ l)) ∙ ap (λ (n : ℕ). n - prec f) (size-shift a l (lt-of-lt-of-le (two-le-pos (prec f) (two f)) h)) ∙ carry (size a) (prec f) l h in
-    let same : closest (a * 2 ^ l) (1 * 2 ^ (k + l)) ≡ q = closest-same (a * 2 ^ l) (1 * 2 ^ (k + l)) a (2 ^ k) (mul-pos (lit< tt) (pow-pos (k + l))) (pow-pos k) (simp (mul-assoc, mul-comm, one-mul, pow-add)) in
+    let digits : size (a * 2 ^ l / 1) - prec f ≡ k + l = ap (λ (n : ℕ). size n - prec f) (div-one (a * 2 ^ l))
+    ∙ ap (λ (n : ℕ). n - prec f) (size-shift a l (lt-of-lt-of-le (two-le-pos (prec f) (two f)) h)) ∙ carry (size a) (prec f) l h in
+    let same : closest (a * 2 ^ l) (1 * 2 ^ (k + l)) ≡ q =
+    closest-same (a * 2 ^ l) (1 * 2 ^ (k + l)) a (2 ^ k) (mul-pos (lit< tt) (pow-pos (k + l))) (pow-pos k) (simp (mul-assoc, mul-comm, one-mul, pow-add)) in
     let big : q * 2 ^ (k + l) ≡ q * 2 ^ k * 2 ^ l = ap (λ (n : ℕ). q * n) (pow-add 2 k l) ∙ sym (mul-assoc q (2 ^ k) (2 ^ l)) in
     let is : round f s a 1 ≡ units f s q (k + l) = round-is f s a 1 ∙ ap (λ (n : ℕ). units f s (closest (a * 2 ^ l) (1 * 2 ^ n)) n) digits ∙ ap (λ (n : ℕ). units f s n (k + l)) same in
-    let under : q * 2 ^ (k + l) < 2 ^ (l + suc (emax f)) = lt-of-le-of-lt (le-of-eq big) (lt-of-lt-of-le (shl-lt (suc (emax f)) l fine) (le-of-eq (ap (λ (n : ℕ). 2 ^ n) (add-comm (suc (emax f)) l)))) in
+    let under : q * 2 ^ (k + l) < 2 ^ (l + suc (emax f)) =
+    lt-of-le-of-lt (le-of-eq big) (lt-of-lt-of-le (shl-lt (suc (emax f)) l fine) (le-of-eq (ap (λ (n : ℕ). 2 ^ n) (add-comm (suc (emax f)) l)))) in
     let v : HasValue (units f s q (k + l)) s (q * 2 ^ k * 2 ^ l) (2 ^ l) = subst (λ (n : ℕ). HasValue (units f s q (k + l)) s n (2 ^ l)) big (units-val f s q (k + l) under) in
     value-cancel (round f s a 1) s (q * 2 ^ k) 1 (2 ^ l) (pow-pos l)
     (subst (λ (x : Float). HasValue x s (q * 2 ^ k * 2 ^ l) (1 * 2 ^ l)) (sym is) (subst (λ (n : ℕ). HasValue (units f s q (k + l)) s (q * 2 ^ k * 2 ^ l) n) (sym (one-mul (2 ^ l))) v))

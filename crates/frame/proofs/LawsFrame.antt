@@ -13,10 +13,11 @@ use lib.IntN.{ℤ, pos, negsuc, natAbs}
 use lib.ListN.{getD}
 use mir.Syntax.{w16}
 use mir.Val.{SFits}
-use Rattle.frame.specs.declared.History.{History}
+use Rattle.whole.specs.declared.History.{History}
 use Rattle.frame.specs.Pass.{Bounded}
 use Rattle.frame.specs.Choice.{c0At, c1At, AllBounded}
-use Rattle.frame.specs.Frame.{preceded, historyAfter, pairWithin, within, withinLimits}
+use Rattle.frame.specs.Frame.{preceded, historyAfter, pairOk, pairsOk, coefficientsOk}
+use Rattle.frame.proofs.LawsOrder.{none-below}
 
 -- ---- the history after m samples
 pub history-none : (h : History) (xs : List ℤ) → h ≡ historyAfter h xs 0
@@ -51,55 +52,52 @@ and-true : (a : Bool) → a && true ≡ a
 and-true true = refl
 and-true false = refl
 
-pub within-bad : (cs : List ℤ) (i : ℕ) → pairWithin (c0At cs i) (c1At cs i) ≡ false → false ≡ within cs (i + 1)
-unfolding within
-within-bad cs i e = rw (add-one, e) (sym (and-false (within cs i)))
+pub pairs-bad : (cs : List ℤ) (i : ℕ) → pairOk (c0At cs i) (c1At cs i) ≡ false → false ≡ pairsOk cs (i + 1)
+unfolding pairsOk
+pairs-bad cs i e = rw (add-one, e) (sym (and-false (pairsOk cs i)))
 
-pub within-good : (cs : List ℤ) (i : ℕ) → pairWithin (c0At cs i) (c1At cs i) ≡ true → within cs i ≡ within cs (i + 1)
-unfolding within
-within-good cs i e = rw (add-one, e) (sym (and-true (within cs i)))
+pub pairs-good : (cs : List ℤ) (i : ℕ) → pairOk (c0At cs i) (c1At cs i) ≡ true → pairsOk cs i ≡ pairsOk cs (i + 1)
+unfolding pairsOk
+pairs-good cs i e = rw (add-one, e) (sym (and-true (pairsOk cs i)))
 
 both : (a b : Bool) → a && b ≡ true → (a ≡ true) × (b ≡ true)
 both true b e = (refl, e)
 both false b e = absurd (subst (λ (t : Bool). cond t ⊥ Unit) e tt)
 
-pub pair-bounded : (c0 c1 : ℤ) → pairWithin c0 c1 ≡ true → Bounded c0 c1
-unfolding pairWithin
+pub pair-bounded : (c0 c1 : ℤ) → pairOk c0 c1 ≡ true → Bounded c0 c1
+unfolding pairOk
 pair-bounded c0 c1 e =
     let t = both (leb (natAbs c0) 4096) (leb (natAbs c1) 2048) e in
     record { sum = omega (arith, leb-true (natAbs c0) 4096 (t .0), leb-true (natAbs c1) 2048 (t .1)) }
 
-pub within-pair : (cs : List ℤ) (k i : ℕ) → i < k → within cs k ≡ true → pairWithin (c0At cs i) (c1At cs i) ≡ true
-unfolding within
-within-pair cs zero i l e = absurd (never i l)
+pub pairs-at : (cs : List ℤ) (k i : ℕ) → i < k → pairsOk cs k ≡ true → pairOk (c0At cs i) (c1At cs i) ≡ true
+unfolding pairsOk
+pairs-at cs zero i l e = absurd (none-below i l)
+pairs-at cs (suc k) i l e = go (decLe k i) (pairs-at cs k i)
   where
-    never : (i : ℕ) → i < 0 → ⊥
-    never i l = omega arith
-within-pair cs (suc k) i l e = go (decLe k i) (within-pair cs k i)
-  where
-    t : (within cs k ≡ true) × (pairWithin (c0At cs k) (c1At cs k) ≡ true)
-    t = both (within cs k) (pairWithin (c0At cs k) (c1At cs k)) e
+    t : (pairsOk cs k ≡ true) × (pairOk (c0At cs k) (c1At cs k) ≡ true)
+    t = both (pairsOk cs k) (pairOk (c0At cs k) (c1At cs k)) e
 
-    go : Dec (k ≤ i) → (i < k → within cs k ≡ true → pairWithin (c0At cs i) (c1At cs i) ≡ true) → pairWithin (c0At cs i) (c1At cs i) ≡ true
-    go (yes m) r = let x : k ≡ i = omega arith in subst (λ (j : ℕ). pairWithin (c0At cs j) (c1At cs j) ≡ true) x (t .1)
+    go : Dec (k ≤ i) → (i < k → pairsOk cs k ≡ true → pairOk (c0At cs i) (c1At cs i) ≡ true) → pairOk (c0At cs i) (c1At cs i) ≡ true
+    go (yes m) r = let x : k ≡ i = omega arith in subst (λ (j : ℕ). pairOk (c0At cs j) (c1At cs j) ≡ true) x (t .1)
     go (no m) r = r (lt-of-not-le m) (t .0)
 
 -- document 01's two limits are inside the limit that the arithmetic has room for
-pub limits-bounded : (cs : List ℤ) → withinLimits cs ≡ true → AllBounded cs
-unfolding withinLimits
-limits-bounded cs e = record { pair = λ i l. pair-bounded (c0At cs i) (c1At cs i) (within-pair cs 8 i l e) }
+pub limits-bounded : (cs : List ℤ) → coefficientsOk cs ≡ true → AllBounded cs
+unfolding coefficientsOk
+limits-bounded cs e = record { pair = λ i l. pair-bounded (c0At cs i) (c1At cs i) (pairs-at cs 8 i l e) }
 
 -- coefficients within the limits are of 16 bits
 small : (z : ℤ) → natAbs z ≤ 4096 → SFits w16 z
 small (pos n) h = record { sfits = omega arith }
 small (negsuc n) h = record { sfits = omega arith }
 
-pub limits-fit : (cs : List ℤ) → withinLimits cs ≡ true → (i : ℕ) → i < 16 → SFits w16 (getD cs i (pos 0))
-unfolding withinLimits pairWithin
+pub limits-fit : (cs : List ℤ) → coefficientsOk cs ≡ true → (i : ℕ) → i < 16 → SFits w16 (getD cs i (pos 0))
+unfolding coefficientsOk pairOk
 limits-fit cs ok i h = go (i % 2) refl (omega arith)
   where
     t : (leb (natAbs (c0At cs (i / 2))) 4096 ≡ true) × (leb (natAbs (c1At cs (i / 2))) 2048 ≡ true)
-    t = both (leb (natAbs (c0At cs (i / 2))) 4096) (leb (natAbs (c1At cs (i / 2))) 2048) (within-pair cs 8 (i / 2) (omega arith) ok)
+    t = both (leb (natAbs (c0At cs (i / 2))) 4096) (leb (natAbs (c1At cs (i / 2))) 2048) (pairs-at cs 8 (i / 2) (omega arith) ok)
 
     go : (r : ℕ) → i % 2 ≡ r → r < 2 → SFits w16 (getD cs i (pos 0))
     go zero e l =

@@ -2,7 +2,8 @@
 use mathlib.Core.Path.{_≡_, refl, sym, ap, ap₂, _∙_, subst}
 use mathlib.Core.Bool.{Bool, true, false, cond, _&&_, _||_}
 use Prim.Native.Nat.{ℕ, zero, suc, _+_, _-_, _*_, _/_, _%_, _^_, _≤_, _<_, max, compare}
-use native.Mathlib.Nat.{le-refl, le-trans, mul-comm, mul-le-mul, mul-le-mul-right, lt-of-not-le, lt-of-mul-lt-mul-right, le-of-mul-le-mul-right, div-add-mod', mod-lt, div-div-eq-div-mul, div-le-self, mul-add-mod-self-right, mod-eq-of-lt}
+use native.Mathlib.Nat.{le-refl, le-trans, mul-comm, mul-le-mul, mul-le-mul-right, lt-of-not-le, lt-of-mul-lt-mul-right}
+use native.Mathlib.Nat.{le-of-mul-le-mul-right, div-add-mod', mod-lt, div-div-eq-div-mul, div-le-self, mul-add-mod-self-right, mod-eq-of-lt}
 use native.Mathlib.Decide.{decLe}
 use native.Mathlib.Omega.{arith}
 use lib.Dec.{T, ltb}
@@ -14,30 +15,31 @@ use borrow.Author.Tests.{ltb-true, ltb-false, lt-ltb, le-ltb}
 use mir.Syntax.{Width, w16, w32}
 use mir.Val.{SFits, ofZ, hbits}
 use Rattle.whole.specs.Whole.{floored}
+use Rattle.whole.proofs.Clamping.{clamp-low, clamp-high, clamp-mid}
 use Rattle.whole.proofs.Values.{Is, is-sized, sfits-abs, abs-add, abs-sub, abs-mul, abs-shr, not-below-zero}
-use Rattle.whole.proofs.Differences.{Diff, diff-of, diff-pos, diff-neg, diff-add, diff-sub, diff-times, diff-move, diff-same, diff-eq, diff-lt, diff-le, lt-diff, le-diff, diff-abs, abs-diff, over, under, left, floor-law}
-use Rattle.frame.specs.Quantise.{unit24, round24, scale, nearestDown, signed, quantised, clamp4}
-use Rattle.frame.specs.Estimate.{weighted}
+use Rattle.whole.proofs.Differences.{Diff, diff-of, diff-pos, diff-neg, diff-add, diff-sub, diff-times, diff-move, diff-same, diff-eq}
+use Rattle.whole.proofs.Differences.{diff-lt, diff-le, lt-diff, le-diff, diff-abs, abs-diff, over, under, left, floor-law}
+use Rattle.frame.specs.Quantise.{unit24, round24, scale, nearestDown, withSign, quantise, clamp4}
+use Rattle.frame.specs.Estimate.{weigh}
 use Rattle.frame.specs.Pass.{Bounded}
-use Rattle.frame.specs.Lanes.{Unit, finer, isBig, isNear, tracked, held}
-use Rattle.frame.proofs.LawsQuantise.{unit-le, unit-pos as unit-above, round24-le, round-same, down-pos, down-neg, signed-twice, signed-size, clamp4-size, clamp4-low, clamp4-high, clamp4-mid, excess-low, excess-high, excess-none}
+use Rattle.frame.specs.inner.Lanes.{PowerOfTwo, finer, isBig, isNear, track, clampWithin}
+use Rattle.frame.proofs.LawsOrder.{none-below}
+use Rattle.frame.proofs.LawsQuantise.{unit-le, unit-pos as unit-above, round24-le, round-same, down-pos, down-neg, sign-twice}
+use Rattle.frame.proofs.LawsQuantise.{sign-size, clamp4-size, excess-low, excess-high, excess-none}
 
 -- ---- a unit
 
-pub unit-size : (u : ℤ) → Unit u → natAbs u ≤ 4096
+pub unit-size : (u : ℤ) → PowerOfTwo u → natAbs u ≤ 4096
 unit-size u h = subst (λ (z : ℤ). natAbs z ≤ 4096) (sym (h .is)) (pow-mono (h .most))
 
-pub unit-at-least : (u : ℤ) → Unit u → 1 ≤ natAbs u
-unit-at-least u h = subst (λ (z : ℤ). 1 ≤ natAbs z) (sym (h .is)) (pow-pos (h .p))
-
-pub unit-pos : (u : ℤ) → Unit u → u ≡ pos (natAbs u)
+pub unit-pos : (u : ℤ) → PowerOfTwo u → u ≡ pos (natAbs u)
 unit-pos u h = h .is ∙ ap (λ (z : ℤ). pos (natAbs z)) (sym (h .is))
 
-pub unit-is : {u : ℤ} → Unit u → Is w32 (ofZ w32 u) u 4096
+pub unit-is : {u : ℤ} → PowerOfTwo u → Is w32 (ofZ w32 u) u 4096
 unit-is {u} h = is-sized u (unit-size u h) tt
 
 -- u − 1 is the mask of its lower bits
-pub mask-is : (u : ℤ) (h : Unit u) → u -ℤ pos 1 ≡ pos (2 ^ (h .p) - 1)
+pub mask-is : (u : ℤ) (h : PowerOfTwo u) → u -ℤ pos 1 ≡ pos (2 ^ (h .p) - 1)
 mask-is u h = ap (λ (z : ℤ). z -ℤ pos 1) (h .is) ∙ diff-eq (diff-sub (diff-pos (2 ^ (h .p))) (diff-pos 1)) (diff-pos (2 ^ (h .p) - 1)) (omega (arith, pow-pos (h .p)))
 
 -- ---- division rounded down
@@ -96,36 +98,38 @@ mag-floor (negsuc n) s = refl
 
 -- ---- the nibble's part
 
--- (t less its lower bits) − 8 u is the clamped quotient times u, for t = v + 8 u held in 0 .. 16 u − 1
+-- (t less its lower bits) − 8 u is the clamped quotient times u, for t = v + 8 u clamped to 0 .. 16 u − 1
 module _ (v : ℤ) (s : ℕ) (p : 0 < s) where
+  -- v moved up by 8 u
   abbrev sum : ℤ
   sum = v +ℤ pos (8 * s)
 
-  abbrev hold : ℕ
-  hold = held sum (pos (16 * s - 1))
+  -- the same, clamped
+  abbrev clamped : ℕ
+  clamped = clampWithin sum (pos (16 * s - 1))
 
   times-neg : (k : ℕ) → Diff (negsuc k *ℤ pos s) 0 (suc k * s)
   times-neg k = diff-move (diff-times (diff-of (negsuc k)) s) (omega arith)
 
-  part-low : ltZ sum (pos 0) ≡ true → pos (hold - hold % s) -ℤ pos (8 * s) ≡ clamp4 (shrZ v s) *ℤ pos s
-  unfolding held
+  part-low : ltZ sum (pos 0) ≡ true → pos (clamped - clamped % s) -ℤ pos (8 * s) ≡ clamp4 (shrZ v s) *ℤ pos s
+  unfolding clampWithin
   part-low e =
       let l = diff-lt (diff-add (diff-of v) (diff-pos (8 * s))) (diff-pos 0) e in
-      let c : clamp4 (shrZ v s) ≡ negsuc 7 = clamp4-low (shrZ v s) (floor-low v s p (omega arith)) in
+      let c : clamp4 (shrZ v s) ≡ negsuc 7 = clamp-low 7 (shrZ v s) (floor-low v s p (omega arith)) in
       rw (e, c) (diff-eq (diff-sub (diff-pos (0 - 0 % s)) (diff-pos (8 * s))) (times-neg 7) (omega arith))
 
-  part-high : ltZ sum (pos 0) ≡ false → ltZ (pos (16 * s - 1)) sum ≡ true → pos (hold - hold % s) -ℤ pos (8 * s) ≡ clamp4 (shrZ v s) *ℤ pos s
-  unfolding held
+  part-high : ltZ sum (pos 0) ≡ false → ltZ (pos (16 * s - 1)) sum ≡ true → pos (clamped - clamped % s) -ℤ pos (8 * s) ≡ clamp4 (shrZ v s) *ℤ pos s
+  unfolding clampWithin
   part-high e f =
       let l = diff-lt (diff-pos (16 * s - 1)) (diff-add (diff-of v) (diff-pos (8 * s))) f in
       let g = floor-high v s p (omega arith) in
-      let c : clamp4 (shrZ v s) ≡ pos 7 = clamp4-high (shrZ v s) (g .0) (g .1) in
+      let c : clamp4 (shrZ v s) ≡ pos 7 = clamp-high 7 (shrZ v s) (g .0) (g .1) in
       let m : 16 * s - 1 ≡ 15 * s + (s - 1) = omega arith in
       let r : (16 * s - 1) % s ≡ s - 1 = ap (λ (n : ℕ). n % s) m ∙ mul-add-mod-self-right 15 s (s - 1) ∙ mod-eq-of-lt (omega arith) in
       rw (e, f, c) (diff-eq (diff-sub (diff-pos ((16 * s - 1) - (16 * s - 1) % s)) (diff-pos (8 * s))) (diff-pos (7 * s)) (omega (arith, r)))
 
-  part-mid : ltZ sum (pos 0) ≡ false → ltZ (pos (16 * s - 1)) sum ≡ false → pos (hold - hold % s) -ℤ pos (8 * s) ≡ clamp4 (shrZ v s) *ℤ pos s
-  unfolding held
+  part-mid : ltZ sum (pos 0) ≡ false → ltZ (pos (16 * s - 1)) sum ≡ false → pos (clamped - clamped % s) -ℤ pos (8 * s) ≡ clamp4 (shrZ v s) *ℤ pos s
+  unfolding clampWithin
   part-mid e f =
       let t = natAbs sum in
       let w : sum ≡ pos t = not-below-zero sum e in
@@ -140,13 +144,13 @@ module _ (v : ℤ) (s : ℕ) (p : 0 < s) where
       let nt = diff-same (diff-times (diff-of n) s) ns in
       let u : shrZ v s ≡ n = floor-unique v s p n (t % s) r (diff-move (diff-of v) (omega arith)) in
       let small : t / s < 16 = lt-of-mul-lt-mul-right s (omega arith) in
-      let c : clamp4 (shrZ v s) ≡ n = clamp4-mid (shrZ v s) (rw u (le-diff nd (diff-of (negsuc 7)) (omega arith))) (rw u (le-diff (diff-pos 7) nd (omega arith))) ∙ u in
+      let c : clamp4 (shrZ v s) ≡ n = clamp-mid 7 (shrZ v s) (rw u (le-diff nd (diff-of (negsuc 7)) (omega arith))) (rw u (le-diff (diff-pos 7) nd (omega arith))) ∙ u in
       rw (e, f, c) (diff-eq (diff-sub (diff-pos (t - t % s)) (diff-pos (8 * s))) ns (omega arith))
 
-  pub part-is : pos (hold - hold % s) -ℤ pos (8 * s) ≡ clamp4 (shrZ v s) *ℤ pos s
+  pub part-is : pos (clamped - clamped % s) -ℤ pos (8 * s) ≡ clamp4 (shrZ v s) *ℤ pos s
   part-is = go (ltZ sum (pos 0)) (ltZ (pos (16 * s - 1)) sum) refl refl
     where
-      go : (a b : Bool) → ltZ sum (pos 0) ≡ a → ltZ (pos (16 * s - 1)) sum ≡ b → pos (hold - hold % s) -ℤ pos (8 * s) ≡ clamp4 (shrZ v s) *ℤ pos s
+      go : (a b : Bool) → ltZ sum (pos 0) ≡ a → ltZ (pos (16 * s - 1)) sum ≡ b → pos (clamped - clamped % s) -ℤ pos (8 * s) ≡ clamp4 (shrZ v s) *ℤ pos s
       go true b e f = part-low e
       go false true e f = part-high e f
       go false false e f = part-mid e f
@@ -173,11 +177,11 @@ excess-is z = go z (ltZ z (negsuc 7)) (ltZ (pos 7) z) refl refl
 
 -- ---- to the nearest, without the rounding to 24 bits
 
-pub finer-down : (d : ℤ) (s : ℕ) → 0 < s → shrZ (finer d (pos s)) s ≡ signed d (nearestDown (natAbs d) (2048 * s))
+pub finer-down : (d : ℤ) (s : ℕ) → 0 < s → shrZ (finer d (pos s)) s ≡ withSign d (nearestDown (natAbs d) (2048 * s))
 unfolding finer
 finer-down d s p = go (ltZ (pos 0) d) refl
   where
-    go : (t : Bool) → ltZ (pos 0) d ≡ t → shrZ (cond t (shrZ (d +ℤ pos (1024 * s) -ℤ pos 1) 2048) (shrZ (d +ℤ pos (1024 * s)) 2048)) s ≡ signed d (nearestDown (natAbs d) (2048 * s))
+    go : (t : Bool) → ltZ (pos 0) d ≡ t → shrZ (cond t (shrZ (d +ℤ pos (1024 * s) -ℤ pos 1) 2048) (shrZ (d +ℤ pos (1024 * s)) 2048)) s ≡ withSign d (nearestDown (natAbs d) (2048 * s))
     go true e = shr-twice (d +ℤ pos (1024 * s) -ℤ pos 1) 2048 s ∙ down-pos d (2048 * s) (1024 * s) (omega arith) (omega arith) e
     go false e = shr-twice (d +ℤ pos (1024 * s)) 2048 s ∙ down-neg d (2048 * s) (1024 * s) (omega arith) (omega arith) e
 
@@ -204,7 +208,7 @@ shr-size : (z : ℤ) (n : ℕ) → natAbs z ≤ 2048 * n → natAbs (shrZ z 2048
 shr-size (pos a) n h = omega arith
 shr-size (negsuc a) n h = omega arith
 
-pub finer-size : (d u : ℤ) → Unit u → natAbs d ≤ 2080374784 → natAbs (finer d u) ≤ 2097152
+pub finer-size : (d u : ℤ) → PowerOfTwo u → natAbs d ≤ 2080374784 → natAbs (finer d u) ≤ 2097152
 finer-size d u h l =
     let s = natAbs u in
     let k = unit-size u h in
@@ -246,7 +250,7 @@ near-same v w s c p e l f g =
     let nn : ltZ z (pos 0) ≡ false = le-diff zd (diff-pos 0) (omega arith) in
     let za : Diff z a 0 = subst (λ (y : ℤ). Diff y a 0) (sym (not-below-zero z nn)) (diff-pos a) in
     let k = diff-same zd za in
-    let r = ltb-false (a % s) 2 f in
+    let r = ltb-false (a % s) _ f in
     let m : a % s < s = mod-lt a p in
     let q = div-add-mod' a s in
     let n = pos (a / s) -ℤ pos c in
@@ -278,11 +282,12 @@ shr-close y z h =
     abs-diff (diff-sub (diff-of (shrZ y 2048)) (diff-of (shrZ z 2048))) 1 (omega arith) (omega arith)
 
 -- d rounded keeps its sign and moves by at most 256
-raw-close : (d : ℤ) (s m : ℕ) → 256 < natAbs d → natAbs d ≤ m + 256 → m ≤ natAbs d + 256 → natAbs (raw (signed d m) s -ℤ raw d s) ≤ 256
+raw-close : (d : ℤ) (s m : ℕ) → 256 < natAbs d → natAbs d ≤ m + 256 → m ≤ natAbs d + 256 → natAbs (raw (withSign d m) s -ℤ raw d s) ≤ 256
 raw-close (pos k) s m p g h =
     let a : ltZ (pos 0) (pos k) ≡ true = lt-ltb 0 k (omega arith) in
     let b : ltZ (pos 0) (pos m) ≡ true = lt-ltb 0 m (omega arith) in
-    rw (a, b) (abs-diff (diff-sub (diff-sub (diff-add (diff-pos m) (diff-pos (1024 * s))) (diff-pos 1)) (diff-sub (diff-add (diff-pos k) (diff-pos (1024 * s))) (diff-pos 1))) 256 (omega arith) (omega arith))
+    rw (a, b) (abs-diff (diff-sub (diff-sub (diff-add (diff-pos m) (diff-pos (1024 * s))) (diff-pos 1)) (diff-sub (diff-add (diff-pos k) (diff-pos (1024 * s))) (diff-pos 1))) 256
+    (omega arith) (omega arith))
 raw-close (negsuc k) s m p g h =
     let b : ltZ (pos 0) (negℤ (pos m)) ≡ false = le-diff (diff-pos 0) (diff-neg (diff-pos m)) (omega arith) in
     rw b (abs-diff (diff-sub (diff-add (diff-neg (diff-pos m)) (diff-pos (1024 * s))) (diff-add (diff-of (negsuc k)) (diff-pos (1024 * s)))) 256 (omega arith) (omega arith))
@@ -293,26 +298,27 @@ divides p h = let e : p + (21 - p) ≡ 21 = omega arith in sym (pow-add 2 p (21 
 
 -- where the lane is sure, what is clamped to a nibble is v over u, rounded down
 module _ (d : ℤ) (p : ℕ) (h : p ≤ 12) (l : natAbs d ≤ 2080374784) where
-  small-is : isBig d ≡ false → quantised d p ≡ shrZ (finer d (pos (2 ^ p))) (2 ^ p)
-  unfolding quantised
-  small-is e = ap (λ (m : ℕ). signed d (nearestDown m (2048 * 2 ^ p))) (sym (round-same (natAbs d) (big-false d e))) ∙ sym (finer-down d (2 ^ p) (pow-pos p))
+  small-is : isBig d ≡ false → quantise d p ≡ shrZ (finer d (pos (2 ^ p))) (2 ^ p)
+  unfolding quantise
+  small-is e = ap (λ (m : ℕ). withSign d (nearestDown m (2048 * 2 ^ p))) (sym (round-same (natAbs d) (big-false d e))) ∙ sym (finer-down d (2 ^ p) (pow-pos p))
 
-  far-is : 256 < natAbs d → isNear (finer d (pos (2 ^ p))) (pos (2 ^ p)) ≡ false → quantised d p ≡ shrZ (finer d (pos (2 ^ p))) (2 ^ p)
-  unfolding quantised
+  far-is : 256 < natAbs d → isNear (finer d (pos (2 ^ p))) (pos (2 ^ p)) ≡ false → quantise d p ≡ shrZ (finer d (pos (2 ^ p))) (2 ^ p)
+  unfolding quantise
   far-is b e =
       let m = round24 (natAbs d) in
       let s = 2 ^ p in
-      let r = signed d m in
-      let c : natAbs (finer r (pos s) -ℤ finer d (pos s)) ≤ 1 = rw (finer-raw r s, finer-raw d s) (shr-close (raw r s) (raw d s) (raw-close d s m b (round24-ge (natAbs d) (omega arith)) (round24-le (natAbs d) (omega arith)))) in
-      sym (signed-twice d m (2048 * s) (omega (arith, pow-pos p)))
-      ∙ ap (λ (n : ℕ). signed r (nearestDown n (2048 * s))) (sym (signed-size d m))
+      let r = withSign d m in
+      let c : natAbs (finer r (pos s) -ℤ finer d (pos s)) ≤ 1 =
+      rw (finer-raw r s, finer-raw d s) (shr-close (raw r s) (raw d s) (raw-close d s m b (round24-ge (natAbs d) (omega arith)) (round24-le (natAbs d) (omega arith)))) in
+      sym (sign-twice d m (2048 * s) (omega (arith, pow-pos p)))
+      ∙ ap (λ (n : ℕ). withSign r (nearestDown n (2048 * s))) (sym (sign-size d m))
       ∙ sym (finer-down r s (pow-pos p))
       ∙ near-same (finer d (pos s)) (finer r (pos s)) s (2 ^ (21 - p)) (pow-pos p) (divides p h) (finer-size d (pos s) (record { p = p; most = h; is = refl }) l) e c
 
-  pub sure-is : (isBig d && isNear (finer d (pos (2 ^ p))) (pos (2 ^ p))) ≡ false → quantised d p ≡ shrZ (finer d (pos (2 ^ p))) (2 ^ p)
+  pub sure-is : (isBig d && isNear (finer d (pos (2 ^ p))) (pos (2 ^ p))) ≡ false → quantise d p ≡ shrZ (finer d (pos (2 ^ p))) (2 ^ p)
   sure-is e = go (isBig d) refl e
     where
-      go : (t : Bool) → isBig d ≡ t → (t && isNear (finer d (pos (2 ^ p))) (pos (2 ^ p))) ≡ false → quantised d p ≡ shrZ (finer d (pos (2 ^ p))) (2 ^ p)
+      go : (t : Bool) → isBig d ≡ t → (t && isNear (finer d (pos (2 ^ p))) (pos (2 ^ p))) ≡ false → quantise d p ≡ shrZ (finer d (pos (2 ^ p))) (2 ^ p)
       go true b f = far-is (big-true d b) f
       go false b f = small-is b
 
@@ -333,10 +339,7 @@ pub apart-above : (x y : ℤ) → ltZ x y ≡ false → x -ℤ y ≡ pos (natAbs
 apart-above x y e = not-below-zero (x -ℤ y) (le-diff (diff-sub (diff-of x) (diff-of y)) (diff-pos 0) (let l = diff-le (diff-of x) (diff-of y) e in omega arith))
 
 pub mag-below : (v : ℤ) → ltZ v (pos 0) ≡ true → negsuc 0 -ℤ v ≡ pos (mag v)
-mag-below (pos n) e = absurd (never n (ltb-true n 0 e))
-  where
-    never : (n : ℕ) → n < 0 → ⊥
-    never n h = omega arith
+mag-below (pos n) e = absurd (none-below n (ltb-true n 0 e))
 mag-below (negsuc n) e = diff-eq (diff-sub (diff-of (negsuc 0)) (diff-of (negsuc n))) (diff-pos n) (omega arith)
 
 pub mag-above : (v : ℤ) → ltZ v (pos 0) ≡ false → v ≡ pos (mag v)
@@ -346,22 +349,22 @@ mag-above (negsuc n) e = absurd (subst T e tt)
 -- 16-bit samples are less than 65536 apart
 pub apart-16 : (x y : ℤ) → SFits w16 x → SFits w16 y → natAbs (x -ℤ y) ≤ 65535
 apart-16 x y f g =
-    let a = ends x f in
-    let b = ends y g in
+    let a = isLast x f in
+    let b = isLast y g in
     abs-diff (diff-sub (diff-of x) (diff-of y)) 65535 (omega arith) (omega arith)
   where
-    ends : (z : ℤ) → SFits w16 z → (over z ≤ under z + 32767) × (under z ≤ over z + 32768)
-    ends (pos m) f = let h = f .sfits in (omega arith, omega arith)
-    ends (negsuc m) f = let h = f .sfits in (omega arith, omega arith)
+    isLast : (z : ℤ) → SFits w16 z → (over z ≤ under z + 32767) × (under z ≤ over z + 32768)
+    isLast (pos m) f = let h = f .sfits in (omega arith, omega arith)
+    isLast (negsuc m) f = let h = f .sfits in (omega arith, omega arith)
 
 pub non-negative : (z : ℤ) → T (nonNeg z) → z ≡ pos (natAbs z)
 non-negative (pos n) t = refl
 non-negative (negsuc n) t = absurd t
 
 -- what a pair weighs
-pub weighted-le : (c0 c1 s0 s1 : ℤ) → Bounded c0 c1 → natAbs s0 ≤ 32768 → natAbs s1 ≤ 32768 → natAbs (weighted c0 c1 s0 s1) ≤ 2013265920
-unfolding weighted
-weighted-le c0 c1 s0 s1 l f g =
+pub weigh-le : (c0 c1 s0 s1 : ℤ) → Bounded c0 c1 → natAbs s0 ≤ 32768 → natAbs s1 ≤ 32768 → natAbs (weigh c0 c1 s0 s1) ≤ 2013265920
+unfolding weigh
+weigh-le c0 c1 s0 s1 l f g =
     let a : natAbs c0 * natAbs s0 ≤ natAbs c0 * 32768 = mul-le-mul (le-refl (natAbs c0)) f in
     let b : natAbs c1 * natAbs s1 ≤ natAbs c1 * 32768 = mul-le-mul (le-refl (natAbs c1)) g in
     omega (arith, abs-add (c0 *ℤ s0) (c1 *ℤ s1), abs-mul c0 s0, abs-mul c1 s1, l .sum)
@@ -370,9 +373,9 @@ weighted-le c0 c1 s0 s1 l f g =
 pub lifted : (v : ℤ) → natAbs v ≤ 2097152 → v +ℤ pos 2097153 ≡ pos (natAbs (v +ℤ pos 2097153))
 lifted v l = let b = diff-abs (diff-of v) in not-below-zero (v +ℤ pos 2097153) (le-diff (diff-add (diff-of v) (diff-pos 2097153)) (diff-pos 0) (omega arith))
 
-pub held-le : (x : ℤ) (m : ℕ) → held x (pos m) ≤ m
-unfolding held
-held-le x m = go (ltZ x (pos 0)) (ltZ (pos m) x) refl refl
+pub clamp-within-le : (x : ℤ) (m : ℕ) → clampWithin x (pos m) ≤ m
+unfolding clampWithin
+clamp-within-le x m = go (ltZ x (pos 0)) (ltZ (pos m) x) refl refl
   where
     go : (a b : Bool) → ltZ x (pos 0) ≡ a → ltZ (pos m) x ≡ b → cond a 0 (cond b m (natAbs x)) ≤ m
     go true b e f = omega arith
@@ -383,20 +386,21 @@ held-le x m = go (ltZ x (pos 0)) (ltZ (pos m) x) refl refl
         abs-diff (diff-of x) m (omega arith) (omega arith)
 
 -- 16 u − 1
-pub most-is : (u : ℤ) (h : Unit u) → pos 16 *ℤ u -ℤ pos 1 ≡ pos (16 * 2 ^ (h .p) - 1)
+pub most-is : (u : ℤ) (h : PowerOfTwo u) → pos 16 *ℤ u -ℤ pos 1 ≡ pos (16 * 2 ^ (h .p) - 1)
 most-is u h =
     ap (λ (z : ℤ). pos 16 *ℤ z -ℤ pos 1) (h .is)
     ∙ diff-eq (diff-sub (diff-pos (16 * 2 ^ (h .p))) (diff-pos 1)) (diff-pos (16 * 2 ^ (h .p) - 1)) (omega (arith, pow-pos (h .p)))
 
-pub part-of : (v u : ℤ) (h : Unit u) (t l : ℕ) → t ≡ held (v +ℤ pos 8 *ℤ u) (pos 16 *ℤ u -ℤ pos 1) → l ≡ t % 2 ^ (h .p) → pos (t - l) -ℤ pos 8 *ℤ u ≡ clamp4 (floored v (natAbs u)) *ℤ u
+pub part-of : (v u : ℤ) (h : PowerOfTwo u) (t l : ℕ) → t ≡ clampWithin (v +ℤ pos 8 *ℤ u) (pos 16 *ℤ u -ℤ pos 1) → l ≡ t % 2 ^ (h .p) → pos (t - l) -ℤ pos 8 *ℤ u ≡ clamp4 (floored v (natAbs u)) *ℤ u
 part-of v u h t l e f =
     let s = 2 ^ (h .p) in
-    let g : t ≡ held (v +ℤ pos (8 * s)) (pos (16 * s - 1)) = e ∙ ap₂ held (ap (λ (z : ℤ). v +ℤ pos 8 *ℤ z) (h .is)) (most-is u h) in
-    let r : pos (t - l) -ℤ pos (8 * s) ≡ clamp4 (floored v s) *ℤ pos s = ap (λ (n : ℕ). pos (t - n) -ℤ pos (8 * s)) f ∙ ap (λ (n : ℕ). pos (n - n % s) -ℤ pos (8 * s)) g ∙ part-is v s (pow-pos (h .p)) in
+    let g : t ≡ clampWithin (v +ℤ pos (8 * s)) (pos (16 * s - 1)) = e ∙ ap₂ clampWithin (ap (λ (z : ℤ). v +ℤ pos 8 *ℤ z) (h .is)) (most-is u h) in
+    let r : pos (t - l) -ℤ pos (8 * s) ≡ clamp4 (floored v s) *ℤ pos s = ap (λ (n : ℕ). pos (t - n) -ℤ pos (8 * s)) f ∙ ap (λ (n : ℕ). pos (n - n % s) -ℤ pos (8 * s)) g
+    ∙ part-is v s (pow-pos (h .p)) in
     ap (λ (z : ℤ). pos (t - l) -ℤ pos 8 *ℤ z) (h .is) ∙ r ∙ ap (λ (z : ℤ). clamp4 (floored v (natAbs z)) *ℤ z) (sym (h .is))
 
 -- the nibble's part is small
-pub part-size : (v u : ℤ) → Unit u → natAbs (clamp4 (floored v (natAbs u)) *ℤ u) ≤ 32768
+pub part-size : (v u : ℤ) → PowerOfTwo u → natAbs (clamp4 (floored v (natAbs u)) *ℤ u) ≤ 32768
 part-size v u h =
     let c = clamp4-size (floored v (natAbs u)) in
     let m : natAbs (clamp4 (floored v (natAbs u))) * natAbs u ≤ 8 * 4096 = mul-le-mul c (unit-size u h) in

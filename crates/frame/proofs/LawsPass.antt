@@ -16,17 +16,19 @@ use mir.Syntax.{w16}
 use mir.Val.{SFits}
 use Rattle.whole.specs.Whole.{clamp16, floored}
 use Rattle.whole.proofs.Values.{abs-add, abs-sub, abs-mul, abs-sfits}
-use Rattle.whole.proofs.Differences.{Diff, diff-of, diff-pos, diff-add, diff-times, diff-same, diff-eq, over, under, left, floor-law}
-use Rattle.whole.proofs.Laws.{clamp-fits}
-use Rattle.frame.specs.declared.History.{History}
+use Rattle.whole.proofs.FloorDivision.{floor-scaled}
+use Rattle.whole.proofs.Clamping.{clamp-fits, clamp-low, clamp-high, clamp-mid}
+use Rattle.whole.specs.declared.History.{History}
 use Rattle.frame.specs.declared.pass.Step.{Step}
 use Rattle.frame.specs.declared.pass.Pass.{Pass}
-use Rattle.frame.specs.Estimate.{weighted}
-use Rattle.frame.specs.Quantise.{scale, quantised, clamp4}
-use Rattle.frame.specs.Pass.{Bounded, residual, reconstruct, stepOf, squareOf, Run, next, upto, passOf}
-use Rattle.frame.specs.Frame.{InNibble, up, down, preceded, historyAfter}
-use Rattle.frame.proofs.LawsArrays.{Fit}
-use Rattle.frame.proofs.LawsQuantise.{quantised-size, quantised-12, clamp4-size, clamp4-excess, clamp4-low, clamp4-high, clamp4-mid}
+use Rattle.frame.specs.Estimate.{weigh}
+use Rattle.frame.specs.Quantise.{scale, quantise, clamp4}
+use Rattle.frame.specs.Pass.{Bounded, residual, reconstruct, codeSample, squaredDifference, Carried, next, upto, runPass}
+use Rattle.frame.specs.Frame.{preceded, historyAfter}
+use Rattle.frame.specs.inner.Nibbles.{InNibble, up, down}
+use Rattle.frame.specs.Fits.{Fit, FitHistory}
+use Rattle.frame.proofs.LawsOrder.{none-below}
+use Rattle.frame.proofs.LawsQuantise.{quantise-size, quantise-12, clamp4-size, clamp4-excess}
 
 -- ---- sizes
 
@@ -37,76 +39,63 @@ both a b s t h p q =
     let y : b * t ≤ b * 32768 = mul-le-mul (le-refl b) q in
     omega arith
 
-pub weighted-size : (c0 c1 s0 s1 : ℤ) → Bounded c0 c1 → SFits w16 s0 → SFits w16 s1 → natAbs (weighted c0 c1 s0 s1) ≤ 2013265920
-unfolding weighted
-weighted-size c0 c1 s0 s1 l f g =
+pub weigh-size : (c0 c1 s0 s1 : ℤ) → Bounded c0 c1 → SFits w16 s0 → SFits w16 s1 → natAbs (weigh c0 c1 s0 s1) ≤ 2013265920
+unfolding weigh
+weigh-size c0 c1 s0 s1 l f g =
     omega (arith, abs-add (c0 *ℤ s0) (c1 *ℤ s1), abs-mul c0 s0, abs-mul c1 s1, both (natAbs c0) (natAbs c1) (natAbs s0) (natAbs s1) (l .sum) (abs-sfits f) (abs-sfits g))
 
 pub residual-size : (c0 c1 s0 s1 x : ℤ) → Bounded c0 c1 → SFits w16 s0 → SFits w16 s1 → SFits w16 x → natAbs (residual c0 c1 s0 s1 x) ≤ 2080374784
 unfolding residual
 residual-size c0 c1 s0 s1 x l f g h =
     let m : 2048 * natAbs x ≤ 2048 * 32768 = mul-le-mul (le-refl 2048) (abs-sfits h) in
-    omega (arith, abs-sub (pos 2048 *ℤ x) (weighted c0 c1 s0 s1), abs-mul (pos 2048) x, weighted-size c0 c1 s0 s1 l f g)
+    omega (arith, abs-sub (pos 2048 *ℤ x) (weigh c0 c1 s0 s1), abs-mul (pos 2048) x, weigh-size c0 c1 s0 s1 l f g)
 
-pub step-fits : (c0 c1 s0 s1 x : ℤ) (p : ℕ) → SFits w16 (stepOf c0 c1 s0 s1 x p .sample)
-unfolding stepOf reconstruct
-step-fits c0 c1 s0 s1 x p = clamp-fits (floored (weighted c0 c1 s0 s1 +ℤ clamp4 (quantised (residual c0 c1 s0 s1 x) p) *ℤ pos (scale p) +ℤ pos 1024) 2048)
+pub step-fits : (c0 c1 s0 s1 x : ℤ) (p : ℕ) → SFits w16 (codeSample c0 c1 s0 s1 x p .sample)
+unfolding codeSample reconstruct
+step-fits c0 c1 s0 s1 x p = clamp-fits (floored (weigh c0 c1 s0 s1 +ℤ clamp4 (quantise (residual c0 c1 s0 s1 x) p) *ℤ pos (scale p) +ℤ pos 1024) 2048)
 
-pub step-overflow : (c0 c1 s0 s1 x : ℤ) (p : ℕ) → Bounded c0 c1 → SFits w16 s0 → SFits w16 s1 → SFits w16 x → stepOf c0 c1 s0 s1 x p .overflow ≤ 2080375049
-unfolding stepOf
+pub step-overflow : (c0 c1 s0 s1 x : ℤ) (p : ℕ) → Bounded c0 c1 → SFits w16 s0 → SFits w16 s1 → SFits w16 x → codeSample c0 c1 s0 s1 x p .overflow ≤ 2080375049
+unfolding codeSample
 step-overflow c0 c1 s0 s1 x p l f g h =
-    let u = quantised (residual c0 c1 s0 s1 x) p in
+    let u = quantise (residual c0 c1 s0 s1 x) p in
     let r = residual-size c0 c1 s0 s1 x l f g h in
-    omega (arith, abs-sub u (clamp4 u), clamp4-size u, quantised-size (residual c0 c1 s0 s1 x) p (omega arith))
+    omega (arith, abs-sub u (clamp4 u), clamp4-size u, quantise-size (residual c0 c1 s0 s1 x) p (omega arith))
 
-pub square-le : {x y : ℤ} → SFits w16 x → SFits w16 y → squareOf x y ≤ 4294967296
-unfolding squareOf
-square-le {x} {y} f g =
+pub squared-le : {x y : ℤ} → SFits w16 x → SFits w16 y → squaredDifference x y ≤ 4294967296
+unfolding squaredDifference
+squared-le {x} {y} f g =
     let h : natAbs (x -ℤ y) ≤ 65536 = omega (arith, abs-sub x y, abs-sfits f, abs-sfits g) in
     mul-le-mul h h
 
 -- ---- playing gives what encoding reconstructed
 
--- (a + n × S' + 1024) >> 11 is ((a + 1024) >> 11) + n × 2^p
-pub shift-apart : (a n : ℤ) (w : ℕ) → floored (a +ℤ n *ℤ pos (2048 * w) +ℤ pos 1024) 2048 ≡ floored (a +ℤ pos 1024) 2048 +ℤ n *ℤ pos w
-shift-apart a n w =
-    let y = a +ℤ n *ℤ pos (2048 * w) +ℤ pos 1024 in
-    let z = a +ℤ pos 1024 in
-    let ly = floor-law y 2048 (omega arith) in
-    let lz = floor-law z 2048 (omega arith) in
-    let y1 : Diff y (over a + over n * (2048 * w) + 1024) (under a + under n * (2048 * w) + 0) = diff-add (diff-add (diff-of a) (diff-times (diff-of n) (2048 * w))) (diff-pos 1024) in
-    let y2 : Diff y (over (floored y 2048) * 2048 + left y 2048) (under (floored y 2048) * 2048 + 0) = subst (λ (v : ℤ). Diff v (over (floored y 2048) * 2048 + left y 2048) (under (floored y 2048) * 2048 + 0)) (sym (ly .0)) (diff-add (diff-times (diff-of (floored y 2048)) 2048) (diff-pos (left y 2048))) in
-    let z1 : Diff z (over a + 1024) (under a + 0) = diff-add (diff-of a) (diff-pos 1024) in
-    let z2 : Diff z (over (floored z 2048) * 2048 + left z 2048) (under (floored z 2048) * 2048 + 0) = subst (λ (v : ℤ). Diff v (over (floored z 2048) * 2048 + left z 2048) (under (floored z 2048) * 2048 + 0)) (sym (lz .0)) (diff-add (diff-times (diff-of (floored z 2048)) 2048) (diff-pos (left z 2048))) in
-    let ey = diff-same y1 y2 in
-    let ez = diff-same z1 z2 in
-    let ry = ly .1 in
-    let rz = lz .1 in
-    diff-eq (diff-of (floored y 2048)) (diff-add (diff-of (floored z 2048)) (diff-times (diff-of n) w)) (omega arith)
-
 -- "clamp(((c0 × s0 + c1 × s1 + 1024) >> 11) + nibble × scale)", for scale 2^p
-pub reconstruct-played : (c0 c1 s0 s1 n : ℤ) (p : ℕ) → reconstruct c0 c1 s0 s1 n p ≡ clamp16 (floored (weighted c0 c1 s0 s1 +ℤ pos 1024) 2048 +ℤ n *ℤ pos (2 ^ p))
+pub reconstruct-played : (c0 c1 s0 s1 n : ℤ) (p : ℕ) → reconstruct c0 c1 s0 s1 n p ≡ clamp16 (floored (weigh c0 c1 s0 s1 +ℤ pos 1024) 2048 +ℤ n *ℤ pos (2 ^ p))
 unfolding reconstruct
-reconstruct-played c0 c1 s0 s1 n p = ap clamp16 (shift-apart (weighted c0 c1 s0 s1) n (2 ^ p))
+reconstruct-played c0 c1 s0 s1 n p = ap clamp16 (floor-scaled (weigh c0 c1 s0 s1) n (2 ^ p))
 
 -- ---- the loop's step
 
-abbrev pub run : ℤ → ℤ → List ℤ → List ℤ → ℕ → ℕ → Run
-run a b ns ss o d = record { s0 = a; s1 = b; nibbles = ns; samples = ss; overflow = o; distance = d }
+-- what is carried, by its fields
+abbrev pub carried : ℤ → ℤ → List ℤ → List ℤ → ℕ → ℕ → Carried
+carried a b ns ss o d = record { s0 = a; s1 = b; nibbles = ns; samples = ss; overflow = o; distance = d }
 
-pub run-more : (c0 c1 : ℤ) (h : History) (xs : List ℤ) (p i : ℕ) (a b : ℤ) (ns ss : List ℤ) (o d : ℕ) (t : Step) → i < length ns → i < length ss → upto c0 c1 h xs p i ≡ run a b (take i ns) (take i ss) o d → t ≡ stepOf c0 c1 a b (getD xs i (pos 0)) p
-    → upto c0 c1 h xs p (i + 1) ≡ run (t .sample) a (take (i + 1) (set ns i (t .nibble))) (take (i + 1) (set ss i (t .sample))) (max o (t .overflow)) (d + squareOf (getD xs i (pos 0)) (t .sample))
+pub carried-more : (c0 c1 : ℤ) (h : History) (xs : List ℤ) (p i : ℕ) (a b : ℤ) (ns ss : List ℤ) (o d : ℕ) (t : Step) → i < length ns → i < length ss
+    → upto c0 c1 h xs p i ≡ carried a b (take i ns) (take i ss) o d → t ≡ codeSample c0 c1 a b (getD xs i (pos 0)) p
+    → upto c0 c1 h xs p (i + 1) ≡ carried (t .sample) a (take (i + 1) (set ns i (t .nibble))) (take (i + 1) (set ss i (t .sample))) (max o (t .overflow))
+    (d + squaredDifference (getD xs i (pos 0)) (t .sample))
 unfolding upto next
-run-more c0 c1 h xs p i a b ns ss o d t hn hs e s =
-    rw (add-one, take-suc-set ns i, take-suc-set ss i) (ap (λ (u : Run). next c0 c1 p u (getD xs i (pos 0))) e ∙ rw (← s))
+carried-more c0 c1 h xs p i a b ns ss o d t hn hs e s =
+    rw (add-one, take-suc-set ns i, take-suc-set ss i) (ap (λ (u : Carried). next c0 c1 p u (getD xs i (pos 0))) e ∙ rw (← s))
 
-pub run-done : (c0 c1 : ℤ) (h : History) (xs : List ℤ) (p i : ℕ) (a b : ℤ) (ns ss : List ℤ) (o d : ℕ) → i ≡ 14 → length ns ≡ 14 → length ss ≡ 14 → upto c0 c1 h xs p i ≡ run a b (take i ns) (take i ss) o d
-    → _≡_ {A = Pass} (record { nibbles = ns; samples = ss; overflow = o; distance = d }) (passOf c0 c1 h xs p)
-unfolding passOf
-run-done c0 c1 h xs p i a b ns ss o d e ln ls inv =
+pub carried-done : (c0 c1 : ℤ) (h : History) (xs : List ℤ) (p i : ℕ) (a b : ℤ) (ns ss : List ℤ) (o d : ℕ) → i ≡ 14 → length ns ≡ 14 → length ss ≡ 14
+    → upto c0 c1 h xs p i ≡ carried a b (take i ns) (take i ss) o d
+    → _≡_ {A = Pass} (record { nibbles = ns; samples = ss; overflow = o; distance = d }) (runPass c0 c1 h xs p)
+unfolding runPass
+carried-done c0 c1 h xs p i a b ns ss o d e ln ls inv =
     let tn : take 14 ns ≡ ns = take-all 14 ns (le-of-eq ln) in
     let ts : take 14 ss ≡ ss = take-all 14 ss (le-of-eq ls) in
-    let q : upto c0 c1 h xs p 14 ≡ run a b ns ss o d = rw (e, tn, ts) at inv in
+    let q : upto c0 c1 h xs p 14 ≡ carried a b ns ss o d = rw (e, tn, ts) at inv in
     rw q
 
 -- ---- a list that grows by one element a place
@@ -116,10 +105,7 @@ module _ (l : ℕ → List ℤ) (v : ℕ → ℤ) (none : l 0 ≡ []) (more : (i
   grown-length (suc i) = ap length (more i) ∙ length-append (l i) (v i ∷ []) ∙ omega (arith, grown-length i)
 
   pub grown-at : (i j : ℕ) → j < i → getD (l i) j (pos 0) ≡ v j
-  grown-at zero j k = absurd (never j k)
-    where
-      never : (j : ℕ) → j < 0 → ⊥
-      never j k = omega arith
+  grown-at zero j k = absurd (none-below j k)
   grown-at (suc i) j k = ap (λ (ys : List ℤ). getD ys j (pos 0)) (more i) ∙ go (decLe i j) (grown-at i j)
     where
       go : Dec (i ≤ j) → (j < i → getD (l i) j (pos 0) ≡ v j) → getD (l i ++ (v i ∷ [])) j (pos 0) ≡ v j
@@ -128,20 +114,15 @@ module _ (l : ℕ → List ℤ) (v : ℕ → ℤ) (none : l 0 ≡ []) (more : (i
 
 -- ---- what holds at each place
 
--- a history of 16-bit samples
-pub record FitHistory (h : History) : Type 0 where
-  pub newest-fits : SFits w16 (h .newest)
-  pub older-fits : SFits w16 (h .older)
-
-pub step-overflow-12 : (c0 c1 s0 s1 x : ℤ) → Bounded c0 c1 → SFits w16 s0 → SFits w16 s1 → SFits w16 x → stepOf c0 c1 s0 s1 x 12 .overflow ≤ 248
-unfolding stepOf
+pub step-overflow-12 : (c0 c1 s0 s1 x : ℤ) → Bounded c0 c1 → SFits w16 s0 → SFits w16 s1 → SFits w16 x → codeSample c0 c1 s0 s1 x 12 .overflow ≤ 248
+unfolding codeSample
 step-overflow-12 c0 c1 s0 s1 x l f g h =
-    le-trans (clamp4-excess (quantised (residual c0 c1 s0 s1 x) 12)) (quantised-12 (residual c0 c1 s0 s1 x) (residual-size c0 c1 s0 s1 x l f g h))
+    le-trans (clamp4-excess (quantise (residual c0 c1 s0 s1 x) 12)) (quantise-12 (residual c0 c1 s0 s1 x) (residual-size c0 c1 s0 s1 x l f g h))
 
 module _ (c0 c1 : ℤ) (h : History) (xs : List ℤ) (p : ℕ) where
   -- the step of place i
   abbrev pub stepAt : ℕ → Step
-  stepAt i = stepOf c0 c1 (upto c0 c1 h xs p i .s0) (upto c0 c1 h xs p i .s1) (getD xs i (pos 0)) p
+  stepAt i = codeSample c0 c1 (upto c0 c1 h xs p i .s0) (upto c0 c1 h xs p i .s1) (getD xs i (pos 0)) p
 
   pub upto-fits : FitHistory h → (i : ℕ) → SFits w16 (upto c0 c1 h xs p i .s0) × SFits w16 (upto c0 c1 h xs p i .s1)
   unfolding upto next
@@ -156,10 +137,7 @@ module _ (c0 c1 : ℤ) (h : History) (xs : List ℤ) (p : ℕ) where
   -- each step's overflow is at most the pass's
   pub overflow-upto : (i j : ℕ) → j < i → stepAt j .overflow ≤ upto c0 c1 h xs p i .overflow
   unfolding upto next
-  overflow-upto zero j l = absurd (never j l)
-    where
-      never : (j : ℕ) → j < 0 → ⊥
-      never j l = omega arith
+  overflow-upto zero j l = absurd (none-below j l)
   overflow-upto (suc i) j l = go (decLe i j) (overflow-upto i j)
     where
       same : j ≡ i → stepAt j .overflow ≤ max (upto c0 c1 h xs p i .overflow) (stepAt i .overflow)
@@ -206,39 +184,41 @@ pub clamp4-nibble : (z : ℤ) → InNibble (clamp4 z)
 clamp4-nibble z = go (ltZ z (negsuc 7)) refl
   where
     high : (t : Bool) → ltZ (pos 7) z ≡ t → ltZ z (negsuc 7) ≡ false → InNibble (clamp4 z)
-    high true f e = subst InNibble (sym (clamp4-high z e f)) (up {n = 7} (omega arith))
-    high false f e = subst InNibble (sym (clamp4-mid z e f)) (mid-nibble z e f)
+    high true f e = subst InNibble (sym (clamp-high 7 z e f)) (up {n = 7} (omega arith))
+    high false f e = subst InNibble (sym (clamp-mid 7 z e f)) (mid-nibble z e f)
 
     go : (t : Bool) → ltZ z (negsuc 7) ≡ t → InNibble (clamp4 z)
-    go true e = subst InNibble (sym (clamp4-low z e)) (down {n = 7} (omega arith))
+    go true e = subst InNibble (sym (clamp-low 7 z e)) (down {n = 7} (omega arith))
     go false e = high (ltZ (pos 7) z) refl e
 
 module _ (c0 c1 : ℤ) (h : History) (xs : List ℤ) (p : ℕ) where
-  pub pass-lengths : (length (passOf c0 c1 h xs p .nibbles) ≡ 14) × (length (passOf c0 c1 h xs p .samples) ≡ 14)
-  unfolding passOf
+  pub pass-lengths : (length (runPass c0 c1 h xs p .nibbles) ≡ 14) × (length (runPass c0 c1 h xs p .samples) ≡ 14)
+  unfolding runPass
   pass-lengths = upto-lengths c0 c1 h xs p 14
 
-  pub pass-nibble : (i : ℕ) → i < 14 → InNibble (getD (passOf c0 c1 h xs p .nibbles) i (pos 0))
-  unfolding passOf stepOf
+  pub pass-nibble : (i : ℕ) → i < 14 → InNibble (getD (runPass c0 c1 h xs p .nibbles) i (pos 0))
+  unfolding runPass codeSample
   pass-nibble i l = subst InNibble (sym (upto-nibble c0 c1 h xs p 14 i l)) (clamp4-nibble _)
 
   -- what is reconstructed at each place, from the nibble there and the two samples before it
-  pub pass-sample : (i : ℕ) → i < 14 → getD (passOf c0 c1 h xs p .samples) i (pos 0) ≡ reconstruct c0 c1 (getD (preceded h (passOf c0 c1 h xs p .samples)) (suc i) (pos 0)) (getD (preceded h (passOf c0 c1 h xs p .samples)) i (pos 0)) (getD (passOf c0 c1 h xs p .nibbles) i (pos 0)) p
-  unfolding passOf stepOf
+  pub pass-sample : (i : ℕ) → i < 14 → getD (runPass c0 c1 h xs p .samples) i (pos 0)
+      ≡ reconstruct c0 c1 (getD (preceded h (runPass c0 c1 h xs p .samples)) (suc i) (pos 0)) (getD (preceded h (runPass c0 c1 h xs p .samples)) i (pos 0))
+      (getD (runPass c0 c1 h xs p .nibbles) i (pos 0)) p
+  unfolding runPass codeSample
   pass-sample i l =
       rw (upto-newest c0 c1 h xs p 14 i (omega arith), upto-older c0 c1 h xs p 14 i (omega arith), upto-nibble c0 c1 h xs p 14 i l)
       (upto-sample c0 c1 h xs p 14 i l)
 
-  pub pass-fits : (i : ℕ) → i < 14 → SFits w16 (getD (passOf c0 c1 h xs p .samples) i (pos 0))
-  unfolding passOf
+  pub pass-fits : (i : ℕ) → i < 14 → SFits w16 (getD (runPass c0 c1 h xs p .samples) i (pos 0))
+  unfolding runPass
   pass-fits i l = subst (λ (z : ℤ). SFits w16 z) (sym (upto-sample c0 c1 h xs p 14 i l)) (step-fits c0 c1 (upto c0 c1 h xs p i .s0) (upto c0 c1 h xs p i .s1) (getD xs i (pos 0)) p)
 
 module _ (c0 c1 : ℤ) (h : History) (xs : List ℤ) (b : Bounded c0 c1) (f : FitHistory h) (x : Fit 14 xs) where
-  pub overflow-le : (p : ℕ) → passOf c0 c1 h xs p .overflow ≤ 2080375049
-  unfolding passOf
+  pub overflow-le : (p : ℕ) → runPass c0 c1 h xs p .overflow ≤ 2080375049
+  unfolding runPass
   overflow-le p = upto-overflow c0 c1 h xs p 2080375049 14 (λ j l. let u = upto-fits c0 c1 h xs p f j in step-overflow c0 c1 _ _ _ p b (u .0) (u .1) (x .at j l))
 
   -- "at p = 12 the overflow is at most 248"
-  pub overflow-12 : passOf c0 c1 h xs 12 .overflow ≤ 248
-  unfolding passOf
+  pub overflow-12 : runPass c0 c1 h xs 12 .overflow ≤ 248
+  unfolding runPass
   overflow-12 = upto-overflow c0 c1 h xs 12 248 14 (λ j l. let u = upto-fits c0 c1 h xs 12 f j in step-overflow-12 c0 c1 _ _ _ b (u .0) (u .1) (x .at j l))

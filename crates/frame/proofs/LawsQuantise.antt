@@ -2,7 +2,8 @@
 use mathlib.Core.Path.{_≡_, refl, sym, ap, ap₂, _∙_, subst}
 use mathlib.Core.Bool.{Bool, true, false, not, cond}
 use Prim.Native.Nat.{ℕ, zero, suc, _+_, _-_, _*_, _/_, _%_, _^_, _≤_, _<_, compare, Ordering, Ordering·lt, Ordering·eq, Ordering·gt}
-use native.Mathlib.Nat.{le-trans, le-refl, lt-of-le-of-lt, lt-of-lt-of-le, suc-mul, mul-le-mul-right, div-mul-le-self, div-le-self, pow-suc, mul-comm, one-mul, mod-eq-of-lt, mod-lt, mod-one, div-one, mul-one, div-add-mod', div-eq-of-lt-le, div-eq-of-lt, add-div-right, zero-mod, zero-div, lt-of-not-le, le-of-eq}
+use native.Mathlib.Nat.{le-trans, le-refl, lt-of-le-of-lt, lt-of-lt-of-le, suc-mul, mul-le-mul-right, div-mul-le-self, div-le-self, pow-suc, mul-comm, one-mul, mod-eq-of-lt}
+use native.Mathlib.Nat.{mod-lt, mod-one, div-one, mul-one, div-add-mod', div-eq-of-lt-le, div-eq-of-lt, add-div-right, zero-mod, zero-div, lt-of-not-le, le-of-eq}
 use native.Mathlib.Decide.{decLe}
 use native.Mathlib.Omega.{arith}
 use lib.Dec.{T, isLe, isEq, eqb, leb→le, nleb→lt, eqb→eq, eqb-refl, ltb, lit<}
@@ -15,9 +16,11 @@ use lib.Ieee.{size, nearest}
 use lib.Ieee.Fits.{nearest-le}
 use lib.Ieee.Digits.{size-lt, size-reaches, size-le}
 use lib.Ieee.Nearest.{closest}
+use Rattle.whole.proofs.Clamping.{clamp-low, clamp-high, clamp-mid, clamp-size}
 use Rattle.whole.proofs.Values.{abs-neg}
 use Rattle.whole.proofs.Differences.{diff-of, diff-pos, diff-neg, diff-add, diff-sub, diff-eq, diff-lt, diff-abs, abs-diff, over, under}
-use Rattle.frame.specs.Quantise.{unit24, round24, scale, nearestDown, signed, quantised, clamp4}
+use Rattle.frame.specs.Quantise.{unit24, round24, scale, nearestDown, withSign, quantise, clamp4}
+use Rattle.frame.proofs.LawsOrder.{none-below}
 
 -- ---- `compare` from an order
 module _ (a b : ℕ) where
@@ -190,13 +193,13 @@ down-is m s h p e = go (ltb s (m % s * 2)) refl
         div-eq-of-lt-le s (omega (arith, m-is)) (omega (arith, m-is, left, more (m / s)))
 
 -- the same of a number with its sign, by a shift
-pub down-pos : (d : ℤ) (s h : ℕ) → 0 < h → s ≡ h + h → ltZ (pos 0) d ≡ true → shrZ (d +ℤ pos h -ℤ pos 1) s ≡ signed d (nearestDown (natAbs d) s)
+pub down-pos : (d : ℤ) (s h : ℕ) → 0 < h → s ≡ h + h → ltZ (pos 0) d ≡ true → shrZ (d +ℤ pos h -ℤ pos 1) s ≡ withSign d (nearestDown (natAbs d) s)
 down-pos (pos m) s h p e t =
     let z : pos m +ℤ pos h -ℤ pos 1 ≡ pos ((m + h) - 1) = diff-eq (diff-sub (diff-add (diff-pos m) (diff-pos h)) (diff-pos 1)) (diff-pos ((m + h) - 1)) (omega arith) in
     ap (λ (v : ℤ). shrZ v s) z ∙ ap pos (down-is m s h p e)
 down-pos (negsuc k) s h p e t = absurd (subst T (sym t) tt)
 
-pub down-neg : (d : ℤ) (s h : ℕ) → 0 < h → s ≡ h + h → ltZ (pos 0) d ≡ false → shrZ (d +ℤ pos h) s ≡ signed d (nearestDown (natAbs d) s)
+pub down-neg : (d : ℤ) (s h : ℕ) → 0 < h → s ≡ h + h → ltZ (pos 0) d ≡ false → shrZ (d +ℤ pos h) s ≡ withSign d (nearestDown (natAbs d) s)
 down-neg (pos m) s h p e t =
     let none : m ≡ 0 = omega (arith, ltb-false 0 m t) in
     let below : (m + h) / s ≡ nearestDown m s = subst (λ (n : ℕ). (n + h) / s ≡ nearestDown n s) (sym none) (div-eq-of-lt (omega arith) ∙ sym (div-eq-of-lt (omega arith)) ∙ down-is 0 s h p e) in
@@ -240,10 +243,7 @@ unfolding nearestDown
 down-zero s p = rw (zero-mod, zero-div) (go (ltb s (0 * 2)) refl)
   where
     go : (t : Bool) → ltb s (0 * 2) ≡ t → cond t (0 + 1) 0 ≡ 0
-    go true e = absurd (never (ltb-true s (0 * 2) e))
-      where
-        never : s < 0 * 2 → ⊥
-        never h = omega arith
+    go true e = absurd (none-below s (ltb-true s (0 * 2) e))
     go false e = refl
 
 pub down-le : (m s : ℕ) → nearestDown m s ≤ m + 1
@@ -251,78 +251,54 @@ unfolding nearestDown
 down-le m s = pick-le (ltb s (m % s * 2)) (m / s + 1) (m / s) (m + 1) (omega (arith, div-le-self m s)) (omega (arith, div-le-self m s))
 
 -- ---- the sign
-pub signed-neg : (z : ℤ) (n : ℕ) → ltZ z (pos 0) ≡ true → pos 0 -ℤ pos n ≡ signed z n
-signed-neg (pos k) n e = absurd (never k (ltb-true k 0 e))
-  where
-    never : (k : ℕ) → k < 0 → ⊥
-    never k h = omega arith
-signed-neg (negsuc k) n e = +ℤ-idl (negℤ (pos n))
+pub sign-neg : (z : ℤ) (n : ℕ) → ltZ z (pos 0) ≡ true → pos 0 -ℤ pos n ≡ withSign z n
+sign-neg (pos k) n e = absurd (none-below k (ltb-true k 0 e))
+sign-neg (negsuc k) n e = +ℤ-idl (negℤ (pos n))
 
-pub signed-pos : (z : ℤ) (n : ℕ) → ltZ z (pos 0) ≡ false → pos n ≡ signed z n
-signed-pos (pos k) n e = refl
-signed-pos (negsuc k) n e = absurd (subst T e tt)
+pub sign-pos : (z : ℤ) (n : ℕ) → ltZ z (pos 0) ≡ false → pos n ≡ withSign z n
+sign-pos (pos k) n e = refl
+sign-pos (negsuc k) n e = absurd (subst T e tt)
 
 -- a number has its own sign
-pub signed-abs : (z : ℤ) → signed z (natAbs z) ≡ z
-signed-abs (pos n) = refl
-signed-abs (negsuc n) = refl
+pub sign-abs : (z : ℤ) → withSign z (natAbs z) ≡ z
+sign-abs (pos n) = refl
+sign-abs (negsuc n) = refl
 
 -- a number with the sign of z has z's sign, or is 0
-pub signed-twice : (z : ℤ) (m s : ℕ) → 0 < s → signed (signed z m) (nearestDown m s) ≡ signed z (nearestDown m s)
-signed-twice (pos k) m s p = refl
-signed-twice (negsuc k) zero s p = let e : nearestDown 0 s ≡ 0 = down-zero s p in rw e
-signed-twice (negsuc k) (suc m) s p = refl
+pub sign-twice : (z : ℤ) (m s : ℕ) → 0 < s → withSign (withSign z m) (nearestDown m s) ≡ withSign z (nearestDown m s)
+sign-twice (pos k) m s p = refl
+sign-twice (negsuc k) zero s p = let e : nearestDown 0 s ≡ 0 = down-zero s p in rw e
+sign-twice (negsuc k) (suc m) s p = refl
 
-pub signed-size : (z : ℤ) (n : ℕ) → natAbs (signed z n) ≡ n
-signed-size (pos k) n = refl
-signed-size (negsuc k) n = abs-neg (pos n)
+pub sign-size : (z : ℤ) (n : ℕ) → natAbs (withSign z n) ≡ n
+sign-size (pos k) n = refl
+sign-size (negsuc k) n = abs-neg (pos n)
 
-pub quantised-size : (d : ℤ) (p : ℕ) → natAbs d ≤ 2147483648 → natAbs (quantised d p) ≤ natAbs d + 257
-unfolding quantised
-quantised-size d p h =
-    omega (arith, down-le (round24 (natAbs d)) (scale p), round24-le (natAbs d) h, signed-size d (nearestDown (round24 (natAbs d)) (scale p)))
+pub quantise-size : (d : ℤ) (p : ℕ) → natAbs d ≤ 2147483648 → natAbs (quantise d p) ≤ natAbs d + 257
+unfolding quantise
+quantise-size d p h =
+    omega (arith, down-le (round24 (natAbs d)) (scale p), round24-le (natAbs d) h, sign-size d (nearestDown (round24 (natAbs d)) (scale p)))
 
 -- ---- the clamp to a nibble
-pub clamp4-low : (z : ℤ) → ltZ z (negsuc 7) ≡ true → clamp4 z ≡ negsuc 7
-unfolding clamp4
-clamp4-low z e = rw e
-
-pub clamp4-high : (z : ℤ) → ltZ z (negsuc 7) ≡ false → ltZ (pos 7) z ≡ true → clamp4 z ≡ pos 7
-unfolding clamp4
-clamp4-high z e f = rw (e, f)
-
-pub clamp4-mid : (z : ℤ) → ltZ z (negsuc 7) ≡ false → ltZ (pos 7) z ≡ false → clamp4 z ≡ z
-unfolding clamp4
-clamp4-mid z e f = rw (e, f)
-
-mid-size : (z : ℤ) → ltZ z (negsuc 7) ≡ false → ltZ (pos 7) z ≡ false → natAbs z ≤ 8
-mid-size (pos n) e f = omega (arith, ltb-false 7 n f)
-mid-size (negsuc n) e f = omega (arith, ltb-false 7 n e)
-
 pub clamp4-size : (z : ℤ) → natAbs (clamp4 z) ≤ 8
-unfolding clamp4
-clamp4-size z = go (ltZ z (negsuc 7)) (ltZ (pos 7) z) (mid-size z)
-  where
-    go : (a b : Bool) → (a ≡ false → b ≡ false → natAbs z ≤ 8) → natAbs (cond a (negsuc 7) (cond b (pos 7) z)) ≤ 8
-    go true b h = omega arith
-    go false true h = omega arith
-    go false false h = h refl refl
+clamp4-size z = clamp-size 7 z
 
 -- the excess at either end, and within
 pub excess-low : (z : ℤ) → ltZ z (negsuc 7) ≡ true → negsuc 7 -ℤ z ≡ pos (natAbs (z -ℤ clamp4 z))
 excess-low z e =
     let l = diff-lt (diff-of z) (diff-neg (diff-pos 8)) e in
     let d = diff-sub (diff-of z) (diff-neg (diff-pos 8)) in
-    rw (clamp4-low z e) (diff-eq (diff-sub (diff-neg (diff-pos 8)) (diff-of z)) (diff-pos (natAbs (z -ℤ negsuc 7))) (omega (arith, diff-abs d, abs-diff d (under z - (over z + 8)) (omega arith) (omega arith))))
+    rw (clamp-low 7 z e) (diff-eq (diff-sub (diff-neg (diff-pos 8)) (diff-of z)) (diff-pos (natAbs (z -ℤ negsuc 7)))
+    (omega (arith, diff-abs d, abs-diff d (under z - (over z + 8)) (omega arith) (omega arith))))
 
 pub excess-high : (z : ℤ) → ltZ z (negsuc 7) ≡ false → ltZ (pos 7) z ≡ true → z -ℤ pos 7 ≡ pos (natAbs (z -ℤ clamp4 z))
 excess-high z e f =
     let l = diff-lt (diff-pos 7) (diff-of z) f in
     let d = diff-sub (diff-of z) (diff-pos 7) in
-    rw (clamp4-high z e f) (diff-eq d (diff-pos (natAbs (z -ℤ pos 7))) (omega (arith, diff-abs d, abs-diff d (over z - (under z + 7)) (omega arith) (omega arith))))
+    rw (clamp-high 7 z e f) (diff-eq d (diff-pos (natAbs (z -ℤ pos 7))) (omega (arith, diff-abs d, abs-diff d (over z - (under z + 7)) (omega arith) (omega arith))))
 
 pub excess-none : (z : ℤ) → ltZ z (negsuc 7) ≡ false → ltZ (pos 7) z ≡ false → _≡_ {A = ℕ} 0 (natAbs (z -ℤ clamp4 z))
-excess-none z e f = rw (clamp4-mid z e f) (omega (arith, abs-diff (diff-sub (diff-of z) (diff-of z)) 0 (omega arith) (omega arith)))
+excess-none z e f = rw (clamp-mid 7 z e f) (omega (arith, abs-diff (diff-sub (diff-of z) (diff-of z)) 0 (omega arith) (omega arith)))
 
 -- the excess is no larger than what was clamped
 pub clamp4-excess : (z : ℤ) → natAbs (z -ℤ clamp4 z) ≤ natAbs z
@@ -330,28 +306,33 @@ clamp4-excess z = go (ltZ z (negsuc 7)) refl
   where
     high : (t : Bool) → ltZ (pos 7) z ≡ t → ltZ z (negsuc 7) ≡ false → natAbs (z -ℤ clamp4 z) ≤ natAbs z
     high true f e =
-        subst (λ (v : ℤ). natAbs (z -ℤ v) ≤ natAbs z) (sym (clamp4-high z e f))
+        subst (λ (v : ℤ). natAbs (z -ℤ v) ≤ natAbs z) (sym (clamp-high 7 z e f))
         (let l = diff-lt (diff-pos 7) (diff-of z) f in
         let d = diff-abs (diff-of z) in
         abs-diff (diff-sub (diff-of z) (diff-pos 7)) (natAbs z) (omega arith) (omega arith))
     high false f e =
-        subst (λ (v : ℤ). natAbs (z -ℤ v) ≤ natAbs z) (sym (clamp4-mid z e f))
+        subst (λ (v : ℤ). natAbs (z -ℤ v) ≤ natAbs z) (sym (clamp-mid 7 z e f))
         (abs-diff (diff-sub (diff-of z) (diff-of z)) (natAbs z) (omega arith) (omega arith))
 
     go : (t : Bool) → ltZ z (negsuc 7) ≡ t → natAbs (z -ℤ clamp4 z) ≤ natAbs z
     go true e =
-        subst (λ (v : ℤ). natAbs (z -ℤ v) ≤ natAbs z) (sym (clamp4-low z e))
+        subst (λ (v : ℤ). natAbs (z -ℤ v) ≤ natAbs z) (sym (clamp-low 7 z e))
         (let l = diff-lt (diff-of z) (diff-neg (diff-pos 8)) e in
         let d = diff-abs (diff-of z) in
         abs-diff (diff-sub (diff-of z) (diff-neg (diff-pos 8))) (natAbs z) (omega arith) (omega arith))
     go false e = high (ltZ (pos 7) z) refl e
 
 -- at the largest scale little is left over: with D at most 31 * 2^26 the quotient is at most 248
-pub quantised-12 : (d : ℤ) → natAbs d ≤ 2080374784 → natAbs (quantised d 12) ≤ 248
-unfolding quantised nearestDown
-quantised-12 d h =
+pub quantise-12 : (d : ℤ) → natAbs d ≤ 2080374784 → natAbs (quantise d 12) ≤ 248
+unfolding quantise nearestDown
+quantise-12 d h =
     let b : round24 (natAbs d) ≤ natAbs d + 256 = round24-le (natAbs d) (omega arith) in
-    omega (arith, signed-size d (cond (ltb 8388608 (round24 (natAbs d) % 8388608 * 2)) (round24 (natAbs d) / 8388608 + 1) (round24 (natAbs d) / 8388608)), go (ltb 8388608 (round24 (natAbs d) % 8388608 * 2)) (round24 (natAbs d)) refl (omega arith))
+    omega (
+      arith,
+      sign-size d (cond (ltb 8388608 (round24 (natAbs d) % 8388608 * 2)) (round24 (natAbs d) / 8388608 + 1) (round24 (natAbs d) / 8388608)),
+      go
+          (ltb 8388608 (round24 (natAbs d) % 8388608 * 2)) (round24 (natAbs d)) refl (omega arith),
+    )
   where
     go : (t : Bool) (m : ℕ) → ltb 8388608 (m % 8388608 * 2) ≡ t → m ≤ 2080375040 → cond t (m / 8388608 + 1) (m / 8388608) ≤ 248
     go true m e h = let l = ltb-true 8388608 (m % 8388608 * 2) e in omega arith

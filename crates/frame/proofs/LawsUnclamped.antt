@@ -11,7 +11,7 @@ use mir.Val.{SFits}
 use lib.Dec.{T, ltb, lit<, lit≤}
 use lib.Pow.{pow-add, pow-pos, pow-mono}
 use lib.IntN.{ℤ, pos, negsuc, negℤ, natAbs, _-ℤ_}
-use lib.Ieee.{Float, binary32, binary64, low, size, unlike, round, neg, fits, toBits, add, sub, div, ofInt, toSigned}
+use lib.Ieee.{Float, binary32, binary64, low, size, unlike, round, neg, fits, add, sub, div, ofInt, toSigned}
 use lib.Ieee.Back.{round-whole}
 use lib.Ieee.Digits.{size-le}
 use lib.Ieee.Exact.{HasValue}
@@ -19,8 +19,8 @@ use lib.Ieee.Fits.{nearest-le, kept-lt, div-fits, fits-widens}
 use lib.Ieee.Nearest.{closest}
 use lib.Ieee.Positive.{num, den}
 use lib.Ieee.Scale.{grid}
-use Rattle.frame.specs.Quantise.{unit24, round24, scale, nearestDown, quantised, clamp4}
-use Rattle.frame.specs.Pass.{Bounded, residual, reconstruct, stepOf}
+use Rattle.frame.specs.Quantise.{unit24, round24, scale, nearestDown, quantise, clamp4}
+use Rattle.frame.specs.Pass.{Bounded, residual, reconstruct, codeSample}
 use Rattle.frame.specs.Unclamped.{asF32, nearHalf, quotient, unclamped}
 use Rattle.frame.specs.declared.pass.Step.{Step}
 use Rattle.frame.proofs.LawsFloat.{few-digits, whole-at, round-between, neg-at, div-at, add-at, toSigned-at}
@@ -55,9 +55,9 @@ scale-at : (p : ℕ) → p ≤ 12 → HasValue (asF32 (pos (2 ^ p * 2048))) fals
 unfolding ofInt
 scale-at p h = round-whole binary32 false (2 ^ p * 2048) (omega (arith, pow-mono h))
 
-held24 : (s : Bool) (a p : ℕ) → a ≤ 2147483648 → p ≤ 12 → HasValue (round binary32 s (round24 a) (2 ^ (p + 11))) s (round24 a) (2 ^ (p + 11))
+quotient-exact : (s : Bool) (a p : ℕ) → a ≤ 2147483648 → p ≤ 12 → HasValue (round binary32 s (round24 a) (2 ^ (p + 11))) s (round24 a) (2 ^ (p + 11))
 unfolding round24 unit24
-held24 s a p h l =
+quotient-exact s a p h l =
     let k = size a - 24 in
     let digits : closest a (2 ^ k) ≤ 16777216 = le-trans (nearest-le (a / 2 ^ k) (compare (a % 2 ^ k * 2) (2 ^ k))) (kept-lt 24 a) in
     let z : size a ≤ 32 = size-le a 32 (omega arith) in
@@ -72,7 +72,7 @@ quotient-at d p h l =
     div-at binary32 (asF32 d) (asF32 (pos s)) (signOf d) false r 1 s 1 (lit< tt) (mul-pos (pow-pos p) (lit< tt)) (cast-at d h) (scale-at p l)
     ∙ rw (plus (signOf d), mul-one r, mul-one s) in
     subst (λ (x : Float). HasValue x (signOf d) r s) (sym is)
-    (subst (λ (n : ℕ). HasValue (round binary32 (signOf d) r n) (signOf d) r n) (pow-add 2 p 11) (held24 (signOf d) (natAbs d) p h l))
+    (subst (λ (n : ℕ). HasValue (round binary32 (signOf d) r n) (signOf d) r n) (pow-add 2 p 11) (quotient-exact (signOf d) (natAbs d) p h l))
 
 -- `as f64` of it: an f64 holds it
 pub quotient-fits : (d s : ℤ) → T (fits binary64 (quotient d s))
@@ -80,8 +80,8 @@ unfolding quotient
 quotient-fits d s = fits-widens (div binary32 (asF32 d) (asF32 s)) (div-fits binary32 (asF32 d) (asF32 s))
 
 -- ---- with nearly a half added in f64, of the quotient's sign, and cut towards zero: to the nearest, halves towards zero
-held : (n : ℕ) → n ≤ 9007199254740992 → HasValue (round binary64 false n 67108864) false n 67108864
-held n h = subst (λ (m : ℕ). HasValue (round binary64 false m 67108864) false m 67108864) (mul-one n) (few-digits binary64 false n 0 26 h (lit≤ tt) (lit≤ tt))
+parts-exact : (n : ℕ) → n ≤ 9007199254740992 → HasValue (round binary64 false n 67108864) false n 67108864
+parts-exact n h = subst (λ (m : ℕ). HasValue (round binary64 false m 67108864) false m 67108864) (mul-one n) (few-digits binary64 false n 0 26 h (lit≤ tt) (lit≤ tt))
 
 cut : (n g l : ℕ) → 0 < l → (n * 67108864 + 1) * l ≤ g * 67108864 → g * 67108864 ≤ (n * 67108864 + 67108863) * l → g / l ≡ n
 cut n g l L h k = div-eq-of-lt-le l (omega arith) (omega arith)
@@ -97,7 +97,7 @@ sum-at x y s t r k h a c even k-ge k-le r-le near o u v =
     let g = grid binary64 (r * c + a * k) (k * c) in
     let is : add binary64 x y ≡ z = add-at binary64 x y s t r k a c K C (near .some) o u v in
     let b = round-between binary64 t (r * c + a * k) (k * c) (n * 67108864 + 1) 67108864 (n * 67108864 + 67108863) 67108864 (mul-pos K C) (lit< tt) (lit< tt) (omega arith) (omega arith)
-    (held (n * 67108864 + 1) (omega arith)) (held (n * 67108864 + 67108863) (omega arith)) (sum-above r k h a c near even k-le) (sum-below r k h a c near K) in
+    (parts-exact (n * 67108864 + 1) (omega arith)) (parts-exact (n * 67108864 + 67108863) (omega arith)) (sum-above r k h a c near even k-le) (sum-below r k h a c near K) in
     let whole : g / 2 ^ low binary64 ≡ n = cut n g (2 ^ low binary64) (pow-pos (low binary64)) (b .1) (b .2) in
     ap (toSigned 31) is
     ∙ toSigned-at 31 z t g (2 ^ low binary64) (pow-pos (low binary64)) (b .0) (lt-of-le-of-lt (le-of-eq whole) (omega arith))
@@ -114,11 +114,6 @@ near-half-at = (refl, refl)
 
 near-half-neg : HasValue (neg nearHalf) true (num nearHalf) (den nearHalf)
 near-half-neg = neg-at nearHalf false (num nearHalf) (den nearHalf) near-half-at
-
--- its bits, as the Rust has them
-pub near-half-bits : toBits binary64 nearHalf ≡ 0x3fdf_ffff_94a0_3595
-unfolding nearHalf round toBits
-near-half-bits = refl
 
 -- ---- the expression
 -- with y, 0.4999999 of the sign t: the sign of d, or either where d is 0
@@ -137,8 +132,8 @@ none = sym (round-same 0 (lit< tt))
 -- "this equals the Rust's ± 0.4999999": for every D of 32 bits, of either sign or 0, and every p up to 12, the Rust's expression in f32 and f64
 -- gives the number of the whole-number rule. The cast is the 24-bit rounding (`cast-at`), the quotient is exact (`quotient-at`), and the sum, which is
 -- rounded once, stays 2 ^ -26 off the whole numbers, so that it is cut to the right one (`sum-at`).
-pub unclamped-is : (d : ℤ) (p : ℕ) → natAbs d ≤ 2147483648 → p ≤ 12 → unclamped d p ≡ quantised d p
-unfolding unclamped sub quantised
+pub unclamped-is : (d : ℤ) (p : ℕ) → natAbs d ≤ 2147483648 → p ≤ 12 → unclamped d p ≡ quantise d p
+unfolding unclamped sub quantise
 unclamped-is (pos zero) p h l =
     let down : nearestDown (round24 0) (scale p) ≡ 0 = ap (λ (m : ℕ). nearestDown m (scale p)) none ∙ down-zero (scale p) (scale-pos p) in
     rounded (pos 0) p true (neg nearHalf) h l (inr none) near-half-neg ∙ ap (λ (m : ℕ). negℤ (pos m)) down ∙ ap pos (sym down)
@@ -148,15 +143,15 @@ unclamped-is (pos (suc n)) p h l =
 unclamped-is (negsuc n) p h l = rounded (negsuc n) p true (neg nearHalf) h l (inl refl) near-half-neg
 
 -- no further: at p = 13 this D is over a half of S' by less than 0.4999999 lacks
-pub unclamped-13 : (unclamped (pos 8388609) 13 ≡ pos 0) × (quantised (pos 8388609) 13 ≡ pos 1)
-unfolding unclamped quotient nearHalf round ofInt div add sub toSigned quantised round24 unit24 nearestDown
+pub unclamped-13 : (unclamped (pos 8388609) 13 ≡ pos 0) × (quantise (pos 8388609) 13 ≡ pos 1)
+unfolding unclamped quotient nearHalf round ofInt div add sub toSigned quantise round24 unit24 nearestDown
 unclamped-13 = (refl, refl)
 
 -- so the step of a pass is the one with the Rust's expression: every D that it meets is in range
-pub step-unclamped : (c0 c1 s0 s1 x : ℤ) (p : ℕ) → Bounded c0 c1 → SFits w16 s0 → SFits w16 s1 → SFits w16 x → p ≤ 12 → stepOf c0 c1 s0 s1 x p ≡
+pub step-unclamped : (c0 c1 s0 s1 x : ℤ) (p : ℕ) → Bounded c0 c1 → SFits w16 s0 → SFits w16 s1 → SFits w16 x → p ≤ 12 → codeSample c0 c1 s0 s1 x p ≡
     let u = unclamped (residual c0 c1 s0 s1 x) p in
     record { nibble = clamp4 u; sample = reconstruct c0 c1 s0 s1 (clamp4 u) p; overflow = natAbs (u -ℤ clamp4 u) }
-unfolding stepOf
+unfolding codeSample
 step-unclamped c0 c1 s0 s1 x p b f g h l =
-    let is : unclamped (residual c0 c1 s0 s1 x) p ≡ quantised (residual c0 c1 s0 s1 x) p = unclamped-is (residual c0 c1 s0 s1 x) p (le-trans (residual-size c0 c1 s0 s1 x b f g h) (lit≤ tt)) l in
+    let is : unclamped (residual c0 c1 s0 s1 x) p ≡ quantise (residual c0 c1 s0 s1 x) p = unclamped-is (residual c0 c1 s0 s1 x) p (le-trans (residual-size c0 c1 s0 s1 x b f g h) (lit≤ tt)) l in
     rw is

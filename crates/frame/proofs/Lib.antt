@@ -1,4 +1,5 @@
 -- Laws that callers cite.
+pub mod LawsOrder
 pub mod LawsQuantise
 pub mod LawsEstimate
 pub mod LawsPass
@@ -14,3 +15,4 @@ pub mod LawsNearHalf
 pub mod LawsUnclamped
 pub mod LawsLane
 pub mod LawsLanes
+pub mod Worked

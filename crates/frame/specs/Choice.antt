@@ -5,16 +5,16 @@ use Prim.Native.Nat.{ℕ, zero, suc, _+_, _*_, _<_}
 use lib.Dec.{ltb}
 use lib.IntN.{ℤ, pos}
 use lib.ListN.{getD}
-use Rattle.frame.specs.declared.History.{History}
+use Rattle.whole.specs.declared.History.{History}
 use Rattle.frame.specs.declared.search.Coded.{Coded}
-use Rattle.frame.specs.declared.choice.Best.{Best}
 use Rattle.frame.specs.Pass.{Bounded}
 use Rattle.frame.specs.Search.{tryCoefficients}
 
--- "c0 even, c1 odd in each of eight pairs"
+-- "c0 even, c1 odd in each of eight pairs": the even coefficient of pair i
 abbrev pub c0At : List ℤ → ℕ → ℤ
 c0At cs i = getD cs (2 * i) (pos 0)
 
+-- the odd coefficient of pair i
 abbrev pub c1At : List ℤ → ℕ → ℤ
 c1At cs i = getD cs (2 * i + 1) (pos 0)
 
@@ -37,7 +37,3 @@ winner h xs cs (suc k) =
 unfoldable pub passesOf : History → List ℤ → List ℤ → ℕ → ℕ
 passesOf h xs cs zero = 0
 passesOf h xs cs (suc k) = passesOf h xs cs k + candidateAt h xs cs k .passes
-
--- what is known after the pairs 0 to k: the winner among these alone, and their passes
-unfoldable pub bestOf : History → List ℤ → List ℤ → ℕ → Best
-bestOf h xs cs k = let i = winner h xs cs k in record { candidate = candidateAt h xs cs i; index = i; passes = passesOf h xs cs (suc k) }

@@ -7,19 +7,19 @@ use lib.IntN.{ℤ, pos, negsuc, natAbs, _+ℤ_, _-ℤ_, _*ℤ_}
 use lib.ListN.{getD}
 use lib.Signed.{ltZ}
 use Rattle.whole.specs.Whole.{clamp16, towardsZero}
-use Rattle.frame.specs.declared.History.{History}
+use Rattle.whole.specs.declared.History.{History}
 
 -- "c0 × previous + c1 × one before"
-unfoldable pub weighted : ℤ → ℤ → ℤ → ℤ → ℤ
-weighted c0 c1 previous before = c0 *ℤ previous +ℤ c1 *ℤ before
+unfoldable pub weigh : ℤ → ℤ → ℤ → ℤ → ℤ
+weigh c0 c1 previous before = c0 *ℤ previous +ℤ c1 *ℤ before
 
 -- "d = sample − (c0 × previous + c1 × one before) / 2048, division towards zero, clamped to 16 bits"
 unfoldable pub difference : ℤ → ℤ → ℤ → ℤ → ℤ → ℤ
-difference c0 c1 previous before sample = clamp16 (sample -ℤ towardsZero (weighted c0 c1 previous before) 2048)
+difference c0 c1 previous before sample = clamp16 (sample -ℤ towardsZero (weigh c0 c1 previous before) 2048)
 
 -- "of largest magnitude .. the first among equals": d, found before e, unless e is larger
-unfoldable pub larger : ℤ → ℤ → ℤ
-larger d e = cond (ltb (natAbs d) (natAbs e)) e d
+unfoldable pub largerMagnitude : ℤ → ℤ → ℤ
+largerMagnitude d e = cond (ltb (natAbs d) (natAbs e)) e d
 
 -- z is −32,768, among the numbers of 16 bits
 unfoldable pub isLowest : ℤ → Bool
@@ -31,11 +31,11 @@ look c0 c1 xs zero i d previous before = d
 look c0 c1 xs (suc k) i d previous before =
     let x = getD xs i (pos 0) in
     let e = difference c0 c1 previous before x in
-    cond (isLowest e) e (look c0 c1 xs k (suc i) (larger d e) x previous)
+    cond (isLowest e) e (look c0 c1 xs k (suc i) (largerMagnitude d e) x previous)
 
 -- "over the frame's fourteen original samples (padding zeros counted), preceded by the history"
-unfoldable pub estimate : ℤ → ℤ → History → List ℤ → ℤ
-estimate c0 c1 h xs = look c0 c1 xs 14 0 (pos 0) (h .newest) (h .older)
+unfoldable pub largestDifference : ℤ → ℤ → History → List ℤ → ℤ
+largestDifference c0 c1 h xs = look c0 c1 xs 14 0 (pos 0) (h .newest) (h .older)
 
 -- "within −8 to 7"
 unfoldable pub isSmall : ℤ → Bool
@@ -46,7 +46,7 @@ unfoldable pub halvingsWithin : ℕ → ℤ → ℕ
 halvingsWithin zero z = zero
 halvingsWithin (suc k) z = cond (isSmall z) zero (suc (halvingsWithin k (towardsZero z 2)))
 
--- the bound of 13 is the Rust's, and never what ends the halving (`halvings-end`)
+-- the halvings of z; the bound of 13 is the Rust's, and never what ends them (`halvings-end`)
 unfoldable pub halvings : ℤ → ℕ
 halvings z = halvingsWithin 13 z
 
@@ -58,5 +58,6 @@ maxZ a b = cond (ltZ a b) b a
 unfoldable pub exponentOf : ℕ → ℕ
 exponentOf h = natAbs (maxZ (pos h -ℤ pos 2) (negsuc 0) +ℤ pos 1)
 
+-- the exponent of the first pass, from the estimate
 unfoldable pub firstExponent : ℤ → ℤ → History → List ℤ → ℕ
-firstExponent c0 c1 h xs = exponentOf (halvings (estimate c0 c1 h xs))
+firstExponent c0 c1 h xs = exponentOf (halvings (largestDifference c0 c1 h xs))

@@ -5,36 +5,33 @@ use Prim.Native.Nat.{ℕ, zero, suc, _+_, _-_, _*_, _/_, _%_, _<_}
 use lib.Dec.{eqb, leb}
 use lib.IntN.{ℤ, pos, negsuc, natAbs}
 use lib.ListN.{getD, replicate}
-use Rattle.frame.specs.declared.History.{History}
+use Rattle.whole.specs.declared.History.{History}
 use Rattle.frame.specs.declared.EncodedFrame.{EncodedFrame}
 use Rattle.frame.specs.declared.OneFrame.{OneFrame}
 use Rattle.frame.specs.declared.Refusal.{Refusal}
 use Rattle.frame.specs.declared.Refusal.the-variants.{CoefficientOutside}
+use Rattle.frame.specs.declared.Verdict.{Verdict}
 use Rattle.frame.specs.declared.Verdict.the-variants.{Encoded, Refused}
+use Rattle.whole.specs.Outcome.{Outcome, accepted, refused}
 use Rattle.frame.specs.Choice.{c0At, c1At, candidateAt, winner, passesOf}
 
 -- "Header = index × 16 + p"
 abbrev pub header : ℕ → ℕ → ℕ
 header i p = i * 16 + p
 
--- −8 ≤ z ≤ 7
-pub data InNibble : ℤ → Type 0 where
-  up : {n : ℕ} → n < 8 → InNibble (pos n)
-  down : {n : ℕ} → n < 8 → InNibble (negsuc n)
-
 -- a nibble's four bits: z mod 16
-unfoldable pub low4 : ℤ → ℕ
-low4 (pos n) = n
-low4 (negsuc n) = 15 - n
+unfoldable pub lowFour : ℤ → ℕ
+lowFour (pos n) = n
+lowFour (negsuc n) = 15 - n
 
 -- "two nibbles a byte, high nibble first"
 unfoldable pub byteOf : List ℤ → ℕ → ℕ
-byteOf ns k = low4 (getD ns (2 * k) (pos 0)) * 16 + low4 (getD ns (2 * k + 1) (pos 0))
+byteOf ns k = lowFour (getD ns (2 * k) (pos 0)) * 16 + lowFour (getD ns (2 * k + 1) (pos 0))
 
 -- "a header byte, then two nibbles a byte": the header and k bytes
-unfoldable pub packed : ℕ → List ℤ → ℕ → List ℕ
-packed b ns zero = b ∷ []
-packed b ns (suc k) = packed b ns k ++ (byteOf ns k ∷ [])
+unfoldable pub packFrame : ℕ → List ℤ → ℕ → List ℕ
+packFrame b ns zero = b ∷ []
+packFrame b ns (suc k) = packFrame b ns k ++ (byteOf ns k ∷ [])
 
 -- the four bits of sample i in a frame's bytes
 unfoldable pub nibbleAt : List ℕ → ℕ → ℕ
@@ -45,7 +42,7 @@ unfoldable pub encodeFrame : History → List ℤ → List ℤ → EncodedFrame
 encodeFrame h xs cs =
     let i = winner h xs cs 7 in
     let c = candidateAt h xs cs i in
-    record { bytes = packed (header i (c .exponent)) (c .nibbles) 7; passes = passesOf h xs cs 8; samples = c .samples }
+    record { bytes = packFrame (header i (c .exponent)) (c .nibbles) 7; passes = passesOf h xs cs 8; samples = c .samples }
 
 -- samples with the two before them, oldest first
 unfoldable pub preceded : History → List ℤ → List ℤ
@@ -56,25 +53,42 @@ unfoldable pub historyAfter : History → List ℤ → ℕ → History
 historyAfter h xs m = record { newest = getD (preceded h xs) (suc m) (pos 0); older = getD (preceded h xs) m (pos 0) }
 
 -- code 7: "c0 outside ±4096 or c1 outside ±2048"
-unfoldable pub pairWithin : ℤ → ℤ → Bool
-pairWithin c0 c1 = leb (natAbs c0) 4096 && leb (natAbs c1) 2048
+unfoldable pub pairOk : ℤ → ℤ → Bool
+pairOk c0 c1 = leb (natAbs c0) 4096 && leb (natAbs c1) 2048
 
 -- the first k pairs are within the limits
-unfoldable pub within : List ℤ → ℕ → Bool
-within cs zero = true
-within cs (suc k) = within cs k && pairWithin (c0At cs k) (c1At cs k)
+unfoldable pub pairsOk : List ℤ → ℕ → Bool
+pairsOk cs zero = true
+pairsOk cs (suc k) = pairsOk cs k && pairOk (c0At cs k) (c1At cs k)
 
-unfoldable pub withinLimits : List ℤ → Bool
-withinLimits cs = within cs 8
+-- all eight pairs are within the limits
+unfoldable pub coefficientsOk : List ℤ → Bool
+coefficientsOk cs = pairsOk cs 8
 
--- document 01's number
-abbrev pub numberOf : Refusal → ℕ
-numberOf CoefficientOutside = 7
+-- document 01's number of a refusal
+abbrev pub code : Refusal → ℕ
+code CoefficientOutside = 7
+
+-- what a verdict says, by document 01's numbers
+abbrev pub outcome : Verdict → Outcome Unit
+outcome Encoded = accepted tt
+outcome (Refused r) = refused (code r)
+
+-- what the one-frame call answers: its outcome, and the bytes, passes and history that come with it
+pub record Effect : Type 0 where
+  pub outcome : Outcome Unit
+  pub bytes : List ℕ
+  pub passes : ℕ
+  pub history : History
+
+-- what an answer is, by document 01's numbers and values
+abbrev pub effect : OneFrame → Effect
+effect o = record { outcome = outcome (o .verdict); bytes = o .bytes; passes = o .passes; history = o .history }
 
 -- "answers the eight bytes, the passes and the new history"; a refusal answers no bytes, no passes and the history given
-unfoldable pub encodeOneFrame : History → List ℤ → List ℤ → OneFrame
+unfoldable pub encodeOneFrame : History → List ℤ → List ℤ → Effect
 encodeOneFrame h xs cs =
     let e = encodeFrame h xs cs in
-    cond (withinLimits cs)
-    (record { verdict = Encoded; bytes = e .bytes; passes = e .passes; history = historyAfter h (e .samples) 14 })
-    (record { verdict = Refused CoefficientOutside; bytes = replicate 8 0; passes = 0; history = h })
+    cond (coefficientsOk cs)
+    (record { outcome = accepted tt; bytes = e .bytes; passes = e .passes; history = historyAfter h (e .samples) 14 })
+    (record { outcome = refused 7; bytes = replicate 8 0; passes = 0; history = h })

@@ -5,6 +5,7 @@ pub mod Pass
 pub mod Search
 pub mod Choice
 pub mod Frame
+pub mod Fits
 pub mod Worked
 pub mod Unclamped
-pub mod Lanes
+pub mod inner

@@ -5,7 +5,7 @@ use lib.Dec.{ltb}
 use lib.Ieee.{size}
 use lib.Ieee.Nearest.{closest}
 use lib.IntN.{ℤ, pos, negsuc, negℤ, natAbs}
-use lib.Signed.{ltZ}
+use Rattle.whole.specs.Whole.{clamp}
 
 -- of m's `size m` binary digits the lowest `size m - 24` are dropped: the unit of the last that is kept
 unfoldable pub unit24 : ℕ → ℕ
@@ -24,14 +24,14 @@ unfoldable pub nearestDown : ℕ → ℕ → ℕ
 nearestDown m s = cond (ltb s (m % s * 2)) (m / s + 1) (m / s)
 
 -- n with the sign of z
-abbrev pub signed : ℤ → ℕ → ℤ
-signed (pos k) n = pos n
-signed (negsuc k) n = negℤ (pos n)
+abbrev pub withSign : ℤ → ℕ → ℤ
+withSign (pos k) n = pos n
+withSign (negsuc k) n = negℤ (pos n)
 
 -- "D is rounded to 24 significant bits, .. divided by S' and rounded to nearest, halves towards zero"
-unfoldable pub quantised : ℤ → ℕ → ℤ
-quantised d p = signed d (nearestDown (round24 (natAbs d)) (scale p))
+unfoldable pub quantise : ℤ → ℕ → ℤ
+quantise d p = withSign d (nearestDown (round24 (natAbs d)) (scale p))
 
 -- "Clamp to −8..7"
-unfoldable pub clamp4 : ℤ → ℤ
-clamp4 z = cond (ltZ z (negsuc 7)) (negsuc 7) (cond (ltZ (pos 7) z) (pos 7) z)
+abbrev pub clamp4 : ℤ → ℤ
+clamp4 z = clamp 7 z

@@ -1,9 +1,9 @@
 // The choice among the eight pairs of coefficients.
 ghost use mathlib.Core.Path.{_≡_};
 ghost use Prim.Native.Nat.{_<_, _≤_, _-_};
-ghost use Rattle.frame.specs.Choice.{AllBounded, candidateAt, bestOf};
-ghost use Rattle.frame.specs.Lanes.{Firsts, LanesTell, Shown, laneAt, seenOf, candidateOf};
-use crate::History;
+ghost use Rattle.frame.specs.Choice.{AllBounded, candidateAt};
+ghost use Rattle.frame.specs.inner.Chosen.{choose};
+ghost use Rattle.frame.specs.inner.Lanes.{Firsts, LanesTell, Shown, laneAt, figuresAt, candidateOf};
 use crate::estimate::first_exponent;
 use crate::lanes::Lanes;
 use crate::lanes::fresh;
@@ -13,8 +13,9 @@ use crate::lanes::units_of;
 use crate::pass::run_pass;
 use crate::search::Candidate;
 use crate::search::Coded;
-use crate::search::Seen;
+use crate::search::Figures;
 use crate::search::try_coefficients;
+use whole::History;
 
 // The best candidate, its index, and the passes of all.
 pub(crate) struct Best {
@@ -24,14 +25,14 @@ pub(crate) struct Best {
 }
 
 // The first exponent of each pair.
-fn first_exponents(history: History, samples: [i16; 14], coefs: [i16; 16]) -> [u8; 8]
-    ensures { λ r. ⌜ Firsts history samples coefs r ⌝ }
+fn first_exponents(history: History, samples: [i16; 14], coefficients: [i16; 16]) -> [u8; 8]
+    ensures { λ r. ⌜ Firsts history samples coefficients r ⌝ }
 {
     let mut out = [0u8; 8];
     let mut k: usize = 0;
     while k < 8 {
-        let c0 = coefs[2 * k];
-        let c1 = coefs[2 * k + 1];
+        let c0 = coefficients[2 * k];
+        let c1 = coefficients[2 * k + 1];
         out[k] = first_exponent(c0, c1, history, samples);
         k = k + 1;
     }
@@ -42,18 +43,18 @@ fn first_exponents(history: History, samples: [i16; 14], coefs: [i16; 16]) -> [u
 fn lanes_at(
     history: History,
     samples: [i16; 14],
-    coefs: [i16; 16],
+    coefficients: [i16; 16],
     firsts: [u8; 8],
     more: u8,
 ) -> Lanes
-    requires { ⌜ AllBounded coefs ⌝ }
-    requires { ⌜ Firsts history samples coefs firsts ⌝ }
+    requires { ⌜ AllBounded coefficients ⌝ }
+    requires { ⌜ Firsts history samples coefficients firsts ⌝ }
     requires { ⌜ more ≤ 1 ⌝ }
-    ensures { λ r. ⌜ LanesTell history samples coefs more r ⌝ }
+    ensures { λ r. ⌜ LanesTell history samples coefficients more r ⌝ }
 {
     run_lanes(
         fresh(history),
-        split(coefs),
+        split(coefficients),
         units_of(firsts, more),
         samples,
     )
@@ -70,11 +71,11 @@ fn above_seven(m: u64) -> u64
 }
 
 // What lane k tells of its pass at exponent p.
-fn seen(t: Lanes, k: usize, p: u8) -> Seen
+fn figures_at(t: Lanes, k: usize, p: u8) -> Figures
     requires { ⌜ k < 8 ⌝ }
     requires { ⌜ p ≤ 12 ⌝ }
     requires { ⌜ Shown (laneAt t k) ⌝ }
-    ensures { λ r. ⌜ r ≡ seenOf (laneAt t k) p ⌝ }
+    ensures { λ r. ⌜ r ≡ figuresAt (laneAt t k) p ⌝ }
 {
     let tops = t.top;
     let highs = t.high;
@@ -82,7 +83,7 @@ fn seen(t: Lanes, k: usize, p: u8) -> Seen
     let top = tops[k];
     let high = highs[k];
     let low = lows[k];
-    Seen {
+    Figures {
         overflow: above_seven((top >> p) as u64),
         distance: (high as u64) * 65536 + (low as u64),
         sure: top < 1073741824,
@@ -93,21 +94,21 @@ fn seen(t: Lanes, k: usize, p: u8) -> Seen
 fn trial(
     history: History,
     samples: [i16; 14],
-    coefs: [i16; 16],
+    coefficients: [i16; 16],
     firsts: [u8; 8],
     known: Lanes,
     next: Lanes,
     k: usize,
 ) -> Candidate
-    requires { ⌜ AllBounded coefs ⌝ }
-    requires { ⌜ Firsts history samples coefs firsts ⌝ }
-    requires { ⌜ LanesTell history samples coefs 0 known ⌝ }
-    requires { ⌜ LanesTell history samples coefs 1 next ⌝ }
+    requires { ⌜ AllBounded coefficients ⌝ }
+    requires { ⌜ Firsts history samples coefficients firsts ⌝ }
+    requires { ⌜ LanesTell history samples coefficients 0 known ⌝ }
+    requires { ⌜ LanesTell history samples coefficients 1 next ⌝ }
     requires { ⌜ k < 8 ⌝ }
-    ensures { λ r. ⌜ r ≡ candidateOf (candidateAt history samples coefs k) ⌝ }
+    ensures { λ r. ⌜ r ≡ candidateOf (candidateAt history samples coefficients k) ⌝ }
 {
-    let c0 = coefs[2 * k];
-    let c1 = coefs[2 * k + 1];
+    let c0 = coefficients[2 * k];
+    let c1 = coefficients[2 * k + 1];
     let p = firsts[k];
     try_coefficients(
         c0,
@@ -115,26 +116,26 @@ fn trial(
         history,
         samples,
         p,
-        seen(known, k, p),
-        seen(next, k, p + 1),
+        figures_at(known, k, p),
+        figures_at(next, k, p + 1),
     )
 }
 
 // The candidate of pair k whose search found `best`: one more pass gives its nibbles and samples.
-fn finish(
+fn candidate_at(
     history: History,
     samples: [i16; 14],
-    coefs: [i16; 16],
+    coefficients: [i16; 16],
     best: Candidate,
     k: usize,
 ) -> Coded
-    requires { ⌜ AllBounded coefs ⌝ }
+    requires { ⌜ AllBounded coefficients ⌝ }
     requires { ⌜ k < 8 ⌝ }
-    requires { ⌜ best ≡ candidateOf (candidateAt history samples coefs k) ⌝ }
-    ensures { λ r. ⌜ r ≡ candidateAt history samples coefs k ⌝ }
+    requires { ⌜ best ≡ candidateOf (candidateAt history samples coefficients k) ⌝ }
+    ensures { λ r. ⌜ r ≡ candidateAt history samples coefficients k ⌝ }
 {
-    let c0 = coefs[2 * k];
-    let c1 = coefs[2 * k + 1];
+    let c0 = coefficients[2 * k];
+    let c1 = coefficients[2 * k + 1];
     let pass = run_pass(c0, c1, history, samples, best.exponent);
     let nibbles = pass.nibbles;
     let kept = pass.samples;
@@ -148,19 +149,19 @@ fn finish(
 }
 
 // The least distance, the lowest index among equals.
-pub(crate) fn choose(history: History, samples: [i16; 14], coefs: [i16; 16]) -> Best
-    requires { ⌜ AllBounded coefs ⌝ }
-    ensures { λ r. ⌜ r ≡ bestOf history samples coefs 7 ⌝ }
+pub(crate) fn choose(history: History, samples: [i16; 14], coefficients: [i16; 16]) -> Best
+    requires { ⌜ AllBounded coefficients ⌝ }
+    ensures { λ r. ⌜ r ≡ choose history samples coefficients 7 ⌝ }
 {
-    let firsts = first_exponents(history, samples, coefs);
-    let known = lanes_at(history, samples, coefs, firsts, 0);
-    let next = lanes_at(history, samples, coefs, firsts, 1);
-    let mut best = trial(history, samples, coefs, firsts, known, next, 0);
+    let firsts = first_exponents(history, samples, coefficients);
+    let known = lanes_at(history, samples, coefficients, firsts, 0);
+    let next = lanes_at(history, samples, coefficients, firsts, 1);
+    let mut best = trial(history, samples, coefficients, firsts, known, next, 0);
     let mut index: usize = 0;
     let mut passes: u32 = best.passes;
     let mut i: usize = 1;
     while i < 8 {
-        let tried = trial(history, samples, coefs, firsts, known, next, i);
+        let tried = trial(history, samples, coefficients, firsts, known, next, i);
         passes = passes + tried.passes;
         if tried.distance < best.distance {
             best = tried;
@@ -169,7 +170,7 @@ pub(crate) fn choose(history: History, samples: [i16; 14], coefs: [i16; 16]) -> 
         i = i + 1;
     }
     Best {
-        candidate: finish(history, samples, coefs, best, index),
+        candidate: candidate_at(history, samples, coefficients, best, index),
         index: index as u8,
         passes: passes,
     }

@@ -1,18 +1,18 @@
 // The exponent of a frame's first pass.
 ghost use mathlib.Core.Path.{_≡_};
-ghost use Rattle.frame.specs.Estimate.{weighted, difference, larger, isSmall, estimate, halvings, firstExponent};
-use crate::History;
+ghost use Rattle.frame.specs.Estimate.{weigh, difference, largerMagnitude, isSmall, largestDifference, halvings, firstExponent};
 use crate::quantise::magnitude;
+use whole::History;
 
 // c0 * previous + c1 * before.
 pub(crate) fn weigh(c0: i16, c1: i16, previous: i16, before: i16) -> i64
-    ensures { λ r. ⌜ r ≡ weighted c0 c1 previous before ⌝ }
+    ensures { λ r. ⌜ r ≡ weigh c0 c1 previous before ⌝ }
 {
     (c0 as i64) * (previous as i64) + (c1 as i64) * (before as i64)
 }
 
 // How far a sample is from its prediction.
-fn differ(c0: i16, c1: i16, previous: i16, before: i16, sample: i16) -> i16
+fn difference(c0: i16, c1: i16, previous: i16, before: i16, sample: i16) -> i16
     ensures { λ r. ⌜ r ≡ difference c0 c1 previous before sample ⌝ }
 {
     let predicted = whole::quotient_2048(weigh(c0, c1, previous, before));
@@ -20,8 +20,8 @@ fn differ(c0: i16, c1: i16, previous: i16, before: i16, sample: i16) -> i16
 }
 
 // The one of larger magnitude, d among equals.
-fn larger_of(d: i16, e: i16) -> i16
-    ensures { λ r. ⌜ r ≡ larger d e ⌝ }
+fn larger_magnitude(d: i16, e: i16) -> i16
+    ensures { λ r. ⌜ r ≡ largerMagnitude d e ⌝ }
 {
     if magnitude(d as i64) < magnitude(e as i64) {
         return e;
@@ -31,7 +31,7 @@ fn larger_of(d: i16, e: i16) -> i16
 
 // The difference of largest magnitude over the frame's original samples.
 fn largest_difference(c0: i16, c1: i16, history: History, samples: [i16; 14]) -> i16
-    ensures { λ r. ⌜ r ≡ estimate c0 c1 history samples ⌝ }
+    ensures { λ r. ⌜ r ≡ largestDifference c0 c1 history samples ⌝ }
 {
     let mut largest: i16 = 0;
     let mut previous = history.newest;
@@ -39,11 +39,11 @@ fn largest_difference(c0: i16, c1: i16, history: History, samples: [i16; 14]) ->
     let mut i: usize = 0;
     while i < 14 {
         let x = samples[i];
-        let d = differ(c0, c1, previous, before, x);
+        let d = difference(c0, c1, previous, before, x);
         if d < -32767 {
             return d;
         }
-        largest = larger_of(largest, d);
+        largest = larger_magnitude(largest, d);
         before = previous;
         previous = x;
         i = i + 1;
@@ -59,7 +59,7 @@ fn is_small(z: i16) -> bool
 }
 
 // How often d is halved until it is small.
-fn count_halvings(d: i16) -> u8
+fn halvings(d: i16) -> u8
     ensures { λ r. ⌜ r ≡ halvings d ⌝ }
 {
     let mut z = d;
@@ -78,7 +78,7 @@ fn count_halvings(d: i16) -> u8
 pub(crate) fn first_exponent(c0: i16, c1: i16, history: History, samples: [i16; 14]) -> u8
     ensures { λ r. ⌜ r ≡ firstExponent c0 c1 history samples ⌝ }
 {
-    let h = count_halvings(largest_difference(c0, c1, history, samples));
+    let h = halvings(largest_difference(c0, c1, history, samples));
     if h == 0 {
         return 0;
     }

@@ -6,10 +6,10 @@ ghost use lib.Dec.{T};
 ghost use lib.IntN.{natAbs, _-ℤ_, _*ℤ_};
 ghost use lib.Signed.{nonNeg};
 ghost use Rattle.whole.specs.Whole.{clamp16, floored};
-ghost use Rattle.frame.specs.Estimate.{weighted, maxZ};
+ghost use Rattle.frame.specs.Estimate.{weigh, maxZ};
 ghost use Rattle.frame.specs.Quantise.{clamp4};
-ghost use Rattle.frame.specs.Pass.{Bounded, squareOf};
-ghost use Rattle.frame.specs.Lanes.{Unit, Room, finer, isBig, isNear, tracked, held, laneNext};
+ghost use Rattle.frame.specs.Pass.{Bounded, squaredDifference};
+ghost use Rattle.frame.specs.inner.Lanes.{PowerOfTwo, LaneRoom, finer, isBig, isNear, track, clampWithin, stepLane};
 
 // What a lane carries: the newest and next reconstructed samples, the largest magnitude before the clamp to a nibble, in units of
 // 1 / 2^p (2^30 where the rounding to 24 bits might show), and the sum of squared differences in two halves.
@@ -26,15 +26,15 @@ fn weigh_32(c0: i32, c1: i32, s0: i32, s1: i32) -> i32
     requires { ⌜ Bounded c0 c1 ⌝ }
     requires { ⌜ natAbs s0 ≤ 32768 ⌝ }
     requires { ⌜ natAbs s1 ≤ 32768 ⌝ }
-    ensures { λ r. ⌜ r ≡ weighted c0 c1 s0 s1 ⌝ }
+    ensures { λ r. ⌜ r ≡ weigh c0 c1 s0 s1 ⌝ }
 {
     c0 * s0 + c1 * s1
 }
 
 // D over 2048, with half of u added.
-fn finer_of(d: i32, u: i32) -> i32
+fn finer(d: i32, u: i32) -> i32
     requires { ⌜ natAbs d ≤ 2080374784 ⌝ }
-    requires { ⌜ Unit u ⌝ }
+    requires { ⌜ PowerOfTwo u ⌝ }
     ensures { λ r. ⌜ r ≡ finer d u ⌝ }
 {
     if 0 < d {
@@ -53,7 +53,7 @@ fn is_big(d: i32) -> bool
 // Whether v is next to a multiple of u.
 fn is_near(v: i32, u: i32) -> bool
     requires { ⌜ natAbs v ≤ 2097152 ⌝ }
-    requires { ⌜ Unit u ⌝ }
+    requires { ⌜ PowerOfTwo u ⌝ }
     ensures { λ r. ⌜ r ≡ isNear v u ⌝ }
 {
     (((v + 2097153) as u32) & ((u - 1) as u32)) < 2
@@ -62,7 +62,7 @@ fn is_near(v: i32, u: i32) -> bool
 // Whether the rounding of d to 24 bits might show.
 fn is_unsure(d: i32, v: i32, u: i32) -> bool
     requires { ⌜ natAbs v ≤ 2097152 ⌝ }
-    requires { ⌜ Unit u ⌝ }
+    requires { ⌜ PowerOfTwo u ⌝ }
     ensures { λ r. ⌜ r ≡ (isBig d && isNear v u) ⌝ }
 {
     is_big(d) && is_near(v, u)
@@ -71,8 +71,8 @@ fn is_unsure(d: i32, v: i32, u: i32) -> bool
 // v's magnitude, or 2^30 where the rounding of d to 24 bits might show.
 fn track(d: i32, v: i32, u: i32) -> i32
     requires { ⌜ natAbs v ≤ 2097152 ⌝ }
-    requires { ⌜ Unit u ⌝ }
-    ensures { λ r. ⌜ r ≡ tracked d v u ⌝ }
+    requires { ⌜ PowerOfTwo u ⌝ }
+    ensures { λ r. ⌜ r ≡ track d v u ⌝ }
 {
     if is_unsure(d, v, u) {
         return 1073741824;
@@ -84,10 +84,10 @@ fn track(d: i32, v: i32, u: i32) -> i32
 }
 
 // x, or the nearer end of 0..most.
-fn hold(x: i32, most: i32) -> u32
+fn clamp_within(x: i32, most: i32) -> u32
     requires { ⌜ natAbs x ≤ 4194304 ⌝ }
     requires { ⌜ T (nonNeg most) ⌝ }
-    ensures { λ r. ⌜ r ≡ held x most ⌝ }
+    ensures { λ r. ⌜ r ≡ clampWithin x most ⌝ }
 {
     if x < 0 {
         return 0;
@@ -101,10 +101,10 @@ fn hold(x: i32, most: i32) -> u32
 // The nibble times u: v clamped to -8u..8u-1 and rounded down to a multiple of u.
 fn nibble_part(v: i32, u: i32) -> i32
     requires { ⌜ natAbs v ≤ 2097152 ⌝ }
-    requires { ⌜ Unit u ⌝ }
+    requires { ⌜ PowerOfTwo u ⌝ }
     ensures { λ r. ⌜ r ≡ clamp4 (floored v (natAbs u)) *ℤ u ⌝ }
 {
-    let t = hold(v + 8 * u, 16 * u - 1);
+    let t = clamp_within(v + 8 * u, 16 * u - 1);
     let low = t & ((u - 1) as u32);
     ((t - low) as i32) - 8 * u
 }
@@ -146,7 +146,7 @@ fn apart(x: i32, y: i32) -> u32
 // The squared difference.
 fn square_32(x: i32, y: i32) -> u32
     requires { ⌜ natAbs (x -ℤ y) ≤ 65535 ⌝ }
-    ensures { λ r. ⌜ r ≡ squareOf x y ⌝ }
+    ensures { λ r. ⌜ r ≡ squaredDifference x y ⌝ }
 {
     let d = apart(x, y);
     d * d
@@ -155,14 +155,14 @@ fn square_32(x: i32, y: i32) -> u32
 // One sample more.
 pub(crate) fn step_lane(lane: Lane, c0: i32, c1: i32, u: i32, x: i16) -> Lane
     requires { ⌜ Bounded c0 c1 ⌝ }
-    requires { ⌜ Unit u ⌝ }
-    requires { ⌜ Room lane ⌝ }
-    ensures { λ r. ⌜ r ≡ laneNext c0 c1 u lane x ⌝ }
+    requires { ⌜ PowerOfTwo u ⌝ }
+    requires { ⌜ LaneRoom lane ⌝ }
+    ensures { λ r. ⌜ r ≡ stepLane c0 c1 u lane x ⌝ }
 {
     let q = weigh_32(c0, c1, lane.s0, lane.s1);
     let wide = x as i32;
     let d = 2048 * wide - q;
-    let v = finer_of(d, u);
+    let v = finer(d, u);
     let s = clamp_32(((q + 1024) >> 11) + nibble_part(v, u));
     let e = square_32(wide, s);
     let top = larger_32(lane.top, track(d, v, u));

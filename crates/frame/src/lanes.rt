@@ -4,10 +4,10 @@ ghost use Prim.Native.Nat.{ℕ, _+_, _<_, _≤_, _^_};
 ghost use lib.IntN.{pos};
 ghost use lib.ListN.{getD};
 ghost use Rattle.frame.specs.Choice.{c0At, c1At};
-ghost use Rattle.frame.specs.Lanes.{Empty, Room, Ready, laneAt, laneStart, laneStep, laneAfter};
-use crate::History;
+ghost use Rattle.frame.specs.inner.Lanes.{Empty, LaneRoom, Ready, laneAt, laneStart, laneStep, laneAfter};
 use crate::lane::Lane;
 use crate::lane::step_lane;
+use whole::History;
 
 // The eight lanes, field by field.
 pub(crate) struct Lanes {
@@ -27,7 +27,7 @@ pub(crate) struct Pairs {
 // One sample more in every lane.
 fn step_lanes(t: Lanes, pairs: Pairs, units: [i32; 8], x: i16) -> Lanes
     requires { ⌜ Ready pairs units ⌝ }
-    requires { ⌜ ((k : ℕ) → k < 8 → Room (laneAt t k)) ⌝ }
+    requires { ⌜ ((k : ℕ) → k < 8 → LaneRoom (laneAt t k)) ⌝ }
     ensures { λ r. ⌜ ((k : ℕ) → k < 8 → laneAt r k ≡ laneStep pairs units t x k) ⌝ }
 {
     let c0 = pairs.c0;
@@ -104,15 +104,15 @@ pub(crate) fn run_lanes(start: Lanes, pairs: Pairs, units: [i32; 8], samples: [i
 }
 
 // c0 and c1 of each pair.
-pub(crate) fn split(coefs: [i16; 16]) -> Pairs
-    ensures { λ r. ⌜ ((k : ℕ) → k < 8 → (getD (r .c0) k (pos 0) ≡ c0At coefs k) × (getD (r .c1) k (pos 0) ≡ c1At coefs k)) ⌝ }
+pub(crate) fn split(coefficients: [i16; 16]) -> Pairs
+    ensures { λ r. ⌜ ((k : ℕ) → k < 8 → (getD (r .c0) k (pos 0) ≡ c0At coefficients k) × (getD (r .c1) k (pos 0) ≡ c1At coefficients k)) ⌝ }
 {
     let mut c0 = [0i32; 8];
     let mut c1 = [0i32; 8];
     let mut k: usize = 0;
     while k < 8 {
-        let a = coefs[2 * k];
-        let b = coefs[2 * k + 1];
+        let a = coefficients[2 * k];
+        let b = coefficients[2 * k + 1];
         c0[k] = a as i32;
         c1[k] = b as i32;
         k = k + 1;

@@ -3,7 +3,7 @@ ghost use mathlib.Core.Path.{_≡_};
 ghost use Prim.Native.Nat.{_≤_};
 ghost use lib.IntN.{natAbs};
 ghost use Rattle.frame.specs.Choice.{AllBounded};
-ghost use Rattle.frame.specs.Frame.{encodeFrame, encodeOneFrame, historyAfter, pairWithin, numberOf, withinLimits};
+ghost use Rattle.frame.specs.Frame.{code, coefficientsOk, effect, encodeFrame, encodeOneFrame, historyAfter, pairOk};
 
 mod choice;
 mod estimate;
@@ -17,13 +17,7 @@ mod search;
 use choice::choose;
 use nibbles::pack_frame;
 use quantise::magnitude;
-
-// The two samples before a frame.
-#[repr(C)]
-pub struct History {
-    pub newest: i16,
-    pub older: i16,
-}
+use whole::History;
 
 // A frame's eight bytes, the passes over all eight candidates, and the samples that the bytes play.
 pub struct EncodedFrame {
@@ -37,6 +31,7 @@ pub enum Refusal {
     CoefficientOutside,
 }
 
+// Whether a frame was encoded.
 pub enum Verdict {
     Encoded,
     Refused(Refusal),
@@ -52,20 +47,20 @@ pub struct OneFrame {
 
 // Whether c0 is within 4096 and c1 within 2048 of zero.
 fn pair_ok(c0: i16, c1: i16) -> bool
-    ensures { λ r. ⌜ r ≡ pairWithin c0 c1 ⌝ }
+    ensures { λ r. ⌜ r ≡ pairOk c0 c1 ⌝ }
 {
     magnitude(c0 as i64) <= 4096 && magnitude(c1 as i64) <= 2048
 }
 
 // Whether every pair is within the limits of code 7.
-pub fn coefficients_ok(coefs: [i16; 16]) -> bool
-    ensures { λ r. ⌜ r ≡ withinLimits coefs ⌝ }
+pub fn coefficients_ok(coefficients: [i16; 16]) -> bool
+    ensures { λ r. ⌜ r ≡ coefficientsOk coefficients ⌝ }
 {
     let mut ok = true;
     let mut i: usize = 0;
     while i < 8 {
-        let c0 = coefs[2 * i];
-        let c1 = coefs[2 * i + 1];
+        let c0 = coefficients[2 * i];
+        let c1 = coefficients[2 * i + 1];
         let good = pair_ok(c0, c1);
         if !good {
             ok = false;
@@ -76,11 +71,11 @@ pub fn coefficients_ok(coefs: [i16; 16]) -> bool
 }
 
 // The frame of fourteen samples after `history`, padding zeros among them. It is internal: crate clip calls it.
-pub fn encode_frame(history: History, samples: [i16; 14], coefs: [i16; 16]) -> EncodedFrame
-    requires { ⌜ AllBounded coefs ⌝ }
-    ensures { λ r. ⌜ r ≡ encodeFrame history samples coefs ⌝ }
+pub fn encode_frame(history: History, samples: [i16; 14], coefficients: [i16; 16]) -> EncodedFrame
+    requires { ⌜ AllBounded coefficients ⌝ }
+    ensures { λ r. ⌜ r ≡ encodeFrame history samples coefficients ⌝ }
 {
-    let best = choose(history, samples, coefs);
+    let best = choose(history, samples, coefficients);
     let candidate = best.candidate;
     let nibbles = candidate.nibbles;
     let kept = candidate.samples;
@@ -115,10 +110,10 @@ pub fn history_after(history: History, samples: [i16; 14], m: usize) -> History
 }
 
 // Encodes one frame, or refuses its coefficients.
-pub fn encode_one_frame(history: History, samples: [i16; 14], coefs: [i16; 16]) -> OneFrame
-    ensures { λ r. ⌜ r ≡ encodeOneFrame history samples coefs ⌝ }
+pub fn encode_one_frame(history: History, samples: [i16; 14], coefficients: [i16; 16]) -> OneFrame
+    ensures { λ r. ⌜ effect r ≡ encodeOneFrame history samples coefficients ⌝ }
 {
-    if !coefficients_ok(coefs) {
+    if !coefficients_ok(coefficients) {
         return OneFrame {
             verdict: Verdict::Refused(Refusal::CoefficientOutside),
             bytes: [0u8; 8],
@@ -126,7 +121,7 @@ pub fn encode_one_frame(history: History, samples: [i16; 14], coefs: [i16; 16]) 
             history: history,
         };
     }
-    let frame = encode_frame(history, samples, coefs);
+    let frame = encode_frame(history, samples, coefficients);
     let bytes = frame.bytes;
     let kept = frame.samples;
     OneFrame {
@@ -139,7 +134,7 @@ pub fn encode_one_frame(history: History, samples: [i16; 14], coefs: [i16; 16]) 
 
 // Document 01's number of a refusal.
 pub fn code(refusal: Refusal) -> u32
-    ensures { λ r. ⌜ r ≡ numberOf refusal ⌝ }
+    ensures { λ r. ⌜ r ≡ code refusal ⌝ }
 {
     match refusal {
         Refusal::CoefficientOutside => 7,

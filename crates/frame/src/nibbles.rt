@@ -3,13 +3,14 @@ ghost use mathlib.Core.Path.{_≡_};
 ghost use Prim.Native.Nat.{ℕ, _<_};
 ghost use lib.IntN.{pos};
 ghost use lib.ListN.{getD};
-ghost use Rattle.frame.specs.Frame.{low4, packed, InNibble};
+ghost use Rattle.frame.specs.Frame.{lowFour, packFrame};
+ghost use Rattle.frame.specs.inner.Nibbles.{InNibble};
 
 // The four bits of a nibble.
 fn low_four(n: i8) -> u8
     requires { ⌜ InNibble n ⌝ }
-    ensures { λ r. ⌜ r ≡ low4 n ⌝ }
-    ensures { λ r. ⌜ r < 16 ⌝ }
+    ensures bits { λ r. ⌜ r ≡ lowFour n ⌝ }
+    ensures small { λ r. ⌜ r < 16 ⌝ }
 {
     if n < 0 {
         return (n as i64 + 16) as u8;
@@ -20,7 +21,7 @@ fn low_four(n: i8) -> u8
 // The header and seven bytes, high nibble first.
 pub(crate) fn pack_frame(header: u8, nibbles: [i8; 14]) -> [u8; 8]
     requires { ⌜ ((k : ℕ) → k < 14 → InNibble (getD nibbles k (pos 0))) ⌝ }
-    ensures { λ r. ⌜ r ≡ packed header nibbles 7 ⌝ }
+    ensures { λ r. ⌜ r ≡ packFrame header nibbles 7 ⌝ }
 {
     let mut out = [0u8; 8];
     out[0] = header;

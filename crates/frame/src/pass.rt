@@ -2,12 +2,12 @@
 ghost use mathlib.Core.Path.{_≡_};
 ghost use Prim.Native.Nat.{_≤_, _^_, max};
 ghost use lib.IntN.{pos};
-ghost use Rattle.frame.specs.Pass.{Bounded, stepOf, squareOf, passOf};
-use crate::History;
+ghost use Rattle.frame.specs.Pass.{Bounded, codeSample, squaredDifference, runPass};
 use crate::estimate::weigh;
 use crate::quantise::clamp_4;
 use crate::quantise::excess;
 use crate::quantise::quantise;
+use whole::History;
 
 // One sample: its nibble, the reconstructed sample, and how far the nibble was out of range.
 pub(crate) struct Step {
@@ -36,7 +36,7 @@ fn power_of(p: u8) -> i64
 fn code_sample(c0: i16, c1: i16, s0: i16, s1: i16, x: i16, p: u8) -> Step
     requires { ⌜ Bounded c0 c1 ⌝ }
     requires { ⌜ p ≤ 12 ⌝ }
-    ensures { λ r. ⌜ r ≡ stepOf c0 c1 s0 s1 x p ⌝ }
+    ensures { λ r. ⌜ r ≡ codeSample c0 c1 s0 s1 x p ⌝ }
 {
     let q = weigh(c0, c1, s0, s1);
     let d = 2048 * (x as i64) - q;
@@ -52,13 +52,14 @@ fn code_sample(c0: i16, c1: i16, s0: i16, s1: i16, x: i16, p: u8) -> Step
 }
 
 // The squared difference.
-fn square(x: i16, y: i16) -> u64
-    ensures { λ r. ⌜ r ≡ squareOf x y ⌝ }
+fn squared_difference(x: i16, y: i16) -> u64
+    ensures { λ r. ⌜ r ≡ squaredDifference x y ⌝ }
 {
     let d = (x as i64) - (y as i64);
     (d * d) as u64
 }
 
+// The larger one.
 fn max_of(x: u64, y: u64) -> u64
     ensures { λ r. ⌜ r ≡ max x y ⌝ }
 {
@@ -69,7 +70,7 @@ fn max_of(x: u64, y: u64) -> u64
 pub(crate) fn run_pass(c0: i16, c1: i16, history: History, samples: [i16; 14], p: u8) -> Pass
     requires { ⌜ Bounded c0 c1 ⌝ }
     requires { ⌜ p ≤ 12 ⌝ }
-    ensures { λ r. ⌜ r ≡ passOf c0 c1 history samples p ⌝ }
+    ensures { λ r. ⌜ r ≡ runPass c0 c1 history samples p ⌝ }
 {
     let mut nibbles = [0i8; 14];
     let mut kept = [0i16; 14];
@@ -86,7 +87,7 @@ pub(crate) fn run_pass(c0: i16, c1: i16, history: History, samples: [i16; 14], p
         nibbles[i] = n;
         kept[i] = s;
         overflow = max_of(overflow, step.overflow);
-        distance = distance + square(x, s);
+        distance = distance + squared_difference(x, s);
         s1 = s0;
         s0 = s;
         i = i + 1;

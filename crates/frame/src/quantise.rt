@@ -3,7 +3,7 @@ ghost use mathlib.Core.Path.{_≡_};
 ghost use Prim.Native.Nat.{_<_, _≤_, _*_, _^_};
 ghost use lib.Ieee.Nearest.{closest};
 ghost use lib.IntN.{natAbs, _-ℤ_};
-ghost use Rattle.frame.specs.Quantise.{round24, scale, nearestDown, signed, quantised, clamp4};
+ghost use Rattle.frame.specs.Quantise.{round24, scale, nearestDown, withSign, quantise, clamp4};
 
 // |z|.
 pub(crate) fn magnitude(z: i64) -> u64
@@ -19,7 +19,7 @@ pub(crate) fn magnitude(z: i64) -> u64
 // n with the sign of z.
 fn with_sign(z: i64, n: u64) -> i64
     requires { ⌜ n ≤ 4294967296 ⌝ }
-    ensures { λ r. ⌜ r ≡ signed z n ⌝ }
+    ensures { λ r. ⌜ r ≡ withSign z n ⌝ }
 {
     if z < 0 {
         return 0 - (n as i64);
@@ -51,7 +51,7 @@ fn round_24(m: u64) -> u64
 // D to 24 significant bits.
 fn rounded(d: i64) -> i64
     requires { ⌜ natAbs d ≤ 2147483648 ⌝ }
-    ensures { λ r. ⌜ r ≡ signed d (round24 (natAbs d)) ⌝ }
+    ensures { λ r. ⌜ r ≡ withSign d (round24 (natAbs d)) ⌝ }
 {
     let m = magnitude(d);
     if m < 16777216 {
@@ -64,7 +64,7 @@ fn rounded(d: i64) -> i64
 fn nearest(d: i64, p: u8) -> i64
     requires { ⌜ natAbs d ≤ 4294967296 ⌝ }
     requires { ⌜ p ≤ 12 ⌝ }
-    ensures { λ r. ⌜ r ≡ signed d (nearestDown (natAbs d) (scale p)) ⌝ }
+    ensures { λ r. ⌜ r ≡ withSign d (nearestDown (natAbs d) (scale p)) ⌝ }
 {
     let half = 1024 * (1i64 << p);
     if 0 < d {
@@ -77,7 +77,7 @@ fn nearest(d: i64, p: u8) -> i64
 pub(crate) fn quantise(d: i64, p: u8) -> i64
     requires { ⌜ natAbs d ≤ 2147483648 ⌝ }
     requires { ⌜ p ≤ 12 ⌝ }
-    ensures { λ r. ⌜ r ≡ quantised d p ⌝ }
+    ensures { λ r. ⌜ r ≡ quantise d p ⌝ }
 {
     nearest(rounded(d), p)
 }

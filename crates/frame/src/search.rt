@@ -2,11 +2,11 @@
 ghost use mathlib.Core.Path.{_≡_};
 ghost use Prim.Native.Nat.{_≤_, _<_, _+_};
 ghost use Rattle.frame.specs.Estimate.{firstExponent};
-ghost use Rattle.frame.specs.Pass.{Bounded, passOf};
-ghost use Rattle.frame.specs.Search.{raised, ends, tryCoefficients};
-ghost use Rattle.frame.specs.Lanes.{Tells, seenIn, candidateOf};
-use crate::History;
+ghost use Rattle.frame.specs.Pass.{Bounded, runPass};
+ghost use Rattle.frame.specs.Search.{raise, isLast, tryCoefficients};
+ghost use Rattle.frame.specs.inner.Lanes.{Tells, figures, candidateOf};
 use crate::pass::run_pass;
+use whole::History;
 
 // A candidate, and what a pass at its exponent gives.
 pub(crate) struct Coded {
@@ -25,7 +25,7 @@ pub(crate) struct Candidate {
 }
 
 // What the search asks of a pass, and whether it is known.
-pub(crate) struct Seen {
+pub(crate) struct Figures {
     pub overflow: u64,
     pub distance: u64,
     pub sure: bool,
@@ -35,7 +35,7 @@ pub(crate) struct Seen {
 fn raise(first: u8, overflow: u64) -> u8
     requires { ⌜ first ≤ 12 ⌝ }
     requires { ⌜ overflow ≤ 4294967288 ⌝ }
-    ensures { λ r. ⌜ r ≡ raised overflow first ⌝ }
+    ensures { λ r. ⌜ r ≡ raise overflow first ⌝ }
 {
     let mut p = first;
     let mut y = overflow + 8;
@@ -52,19 +52,19 @@ fn raise(first: u8, overflow: u64) -> u8
 
 // Whether a pass ends the search.
 fn is_last(p: u8, overflow: u64) -> bool
-    ensures { λ r. ⌜ r ≡ ends p overflow ⌝ }
+    ensures { λ r. ⌜ r ≡ isLast p overflow ⌝ }
 {
     p == 12 || overflow <= 1
 }
 
 // What is seen of a pass that is run.
-fn plain(c0: i16, c1: i16, history: History, samples: [i16; 14], p: u8) -> Seen
+fn pass_figures(c0: i16, c1: i16, history: History, samples: [i16; 14], p: u8) -> Figures
     requires { ⌜ Bounded c0 c1 ⌝ }
     requires { ⌜ p ≤ 12 ⌝ }
-    ensures { λ r. ⌜ r ≡ seenIn (passOf c0 c1 history samples p) ⌝ }
+    ensures { λ r. ⌜ r ≡ figures (runPass c0 c1 history samples p) ⌝ }
 {
     let pass = run_pass(c0, c1, history, samples, p);
-    Seen {
+    Figures {
         overflow: pass.overflow,
         distance: pass.distance,
         sure: true,
@@ -72,21 +72,21 @@ fn plain(c0: i16, c1: i16, history: History, samples: [i16; 14], p: u8) -> Seen
 }
 
 // What is seen of a pass: known at the first exponent and the next, unless it is not sure.
-fn look(
+fn known_figures(
     c0: i16,
     c1: i16,
     history: History,
     samples: [i16; 14],
     p: u8,
     first: u8,
-    known: Seen,
-    next: Seen,
-) -> Seen
+    known: Figures,
+    next: Figures,
+) -> Figures
     requires { ⌜ Bounded c0 c1 ⌝ }
     requires { ⌜ (p ≤ 12) × (first ≤ 11) ⌝ }
     requires { ⌜ Tells c0 c1 history samples first known ⌝ }
     requires { ⌜ Tells c0 c1 history samples (first + 1) next ⌝ }
-    ensures { λ r. ⌜ r ≡ seenIn (passOf c0 c1 history samples p) ⌝ }
+    ensures { λ r. ⌜ r ≡ figures (runPass c0 c1 history samples p) ⌝ }
 {
     if p == first && known.sure {
         return known;
@@ -94,7 +94,7 @@ fn look(
     if p == first + 1 && next.sure {
         return next;
     }
-    plain(c0, c1, history, samples, p)
+    pass_figures(c0, c1, history, samples, p)
 }
 
 // Passes at rising exponents: the first that meets the test ends the search.
@@ -104,8 +104,8 @@ pub(crate) fn try_coefficients(
     history: History,
     samples: [i16; 14],
     first: u8,
-    known: Seen,
-    next: Seen,
+    known: Figures,
+    next: Figures,
 ) -> Candidate
     requires { ⌜ Bounded c0 c1 ⌝ }
     requires { ⌜ first ≡ firstExponent c0 c1 history samples ⌝ }
@@ -116,7 +116,7 @@ pub(crate) fn try_coefficients(
     let mut p = first;
     let mut passes: u32 = 0;
     loop {
-        let pass = look(c0, c1, history, samples, p, first, known, next);
+        let pass = known_figures(c0, c1, history, samples, p, first, known, next);
         passes = passes + 1;
         let q = raise(p, pass.overflow);
         if is_last(q, pass.overflow) {

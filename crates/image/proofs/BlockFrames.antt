@@ -7,24 +7,25 @@ use native.Mathlib.Omega.{arith}
 use borrow.Author.Tests.{eq-eqb, ne-eqb}
 use lib.ListN.{getD}
 use Rattle.block.specs.Context.{withHeader}
-use Rattle.block.specs.Frame.{Playing, playing, playFrame}
-use Rattle.block.specs.Play.{takeHeader, play, playFrames}
+use Rattle.block.specs.Frame.{Playing, playing}
+use Rattle.block.specs.inner.Frames.{playFrame, playFrames}
+use Rattle.block.specs.Play.{takeHeader, play}
 use Rattle.block.proofs.LawsPlay.{onto, frame-onto, repeats}
-use Rattle.layout.specs.Sizes.{offsetOf}
-use Rattle.layout.proofs.Sizing.{block-place}
-use Rattle.image.specs.Reading.{totalIn, blockIn, coefficientsIn, offsetIn, lengthIn}
-use Rattle.image.specs.Facts.{Found}
+use Rattle.layout.specs.Sizes.{blockOffset}
+use Rattle.layout.proofs.SizeLaws.{block-place}
+use Rattle.image.specs.Reading.{shapeIn, totalIn, blockIn, coefficientsIn, offsetIn, lengthIn}
+use Rattle.image.specs.inner.Asked.{Found}
 use Rattle.image.specs.Bodies.{bodyIn}
-use Rattle.image.specs.Samples.{contextIn}
-use Rattle.image.specs.Frames.{countOf, frameIn, contextBefore, framesIn}
+use Rattle.image.specs.Playing.{contextIn}
+use Rattle.image.specs.inner.ByFrames.{frameSamples, framePlaceIn, contextBefore, framesIn}
 use Rattle.image.specs.Sameness.{blockSamples}
 use Rattle.image.proofs.FramePlaces.{count-whole}
 use Rattle.image.proofs.LawsBody.{found-offset, found-length}
 use Rattle.image.proofs.Parts.{part-at, frame-part}
-use Rattle.image.proofs.Shapes.{Shape, shape}
+use Rattle.image.proofs.BlockShape.{BlockShape, block-shape}
 
 -- the turn of a frame
-pub frames-next : (l : List ℕ) (i : ℕ) → framesIn l (suc i) ≡ playFrame l (frameIn l i) (countOf (totalIn l) i) (coefficientsIn l) (playing (contextBefore l i (framesIn l i .context)) (framesIn l i .samples))
+pub frames-next : (l : List ℕ) (i : ℕ) → framesIn l (suc i) ≡ playFrame l (framePlaceIn l i) (frameSamples (totalIn l) i) (coefficientsIn l) (playing (contextBefore l i (framesIn l i .context)) (framesIn l i .samples))
 unfolding framesIn
 frames-next l i = refl
 
@@ -33,8 +34,8 @@ module _ (l : List ℕ) (j : ℕ) (f : Found l j) where
   abbrev first : ℕ
   first = j * (blockIn l / 8)
 
-  abbrev S : Shape (totalIn l) (blockIn l) j
-  S = shape (totalIn l) (blockIn l) (f .opens .head .limits) j (f .block)
+  abbrev S : BlockShape (shapeIn l) j
+  S = block-shape (shapeIn l) (f .opens .head .limits) j (f .block)
 
   per-some : 0 < blockIn l / 8
   per-some = let w = f .opens .head .limits .wide in omega arith
@@ -44,8 +45,8 @@ module _ (l : List ℕ) (j : ℕ) (f : Found l j) where
   after s = playFrames (bodyIn l j) (coefficientsIn l) s (playing (contextIn l j) [])
 
   -- where the block's frame s stands
-  place : (s : ℕ) → offsetIn l j + 8 * s ≡ frameIn l (first + s)
-  unfolding frameIn offsetOf
+  place : (s : ℕ) → offsetIn l j + 8 * s ≡ framePlaceIn l (first + s)
+  unfolding framePlaceIn blockOffset
   place s =
       let e = found-offset l j f in
       let p = block-place (blockIn l) j (f .opens .head .limits .eights) in
@@ -55,13 +56,13 @@ module _ (l : List ℕ) (j : ℕ) (f : Found l j) where
   split = found-length l j f ∙ S .split
 
   read-frame : (s count : ℕ) (p : Playing) → 16 * s + 2 + count ≤ lengthIn l j
-      → playFrame l (frameIn l (first + s)) count (coefficientsIn l) p ≡ playFrame (bodyIn l j) (8 * s) count (coefficientsIn l) p
+      → playFrame l (framePlaceIn l (first + s)) count (coefficientsIn l) p ≡ playFrame (bodyIn l j) (8 * s) count (coefficientsIn l) p
   unfolding bodyIn
   read-frame s count p h =
       ap (λ (x : ℕ). playFrame l x count (coefficientsIn l) p) (sym (place s))
       ∙ sym (frame-part l (offsetIn l j) ((lengthIn l j + 1) / 2) (8 * s) count (coefficientsIn l) p (omega arith))
 
-  read-header : (s : ℕ) → 16 * s + 1 ≤ lengthIn l j → getD (bodyIn l j) (16 * s / 2) 0 ≡ getD l (frameIn l (first + s)) 0
+  read-header : (s : ℕ) → 16 * s + 1 ≤ lengthIn l j → getD (bodyIn l j) (16 * s / 2) 0 ≡ getD l (framePlaceIn l (first + s)) 0
   unfolding bodyIn
   read-header s h =
       let e : 16 * s / 2 ≡ 8 * s = omega arith in
@@ -84,12 +85,12 @@ module _ (l : List ℕ) (j : ℕ) (f : Found l j) where
       (rw z (sym (append-nil (framesIn l first .samples))), rw (z, eq-eqb (first % (blockIn l / 8)) 0 m, d))
 
   -- one frame more, of any count
-  turn : (s count : ℕ) → At s → countOf (totalIn l) (first + s) ≡ count → 16 * s + 2 + count ≤ lengthIn l j
+  turn : (s count : ℕ) → At s → frameSamples (totalIn l) (first + s) ≡ count → 16 * s + 2 + count ≤ lengthIn l j
       → framesIn l (suc (first + s)) ≡ onto (framesIn l first .samples) (playFrame (bodyIn l j) (8 * s) count (coefficientsIn l) (after s))
   turn s count a e h =
       frames-next l (first + s)
       ∙ rw (e, a .0, a .1) refl
-      ∙ frame-onto l (frameIn l (first + s)) count (coefficientsIn l) (framesIn l first .samples) (after s)
+      ∙ frame-onto l (framePlaceIn l (first + s)) count (coefficientsIn l) (framesIn l first .samples) (after s)
       ∙ ap (onto (framesIn l first .samples)) (read-frame s count (after s) h)
 
   at-next : (s : ℕ) → s < S .wholes → At s → At (suc s)
@@ -99,7 +100,7 @@ module _ (l : List ℕ) (j : ℕ) (f : Found l j) where
       let i = S .inside in
       let r = S .two in
       let n = split in
-      let c : countOf (totalIn l) (first + s) ≡ 14 = count-whole (totalIn l) (first + s) (omega arith) in
+      let c : frameSamples (totalIn l) (first + s) ≡ 14 = count-whole (totalIn l) (first + s) (omega arith) in
       let t = turn s 14 a c (omega arith) in
       let k : first + suc s ≡ suc (first + s) = add-suc first s in
       let m : (first + suc s) % (blockIn l / 8) ≡ suc s = mul-add-mod-self-right j (blockIn l / 8) (suc s) ∙ mod-eq-of-lt (omega arith) in

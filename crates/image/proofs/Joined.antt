@@ -6,18 +6,19 @@ use native.Mathlib.Omega.{arith}
 use lib.IntN.{ℤ}
 use lib.ListN.{length, take}
 use lib.Seq.{take-length, take-append-le}
-use Rattle.block.specs.Frame.{Playing, playing, playFrame}
+use Rattle.block.specs.Frame.{Playing, playing}
+use Rattle.block.specs.inner.Frames.{playFrame}
 use Rattle.block.proofs.LawsPlay.{onto, frame-onto, frame-count}
-use Rattle.layout.specs.Sizes.{lastOf, blocksOf}
+use Rattle.layout.specs.Sizes.{lastSamples, blockCount}
 use Rattle.whole.specs.Frames.{framesOf}
-use Rattle.layout.proofs.Sizing.{blocks-all, frames-some, block-first}
-use Rattle.image.specs.Reading.{totalIn, blockIn, coefficientsIn}
-use Rattle.image.specs.Facts.{Opens, Found}
-use Rattle.image.specs.Frames.{countOf, frameIn, contextBefore, framesIn}
+use Rattle.layout.proofs.SizeLaws.{blocks-all, frames-some, block-first}
+use Rattle.image.specs.Reading.{shapeIn, totalIn, blockIn, coefficientsIn}
+use Rattle.image.specs.inner.Asked.{Opens, Found}
+use Rattle.image.specs.inner.ByFrames.{frameSamples, framePlaceIn, contextBefore, framesIn}
 use Rattle.image.specs.Sameness.{blockSamples, samplesFrom, samplesIn}
 use Rattle.image.proofs.BlockFrames.{frames-next, block-frames}
 use Rattle.image.proofs.FramePlaces.{count-whole, count-last}
-use Rattle.image.proofs.Shapes.{shape}
+use Rattle.image.proofs.BlockShape.{block-shape}
 
 -- ---- blocks in turn
 
@@ -31,7 +32,7 @@ samples-snoc l j (suc k) t e =
 
 module _ (l : List ℕ) (o : Opens l) where
   -- the frames of the first j blocks
-  frames-blocks : (j : ℕ) → j ≤ blocksOf (totalIn l) (blockIn l) → framesIn l (min (j * (blockIn l / 8)) (framesOf (totalIn l))) .samples ≡ samplesFrom l 0 j
+  frames-blocks : (j : ℕ) → j ≤ blockCount (shapeIn l) → framesIn l (min (j * (blockIn l / 8)) (framesOf (totalIn l))) .samples ≡ samplesFrom l 0 j
   unfolding framesIn samplesFrom
   frames-blocks zero h =
       let z : min (0 * (blockIn l / 8)) (framesOf (totalIn l)) ≡ 0 = omega arith in
@@ -39,8 +40,8 @@ module _ (l : List ℕ) (o : Opens l) where
   frames-blocks (suc j) h =
       let L = o .head .limits in
       let f : Found l j = record { opens = o; block = omega arith } in
-      let s = shape (totalIn l) (blockIn l) L j (f .block) in
-      let b = block-first (totalIn l) (blockIn l) j L (f .block) in
+      let s = block-shape (shapeIn l) L j (f .block) in
+      let b = block-first (shapeIn l) j L (f .block) in
       let e : min (j * (blockIn l / 8)) (framesOf (totalIn l)) ≡ j * (blockIn l / 8) = omega arith in
       ap (λ (x : ℕ). framesIn l x .samples) (s .ends)
       ∙ block-frames l j f
@@ -51,31 +52,31 @@ module _ (l : List ℕ) (o : Opens l) where
   pub frames-all : framesIn l (framesOf (totalIn l)) .samples ≡ samplesIn l
   unfolding samplesIn
   frames-all =
-      let c = blocks-all (totalIn l) (blockIn l) (o .head .limits) in
-      let e : framesOf (totalIn l) ≡ min (blocksOf (totalIn l) (blockIn l) * (blockIn l / 8)) (framesOf (totalIn l)) = omega arith in
+      let c = blocks-all (shapeIn l) (o .head .limits) in
+      let e : framesOf (totalIn l) ≡ min (blockCount (shapeIn l) * (blockIn l / 8)) (framesOf (totalIn l)) = omega arith in
       ap (λ (x : ℕ). framesIn l x .samples) e
-      ∙ frames-blocks (blocksOf (totalIn l) (blockIn l)) (omega arith)
+      ∙ frames-blocks (blockCount (shapeIn l)) (omega arith)
       ∙ ap (samplesFrom l 0) (sym (o .head .blocks))
 
 -- ---- a frame more
 
 -- frame i alone, after the frames before it
 abbrev pub turnOf : List ℕ → ℕ → Playing
-turnOf l i = playFrame l (frameIn l i) (countOf (totalIn l) i) (coefficientsIn l) (playing (contextBefore l i (framesIn l i .context)) [])
+turnOf l i = playFrame l (framePlaceIn l i) (frameSamples (totalIn l) i) (coefficientsIn l) (playing (contextBefore l i (framesIn l i .context)) [])
 
 pub frames-grow : (l : List ℕ) (i : ℕ) → framesIn l (suc i) ≡ onto (framesIn l i .samples) (turnOf l i)
 frames-grow l i =
     frames-next l i
-    ∙ ap (λ (xs : List ℤ). playFrame l (frameIn l i) (countOf (totalIn l) i) (coefficientsIn l) (playing (contextBefore l i (framesIn l i .context)) xs)) (sym (append-nil (framesIn l i .samples)))
-    ∙ frame-onto l (frameIn l i) (countOf (totalIn l) i) (coefficientsIn l) (framesIn l i .samples) (playing (contextBefore l i (framesIn l i .context)) [])
+    ∙ ap (λ (xs : List ℤ). playFrame l (framePlaceIn l i) (frameSamples (totalIn l) i) (coefficientsIn l) (playing (contextBefore l i (framesIn l i .context)) xs)) (sym (append-nil (framesIn l i .samples)))
+    ∙ frame-onto l (framePlaceIn l i) (frameSamples (totalIn l) i) (coefficientsIn l) (framesIn l i .samples) (playing (contextBefore l i (framesIn l i .context)) [])
 
-pub turn-count : (l : List ℕ) (i : ℕ) → length (turnOf l i .samples) ≡ countOf (totalIn l) i
-turn-count l i = frame-count l (frameIn l i) (countOf (totalIn l) i) (coefficientsIn l) (playing (contextBefore l i (framesIn l i .context)) []) ∙ omega arith
+pub turn-count : (l : List ℕ) (i : ℕ) → length (turnOf l i .samples) ≡ frameSamples (totalIn l) i
+turn-count l i = frame-count l (framePlaceIn l i) (frameSamples (totalIn l) i) (coefficientsIn l) (playing (contextBefore l i (framesIn l i .context)) []) ∙ omega arith
 
-pub frames-more : (l : List ℕ) (i : ℕ) → length (framesIn l (suc i) .samples) ≡ length (framesIn l i .samples) + countOf (totalIn l) i
+pub frames-more : (l : List ℕ) (i : ℕ) → length (framesIn l (suc i) .samples) ≡ length (framesIn l i .samples) + frameSamples (totalIn l) i
 frames-more l i =
     ap (λ (p : Playing). length (p .samples)) (frames-next l i)
-    ∙ frame-count l (frameIn l i) (countOf (totalIn l) i) (coefficientsIn l) (playing (contextBefore l i (framesIn l i .context)) (framesIn l i .samples))
+    ∙ frame-count l (framePlaceIn l i) (frameSamples (totalIn l) i) (coefficientsIn l) (playing (contextBefore l i (framesIn l i .context)) (framesIn l i .samples))
 
 -- the samples of earlier frames stand before those of later ones
 pub frames-prefix : (l : List ℕ) (i d : ℕ) → (take (length (framesIn l i .samples)) (framesIn l (d + i) .samples) ≡ framesIn l i .samples) × (length (framesIn l i .samples) ≤ length (framesIn l (d + i) .samples))
@@ -103,7 +104,7 @@ frames-before l (suc i) h =
 
 -- the samples of an image that opens are N
 pub samples-count : (l : List ℕ) → Opens l → length (samplesIn l) ≡ totalIn l
-unfolding lastOf
+unfolding lastSamples
 samples-count l o =
     let n = totalIn l in
     let s = frames-some n (o .head .limits .some) in

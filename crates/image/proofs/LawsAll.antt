@@ -11,41 +11,39 @@ use lib.ListN.{length, take, drop, length-append, length-drop, drop-of-length-le
 use lib.Seq.{sets, sets-eq, length-sets, take-all, take-append-seam, drop-append-seam, drop-drop}
 use Rattle.block.specs.declared.FrameContext.{FrameContext}
 use Rattle.block.specs.Address.{addressToSample}
-use Rattle.block.specs.Context.{contextOf}
+use Rattle.block.specs.Context.{newContext}
 use Rattle.block.specs.Frame.{Lent, lent}
 use Rattle.block.specs.Play.{playInto}
 use Rattle.block.specs.Refusals.{lowestPair}
-use Rattle.layout.specs.Sizes.{blocksOf}
+use Rattle.layout.specs.Sizes.{blockCount}
 use Rattle.whole.specs.Frames.{framesOf}
-use Rattle.layout.proofs.Sizing.{frames-some, blocks-all}
-use Rattle.image.specs.declared.Answer.the-variants.{Accepted}
-use Rattle.image.specs.declared.PlayAnswer.the-variants as Played
-use Rattle.image.specs.declared.Refusal.the-variants.{OutputTooShort}
-use Rattle.image.specs.Reading.{totalIn, blockIn, blocksIn, coefficientsIn, lengthIn}
-use Rattle.image.specs.Facts.{Opens, Found, Playable, AllPlayable}
+use Rattle.layout.proofs.SizeLaws.{frames-some, blocks-all}
+use Rattle.whole.specs.Outcome.{Outcome, accepted, refused}
+use Rattle.whole.proofs.Outcomes.{failed}
+use Rattle.image.specs.Opening.{openAnswer}
+use Rattle.image.specs.Reading.{shapeIn, totalIn, blockIn, blocksIn, coefficientsIn, lengthIn}
+use Rattle.image.specs.inner.Asked.{Opens, Found, Playable, AllPlayable}
 use Rattle.image.specs.Bodies.{bodyIn}
-use Rattle.image.specs.Samples.{contextIn, Effect, effectOf}
+use Rattle.image.specs.Playing.{contextIn, PlayEffect, playEffect, roomAnswer}
 use Rattle.image.specs.Sameness.{blockSamples, samplesFrom, samplesIn, compareAnswer}
-use Rattle.image.specs.AllBlocks.{allAnswer, contextAfter, allInto, playAllOf}
-use Rattle.image.proofs.Accepting.{failed}
+use Rattle.image.specs.WholeImage.{allAnswer, contextAfter, allInto, playAll, playAllBy}
+use Rattle.image.proofs.OpenImages.{opened, opens}
 use Rattle.image.proofs.Joined.{samples-snoc, samples-count}
-use Rattle.image.proofs.LawsBody.{and-then}
+use Rattle.image.proofs.LawsBody.{room-accepted, room-accepts, and-then}
 use Rattle.image.proofs.LawsPlayed.{block-count}
-use Rattle.image.proofs.LawsSame.{compare-accepted, compare-accepts}
 
 -- ---- what an accepted call tells
 
-pub all-accepted : (l : List ℕ) (room : ℕ) → allAnswer l room ≡ Accepted → AllPlayable l room
+pub all-accepted : (l : List ℕ) (room : ℕ) → allAnswer l room ≡ accepted tt → AllPlayable l room
 unfolding allAnswer
 all-accepted l room p =
-    let a = and-then (compareAnswer l) _ p in
-    let c = compare-accepted l (a .0) in
-    let d = failed (ltb room (totalIn l)) OutputTooShort Accepted (a .1) in
-    record { opens = c .opens; pairs = c .pairs; enough = ltb-false room (totalIn l) (d .0) }
+    let a = and-then (openAnswer l) _ p in
+    let r = room-accepted (coefficientsIn l) (totalIn l) room (a .1) in
+    record { opens = opened l (a .0); pairs = r .0; enough = r .1 }
 
-pub all-accepts : (l : List ℕ) (room : ℕ) → AllPlayable l room → allAnswer l room ≡ Accepted
+pub all-accepts : (l : List ℕ) (room : ℕ) → AllPlayable l room → allAnswer l room ≡ accepted tt
 unfolding allAnswer
-all-accepts l room p = rw (compare-accepts l (record { opens = p .opens; pairs = p .pairs }), le-ltb room (totalIn l) (p .enough))
+all-accepts l room p = rw (opens l (p .opens), room-accepts (coefficientsIn l) (totalIn l) room (p .pairs) (p .enough))
 
 -- ---- runs of stores from the start
 
@@ -85,7 +83,7 @@ module _ (l : List ℕ) (o : Opens l) where
   block-there k h = record { opens = o; block = subst (λ (x : ℕ). k < x) (o .head .blocks) h }
 
   pub blocks-some : 1 ≤ blocksIn l
-  blocks-some = go (blocksOf (totalIn l) (blockIn l)) (o .head .blocks) (blocks-all (totalIn l) (blockIn l) (o .head .limits))
+  blocks-some = go (blockCount (shapeIn l)) (o .head .blocks) (blocks-all (shapeIn l) (o .head .limits))
     where
       go : (k : ℕ) → blocksIn l ≡ k → framesOf (totalIn l) ≤ k * (blockIn l / 8) → 1 ≤ blocksIn l
       go zero e h = let s = frames-some (totalIn l) (o .head .limits .some) in omega (arith, s .0, h)
@@ -107,7 +105,7 @@ module _ (l : List ℕ) (o : Opens l) where
 
 -- the context after the first k blocks
 abbrev pub contextOn : List ℕ → ℕ → FrameContext
-contextOn l zero = contextOf 0 (pos 0) (pos 0)
+contextOn l zero = newContext
 contextOn l (suc k) = contextAfter l k
 
 module _ (l : List ℕ) (out : List ℤ) (p : AllPlayable l (length out)) where
@@ -184,19 +182,24 @@ module _ (l : List ℕ) (out : List ℤ) (p : AllPlayable l (length out)) where
       rw (f, g, z, ← e)
 
   -- an accepted call's effect, with N as it was read
-  pub all-made : (n : ℕ) (x : Lent) → n ≡ totalIn l → x ≡ allInto l out → effectOf (Played.Played n) x ≡ playAllOf l out
-  unfolding playAllOf
+  pub all-made : (n : ℕ) (x : Lent) → n ≡ totalIn l → x ≡ allInto l out → playEffect (accepted n) x ≡ playAll l out
+  unfolding playAll
   all-made n x en e = rw (all-accepts l (length out) p, en, e)
 
-  -- its answer, and the output after it: the samples, and what stood beyond them
-  pub all-answered : playAllOf l out .answer ≡ Played.Played (totalIn l)
-  all-answered = ap (λ (e : Effect). e .answer) (sym (all-made (totalIn l) (allInto l out) refl refl))
+  -- the same of an image that opens
+  pub opened-made : (n : ℕ) (x : Lent) → n ≡ totalIn l → x ≡ allInto l out
+      → playEffect (accepted n) x ≡ playAllBy (roomAnswer (coefficientsIn l) (totalIn l) (length out)) l out
+  opened-made n x en e = rw (en, e, room-accepts (coefficientsIn l) (totalIn l) (length out) (p .pairs) (p .enough))
 
-  pub all-output : playAllOf l out .out ≡ samplesIn l ++ drop (totalIn l) out
+  -- its answer, and the output after it: the samples, and what stood beyond them
+  pub all-answered : playAll l out .outcome ≡ accepted (totalIn l)
+  all-answered = ap (λ (e : PlayEffect). e .outcome) (sym (all-made (totalIn l) (allInto l out) refl refl))
+
+  pub all-output : playAll l out .out ≡ samplesIn l ++ drop (totalIn l) out
   unfolding allInto
   all-output =
       let n = samples-count l (p .opens) in
       let e = p .enough in
-      ap (λ (x : Effect). x .out) (sym (all-made (totalIn l) (allInto l out) refl refl))
+      ap (λ (x : PlayEffect). x .out) (sym (all-made (totalIn l) (allInto l out) refl refl))
       ∙ spread (samplesIn l) out (omega (arith, n, e))
       ∙ ap (λ (k : ℕ). samplesIn l ++ drop k out) n

@@ -10,9 +10,9 @@ use lib.Dec.{eqb}
 use lib.IntN.{ℤ, pos}
 use lib.ListN.{length, getD, take}
 use lib.Seq.{take-suc}
-use Rattle.block.specs.Refusals.{same, equalUpTo}
-use Rattle.block.proofs.LawsRefusals.{same-refl, same-true}
-use Rattle.layout.proofs.Numbers.{both-true}
+use Rattle.block.specs.Refusals.{equal, equalUpTo}
+use Rattle.block.proofs.LawsRefusals.{equal-self, equal-true}
+use Rattle.layout.proofs.LimitLaws.{both-true}
 use Rattle.image.specs.Sameness.{equalSamples}
 
 never : _≡_ {A = Bool} false true → ⊥
@@ -23,7 +23,7 @@ never e = let z : _≡_ {A = ℕ} 0 1 = cc in omega arith
 pub equal-refl : (xs : List ℤ) → equalSamples xs xs ≡ true
 unfolding equalSamples
 equal-refl [] = refl
-equal-refl (x ∷ xs) = rw (same-refl x) (equal-refl xs)
+equal-refl (x ∷ xs) = rw (equal-self x) (equal-refl xs)
 
 pub equal-lists : (xs ys : List ℤ) → equalSamples xs ys ≡ true → xs ≡ ys
 unfolding equalSamples
@@ -31,8 +31,8 @@ equal-lists [] [] e = refl
 equal-lists [] (y ∷ ys) e = absurd (never e)
 equal-lists (x ∷ xs) [] e = absurd (never e)
 equal-lists (x ∷ xs) (y ∷ ys) e =
-    let b = both-true (same x y) _ e in
-    ap₂ (λ (a : ℤ) (l : List ℤ). a ∷ l) (same-true x y (b .0)) (equal-lists xs ys (b .1))
+    let b = both-true (equal x y) _ e in
+    ap₂ (λ (a : ℤ) (l : List ℤ). a ∷ l) (equal-true x y (b .0)) (equal-lists xs ys (b .1))
 
 -- lists that differ
 pub differ : (xs ys : List ℤ) → (xs ≡ ys → ⊥) → equalSamples xs ys ≡ false
@@ -48,12 +48,12 @@ pub upto-none : (xs ys : List ℤ) → equalUpTo xs ys 0 ≡ true
 unfolding equalUpTo
 upto-none xs ys = refl
 
-pub upto-more : (xs ys : List ℤ) (i : ℕ) → equalUpTo xs ys i ≡ true → same (getD xs i (pos 0)) (getD ys i (pos 0)) ≡ true → equalUpTo xs ys (i + 1) ≡ true
+pub upto-more : (xs ys : List ℤ) (i : ℕ) → equalUpTo xs ys i ≡ true → equal (getD xs i (pos 0)) (getD ys i (pos 0)) ≡ true → equalUpTo xs ys (i + 1) ≡ true
 unfolding equalUpTo
 upto-more xs ys i e f = rw (add-one i, e, f)
 
 -- a sample that differs
-pub upto-stops : (xs ys : List ℤ) (i n : ℕ) → i < n → same (getD xs i (pos 0)) (getD ys i (pos 0)) ≡ false → equalUpTo xs ys n ≡ false
+pub upto-stops : (xs ys : List ℤ) (i n : ℕ) → i < n → equal (getD xs i (pos 0)) (getD ys i (pos 0)) ≡ false → equalUpTo xs ys n ≡ false
 unfolding equalUpTo
 upto-stops xs ys i zero h e = absurd (omega arith)
 upto-stops xs ys i (suc n) h e = go (eqb i n) refl (λ lt. upto-stops xs ys i n lt e)
@@ -62,16 +62,16 @@ upto-stops xs ys i (suc n) h e = go (eqb i n) refl (λ lt. upto-stops xs ys i n 
     and-false true = refl
     and-false false = refl
 
-    go : (t : Bool) → eqb i n ≡ t → (i < n → equalUpTo xs ys n ≡ false) → equalUpTo xs ys n && same (getD xs n (pos 0)) (getD ys n (pos 0)) ≡ false
+    go : (t : Bool) → eqb i n ≡ t → (i < n → equalUpTo xs ys n ≡ false) → equalUpTo xs ys n && equal (getD xs n (pos 0)) (getD ys n (pos 0)) ≡ false
     go true s rec =
-        let q : same (getD xs n (pos 0)) (getD ys n (pos 0)) ≡ false = ap (λ (j : ℕ). same (getD xs j (pos 0)) (getD ys j (pos 0))) (sym (eqb-true i n s)) ∙ e in
+        let q : equal (getD xs n (pos 0)) (getD ys n (pos 0)) ≡ false = ap (λ (j : ℕ). equal (getD xs j (pos 0)) (getD ys j (pos 0))) (sym (eqb-true i n s)) ∙ e in
         rw q (and-false (equalUpTo xs ys n))
     go false s rec = let d = eqb-false i n s in rw (rec (omega (arith, d, h)))
 
 pub upto-refl : (xs : List ℤ) (n : ℕ) → equalUpTo xs xs n ≡ true
 unfolding equalUpTo
 upto-refl xs zero = refl
-upto-refl xs (suc n) = rw (upto-refl xs n, same-refl (getD xs n (pos 0)))
+upto-refl xs (suc n) = rw (upto-refl xs n, equal-self (getD xs n (pos 0)))
 
 -- equal first samples are equal first parts
 pub upto-take : (xs ys : List ℤ) (n : ℕ) → n ≤ length xs → n ≤ length ys → equalUpTo xs ys n ≡ true → take n xs ≡ take n ys
@@ -80,5 +80,5 @@ upto-take xs ys zero p q e = refl
 upto-take xs ys (suc n) p q e =
     let b = both-true (equalUpTo xs ys n) _ e in
     take-suc xs n (pos 0) (omega arith)
-    ∙ ap₂ (λ (l : List ℤ) (x : ℤ). l ++ (x ∷ [])) (upto-take xs ys n (omega arith) (omega arith) (b .0)) (same-true (getD xs n (pos 0)) (getD ys n (pos 0)) (b .1))
+    ∙ ap₂ (λ (l : List ℤ) (x : ℤ). l ++ (x ∷ [])) (upto-take xs ys n (omega arith) (omega arith) (b .0)) (equal-true (getD xs n (pos 0)) (getD ys n (pos 0)) (b .1))
     ∙ sym (take-suc ys n (pos 0) (omega arith))

@@ -8,47 +8,36 @@ use lib.ListN.{length, drop}
 use Rattle.block.specs.declared.FrameContext.{FrameContext}
 use Rattle.block.specs.Address.{addressToSample}
 use Rattle.block.specs.Frame.{Lent, lent}
-use Rattle.block.specs.Play.{PlayEffect, playEffect, playBytes, playInto}
-use Rattle.block.specs.Refusals.{Outcome, accepted}
-use Rattle.block.proofs.LawsCalls.{play-done, play-out}
+use Rattle.block.specs.Play.{playInto}
+use Rattle.block.proofs.LawsCalls.{play-out}
 use Rattle.block.proofs.LawsPlay.{play-count}
-use Rattle.image.specs.declared.Answer.the-variants.{Accepted}
-use Rattle.image.specs.declared.PlayAnswer.the-variants as Played
+use Rattle.whole.specs.Outcome.{accepted}
 use Rattle.image.specs.Reading.{coefficientsIn, lengthIn}
-use Rattle.image.specs.Facts.{Found, Playable}
+use Rattle.image.specs.inner.Asked.{Found, Playable}
 use Rattle.image.specs.Bodies.{bodyIn}
-use Rattle.image.specs.Samples.{contextIn, playAnswer, Effect, effectOf, playOf}
+use Rattle.image.specs.Playing.{contextIn, roomAnswer, playAnswer, PlayEffect, playEffect, playBy, play}
 use Rattle.image.specs.Sameness.{blockSamples}
-use Rattle.image.proofs.LawsBody.{play-accepts, found-good, found-some}
+use Rattle.image.proofs.LawsBody.{room-accepts, play-accepts, found-some}
 
 module _ (l : List ℕ) (k : ℕ) (out : List ℤ) (p : Playable l k (length out)) where
   abbrev pub leaves : Lent
   leaves = playInto (bodyIn l k) (coefficientsIn l) (lengthIn l k) (contextIn l k) out
 
   -- an accepted call plays the body as section 4 says
-  pub play-leaves : effectOf (Played.Played (addressToSample (lengthIn l k))) leaves ≡ playOf l k out
-  unfolding playOf
+  pub play-leaves : playEffect (accepted (addressToSample (lengthIn l k))) leaves ≡ play l k out
+  unfolding play
   play-leaves = rw (play-accepts l k (length out) p)
 
-  -- what the call of playing bytes left, with what was read for it
-  pub bytes-made : (n : ℕ) (cs : List ℤ) (c after : FrameContext) (body : List ℕ) (o : Outcome) (left : List ℤ)
-      → n ≡ lengthIn l k → cs ≡ coefficientsIn l → c ≡ contextIn l k → body ≡ bodyIn l k
-      → playEffect o (lent after left) ≡ playBytes body n cs c out → lent after left ≡ leaves
-  bytes-made n cs c after body o left en ec ex eb e =
-      let d : playEffect (accepted (addressToSample (lengthIn l k))) leaves ≡ playBytes (bodyIn l k) (lengthIn l k) (coefficientsIn l) (contextIn l k) out =
-      play-done (bodyIn l k) (lengthIn l k) (coefficientsIn l) (contextIn l k) out (addressToSample (lengthIn l k)) leaves (found-good l k (p .found)) (p .pairs) (p .enough) refl refl in
-      let q : playEffect o (lent after left) ≡ playEffect (accepted (addressToSample (lengthIn l k))) leaves = (rw (en, ec, ex, eb) at e) ∙ sym d in
-      ap (λ (x : PlayEffect). lent (x .context) (x .out)) q
-
-  -- the call's effect, with the count that was worked out
-  pub play-made : (n s : ℕ) (x : Lent) → n ≡ lengthIn l k → s ≡ addressToSample n → x ≡ leaves → effectOf (Played.Played s) x ≡ playOf l k out
-  play-made n s x en es e = rw (es, en, e) play-leaves
+  -- the call's effect on a block that was found, with the count that was worked out
+  pub found-made : (n : ℕ) (x : Lent) → n ≡ addressToSample (lengthIn l k) → x ≡ leaves
+      → playEffect (accepted n) x ≡ playBy (roomAnswer (coefficientsIn l) (addressToSample (lengthIn l k)) (length out)) l k out
+  found-made n x en e = rw (en, e, room-accepts (coefficientsIn l) (addressToSample (lengthIn l k)) (length out) (p .pairs) (p .enough))
 
   -- the output after an accepted call: the block's samples, and what stood beyond them
-  pub play-output : playOf l k out .out ≡ blockSamples l k ++ drop (addressToSample (lengthIn l k)) out
+  pub play-output : play l k out .out ≡ blockSamples l k ++ drop (addressToSample (lengthIn l k)) out
   unfolding blockSamples
   play-output =
-      ap (λ (e : Effect). e .out) (sym play-leaves)
+      ap (λ (e : PlayEffect). e .out) (sym play-leaves)
       ∙ play-out (bodyIn l k) (coefficientsIn l) (lengthIn l k) (contextIn l k) out (let s = found-some l k (p .found) in omega arith) (p .enough)
 
 -- a block's samples are as many as its entry's length says

@@ -5,13 +5,13 @@ use mathlib.Core.Path.{_≡_, sym, _∙_}
 use Prim.Native.Nat.{ℕ}
 use borrow.Author.Tests.{eq-eqb, ne-eqb}
 use Rattle.block.specs.Refusals.{lowestPair}
-use Rattle.image.specs.declared.Answer.the-variants.{Accepted}
-use Rattle.image.specs.declared.Refusal.the-variants.{LowestPair}
+use Rattle.whole.specs.Outcome.{Outcome, accepted, refused}
+use Rattle.whole.proofs.Outcomes.{failed}
 use Rattle.image.specs.Reading.{totalIn, coefficientsIn}
-use Rattle.image.specs.Opened.{openAnswer}
-use Rattle.image.specs.Facts.{Opens}
+use Rattle.image.specs.Opening.{openAnswer}
+use Rattle.image.specs.inner.Asked.{Opens}
 use Rattle.image.specs.Sameness.{compareAnswer, bothAnswer, equalSamples, samplesIn, sameSound}
-use Rattle.image.proofs.Accepting.{opened, opens, failed}
+use Rattle.image.proofs.OpenImages.{opened, opens}
 use Rattle.image.proofs.LawsBody.{and-then}
 
 -- an image that opens and can be played
@@ -19,18 +19,18 @@ pub record Comparable (l : List ℕ) : Type 0 where
   pub opens : Opens l
   pub pairs : lowestPair (coefficientsIn l) ≡ false
 
-pub compare-accepted : (l : List ℕ) → compareAnswer l ≡ Accepted → Comparable l
+pub compare-accepted : (l : List ℕ) → compareAnswer l ≡ accepted tt → Comparable l
 unfolding compareAnswer
 compare-accepted l p =
     let a = and-then (openAnswer l) _ p in
-    let c = failed (lowestPair (coefficientsIn l)) LowestPair Accepted (a .1) in
+    let c = failed (lowestPair (coefficientsIn l)) 13 (accepted tt) (a .1) in
     record { opens = opened l (a .0); pairs = c .0 }
 
-pub compare-accepts : (l : List ℕ) → Comparable l → compareAnswer l ≡ Accepted
+pub compare-accepts : (l : List ℕ) → Comparable l → compareAnswer l ≡ accepted tt
 unfolding compareAnswer
 compare-accepts l p = rw (opens l (p .opens), p .pairs)
 
-pub both-accepted : (a b : List ℕ) → bothAnswer a b ≡ Accepted → Comparable a × Comparable b
+pub both-accepted : (a b : List ℕ) → bothAnswer a b ≡ accepted tt → Comparable a × Comparable b
 unfolding bothAnswer
 both-accepted a b p =
     let q = and-then (compareAnswer a) (compareAnswer b) p in

@@ -14,8 +14,8 @@ use Rattle.block.specs.Refusals.{equalUpTo}
 use Rattle.whole.specs.Frames.{framesOf}
 use Rattle.image.specs.declared.comparing.Frame.{Frame}
 use Rattle.image.specs.Reading.{totalIn}
-use Rattle.image.specs.Facts.{Opens}
-use Rattle.image.specs.Frames.{countOf, framesIn, frameAt, nextFrame}
+use Rattle.image.specs.inner.Asked.{Opens}
+use Rattle.image.specs.inner.ByFrames.{frameSamples, framesIn, playedFrame, nextFrame}
 use Rattle.image.specs.Sameness.{equalSamples, samplesIn}
 use Rattle.image.proofs.FramePlaces.{count-most}
 use Rattle.image.proofs.Joined.{frames-all, turnOf, frames-grow, turn-count, frames-more, frames-prefix}
@@ -40,11 +40,11 @@ over-length xs = length-sets (replicate 14 (pos 0)) 0 xs
 
 module _ (l : List ℕ) (i : ℕ) (c : FrameContext) (e : c ≡ framesIn l i .context) (x : Frame) (ex : x ≡ nextFrame l i c) where
   pub next-context : x .context ≡ framesIn l (i + 1) .context
-  unfolding nextFrame frameAt
+  unfolding nextFrame playedFrame
   next-context = ap (λ (f : Frame). f .context) (rw e at ex) ∙ sym (ap (λ (k : ℕ). framesIn l k .context) (add-one i) ∙ ap (λ (p : Playing). p .context) (frames-grow l i))
 
   pub next-samples : x .samples ≡ over (turnOf l i .samples)
-  unfolding nextFrame frameAt
+  unfolding nextFrame playedFrame
   next-samples = ap (λ (f : Frame). f .samples) (rw e at ex)
 
 -- ---- two images
@@ -56,7 +56,7 @@ module _ (a b : List ℕ) (A : Opens a) (B : Opens b) (t : totalIn a ≡ totalIn
       let s : samplesIn a ≡ samplesIn b = sym (frames-all a A) ∙ e ∙ ap (λ (n : ℕ). framesIn b (framesOf n) .samples) t ∙ frames-all b B in
       sym (ap (equalSamples (samplesIn a)) (sym s) ∙ equal-refl (samplesIn a))
 
-  module _ (i count : ℕ) (lt : i < framesOf (totalIn a)) (n : count ≡ countOf (totalIn a) i)
+  module _ (i count : ℕ) (lt : i < framesOf (totalIn a)) (n : count ≡ frameSamples (totalIn a) i)
       (s : framesIn a i .samples ≡ framesIn b i .samples) (xs ys : List ℤ) (ex : xs ≡ over (turnOf a i .samples)) (ey : ys ≡ over (turnOf b i .samples)) where
     few : count ≤ 14
     few = let m = count-most (totalIn a) i (A .head .limits .some) lt in omega arith
@@ -65,7 +65,7 @@ module _ (a b : List ℕ) (A : Opens a) (B : Opens b) (t : totalIn a ≡ totalIn
     left = n ∙ sym (turn-count a i)
 
     right : count ≡ length (turnOf b i .samples)
-    right = n ∙ ap (λ (k : ℕ). countOf k i) t ∙ sym (turn-count b i)
+    right = n ∙ ap (λ (k : ℕ). frameSamples k i) t ∙ sym (turn-count b i)
 
     -- the frames are equal: so are the samples up to their end
     pub turn-equal : equalUpTo xs ys count ≡ true → framesIn a (i + 1) .samples ≡ framesIn b (i + 1) .samples
@@ -93,7 +93,7 @@ module _ (a b : List ℕ) (A : Opens a) (B : Opens b) (t : totalIn a ≡ totalIn
         let whole : framesIn a (d + suc i) .samples ≡ framesIn b (d + suc i) .samples =
         ap (λ (k : ℕ). framesIn a k .samples) w ∙ frames-all a A ∙ e ∙ sym (frames-all b B) ∙ ap (λ (k : ℕ). framesIn b (framesOf k) .samples) (sym t) ∙ ap (λ (k : ℕ). framesIn b k .samples) (sym w) in
         let m : length (framesIn a (suc i) .samples) ≡ length (framesIn b (suc i) .samples) =
-        frames-more a i ∙ ap₂ (λ (u v : ℕ). u + v) (ap length s) (ap (λ (k : ℕ). countOf k i) t) ∙ sym (frames-more b i) in
+        frames-more a i ∙ ap₂ (λ (u v : ℕ). u + v) (ap length s) (ap (λ (k : ℕ). frameSamples k i) t) ∙ sym (frames-more b i) in
         let part : framesIn a (suc i) .samples ≡ framesIn b (suc i) .samples =
         sym (frames-prefix a (suc i) d .0) ∙ ap₂ take m whole ∙ frames-prefix b (suc i) d .0 in
         let parts : framesIn a i .samples ++ turnOf a i .samples ≡ framesIn b i .samples ++ turnOf b i .samples =

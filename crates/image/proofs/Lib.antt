@@ -2,18 +2,18 @@
 pub mod Places
 pub mod Marks
 pub mod Coefficients
-pub mod Accepting
+pub mod OpenImages
 pub mod LawsBody
 pub mod LawsPlayed
 pub mod LawsEqual
 pub mod FramePlaces
 pub mod Parts
-pub mod Shapes
+pub mod BlockShape
 pub mod BlockFrames
 pub mod Joined
 pub mod LawsSame
 pub mod Worked
 pub mod LawsAll
-pub mod InTurn
+pub mod BlocksPlayed
 mod LawsTurn
-mod EntryTurns
+mod EntriesInTurn

@@ -6,7 +6,7 @@ use Prim.Native.Nat.{ℕ}
 use borrow.Author.Tests.{eq-eqb}
 use lib.Dec.{eqb}
 use lib.ListN.{getD}
-use Rattle.image.specs.Opened.{markOk}
+use Rattle.image.specs.Opening.{markOk}
 
 and-true : (t : Bool) → t && true ≡ t
 and-true true = refl

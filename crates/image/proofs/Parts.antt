@@ -7,7 +7,8 @@ use native.Mathlib.Omega.{arith}
 use lib.IntN.{ℤ}
 use lib.ListN.{take, drop, getD}
 use lib.Seq.{getD-take, getD-drop}
-use Rattle.block.specs.Frame.{Playing, nibbleAt, nibblesFrom, takeNibble, playFrame}
+use Rattle.block.specs.Frame.{Playing, nibbleAt, takeNibble}
+use Rattle.block.specs.inner.Frames.{nibblesFrom, playFrame}
 
 -- m bytes from byte o on
 module _ (l : List ℕ) (o m : ℕ) where

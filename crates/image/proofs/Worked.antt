@@ -4,20 +4,19 @@ use mathlib.Core.Path.{_≡_, refl}
 use Prim.Native.Nat.{ℕ}
 use lib.IntN.{ℤ, pos}
 use lib.ListN.{replicate}
-use Rattle.block.specs.Context.{predictorOf, scaleOf, pushSample, withHeader}
+use Rattle.block.specs.Context.{predictor, scale, pushSample, withHeader}
 use Rattle.block.specs.Frame.{nibbleAt, nextSample, takeNibble}
 use Rattle.block.specs.Play.{takeHeader, playFrom, play}
-use Rattle.block.specs.Sample.{sampleOf}
-use Rattle.whole.specs.Whole.{signedNibble, clamp16}
+use Rattle.block.specs.Sample.{decodeSample}
+use Rattle.whole.specs.Whole.{signedNibble, clamp}
 use Rattle.layout.specs.Limits.{numbersOk}
-use Rattle.layout.specs.Sizes.{lastOf, blocksOf, bodyOf, sizeOf, offsetOf, lengthOf}
+use Rattle.layout.specs.Sizes.{lastSamples, blockCount, bodyBytes, imageSize, blockOffset, blockLength}
 use Rattle.whole.specs.Frames.{framesOf}
-use Rattle.image.specs.declared.Answer.the-variants.{Accepted, Refused}
-use Rattle.image.specs.declared.Refusal.the-variants.{BadHead, BadEntry}
+use Rattle.whole.specs.Outcome.{Outcome, accepted, refused}
 use Rattle.image.specs.Reading.{totalIn, rateIn, blockIn, zeroIn, blocksIn, signedAt, coefficientsUpTo, coefficientsIn, offsetIn, lengthIn, headerIn, newestIn, olderIn, entryZeroIn}
-use Rattle.image.specs.Opened.{markOk, numbersFit, headOk, entryOk, entriesOk, openAnswer}
+use Rattle.image.specs.Opening.{markOk, numbersFit, headOk, entryOk, entriesOk, openAnswer}
 use Rattle.image.specs.Bodies.{bodyIn}
-use Rattle.image.specs.Samples.{contextIn}
+use Rattle.image.specs.Playing.{contextIn}
 use Rattle.image.specs.Sameness.{blockSamples, samplesFrom, samplesIn}
 
 -- the clip with a mark of four bytes, a header in its entry and one before its nibbles
@@ -29,10 +28,10 @@ clip mark told header =
     ++ (0 ∷ 0 ∷ 0 ∷ 1 ∷ 0 ∷ 0 ∷ 0 ∷ 0x48 ∷ 0 ∷ 0 ∷ 0 ∷ 3 ∷ 0 ∷ told ∷ 0 ∷ 0 ∷ 0 ∷ 0 ∷ 0 ∷ 0 ∷ header ∷ 0x40 ∷ [])
 
 -- it opens, and plays 8
-pub opens : openAnswer (clip (0x44 ∷ 0x53 ∷ 0x50 ∷ 0x43 ∷ []) 1 1) ≡ Accepted
-unfolding openAnswer headOk numbersFit markOk entriesOk entryOk totalIn rateIn blockIn zeroIn blocksIn offsetIn lengthIn headerIn entryZeroIn numbersOk framesOf lastOf blocksOf bodyOf sizeOf offsetOf lengthOf
+pub opens : openAnswer (clip (0x44 ∷ 0x53 ∷ 0x50 ∷ 0x43 ∷ []) 1 1) ≡ accepted tt
+unfolding openAnswer headOk numbersFit markOk entriesOk entryOk totalIn rateIn blockIn zeroIn blocksIn offsetIn lengthIn headerIn entryZeroIn numbersOk framesOf lastSamples blockCount bodyBytes imageSize blockOffset blockLength
 opens = refl
 
 pub plays : samplesIn (clip (0x44 ∷ 0x53 ∷ 0x50 ∷ 0x43 ∷ []) 1 1) ≡ pos 8 ∷ []
-unfolding samplesIn samplesFrom blockSamples bodyIn contextIn blocksIn offsetIn lengthIn headerIn newestIn olderIn coefficientsIn coefficientsUpTo signedAt play playFrom takeHeader takeNibble nextSample nibbleAt pushSample withHeader predictorOf scaleOf sampleOf signedNibble clamp16
+unfolding samplesIn samplesFrom blockSamples bodyIn contextIn blocksIn offsetIn lengthIn headerIn newestIn olderIn coefficientsIn coefficientsUpTo signedAt play playFrom takeHeader takeNibble nextSample nibbleAt pushSample withHeader predictor scale decodeSample signedNibble clamp
 plays = refl

@@ -4,28 +4,21 @@ use mathlib.Core.List.{List, []}
 use Prim.Native.Nat.{ℕ, _+_, _/_}
 use lib.Dec.{leb}
 use lib.ListN.{take, drop}
-use Rattle.image.specs.declared.Answer.{Answer}
-use Rattle.image.specs.declared.Answer.the-variants.{Accepted, Refused}
-use Rattle.image.specs.declared.Refusal.the-variants.{NoSuchBlock}
+use Rattle.whole.specs.Outcome.{Outcome, accepted, refused}
 use Rattle.image.specs.Reading.{blocksIn, offsetIn, lengthIn}
-use Rattle.image.specs.Opened.{openAnswer}
-
--- a refusal, or else the next tests' answer
-abbrev pub andThen : Answer → Answer → Answer
-andThen Accepted next = next
-andThen (Refused r) next = Refused r
+use Rattle.image.specs.Opening.{andThen, openAnswer}
 
 -- codes 15, 16, 17: "block number K or more"
-unfoldable pub blockAnswer : List ℕ → ℕ → Answer
-blockAnswer l k = andThen (openAnswer l) (cond (leb (blocksIn l) k) (Refused NoSuchBlock) Accepted)
+unfoldable pub blockAnswer : List ℕ → ℕ → Outcome Unit
+blockAnswer l k = andThen (openAnswer l) (cond (leb (blocksIn l) k) (refused 17) (accepted tt))
 
 -- "A block of an image is found by its entry": the bytes from the entry's offset on that hold the entry's length in nibbles
 unfoldable pub bodyIn : List ℕ → ℕ → List ℕ
 bodyIn l k = take ((lengthIn l k + 1) / 2) (drop (offsetIn l k) l)
 
-abbrev pub bodyBy : Answer → List ℕ → List ℕ
-bodyBy Accepted body = body
-bodyBy (Refused r) body = []
+abbrev pub bodyBy : Outcome Unit → List ℕ → List ℕ
+bodyBy (accepted u) body = body
+bodyBy (refused n) body = []
 
 -- "its body is handed back as that part of the caller's image"
 unfoldable pub blockBody : List ℕ → ℕ → List ℕ

@@ -1,9 +1,9 @@
 -- What the contracts cite.
 pub mod Reading
-pub mod Opened
+pub mod Opening
 pub mod Bodies
-pub mod Samples
-pub mod Frames
+pub mod Playing
 pub mod Sameness
-pub mod AllBlocks
-pub mod Facts
+pub mod WholeImage
+pub mod BlocksInTurn
+pub mod inner

@@ -4,7 +4,9 @@ use Prim.Native.Nat.{ℕ, zero, suc, _+_, _*_}
 use lib.IntN.{ℤ}
 use mir.Syntax.{w16}
 use mir.Val.{toZ}
+use Rattle.layout.specs.declared.Shape.{Shape}
 use Rattle.layout.specs.Fields.{at16, at32}
+use Rattle.layout.specs.Sizes.{shape, entryPlace}
 use Rattle.image.specs.declared.Head.{Head}
 
 -- "4 N; 8 rate; 12 B (four bytes each)", "48 gain; 50 two zero bytes; 52 K (four bytes)"
@@ -35,32 +37,34 @@ unfoldable pub coefficientsUpTo : List ℕ → ℕ → List ℤ
 coefficientsUpTo l zero = []
 coefficientsUpTo l (suc k) = coefficientsUpTo l k ++ (signedAt l (16 + 2 * k) ∷ [])
 
+-- all sixteen
 unfoldable pub coefficientsIn : List ℕ → List ℤ
 coefficientsIn l = coefficientsUpTo l 16
 
+-- all the values of a head
 unfoldable pub headIn : List ℕ → Head
 headIn l =
     record { total = totalIn l; rate = rateIn l; block = blockIn l; gain = gainIn l; coefficients = coefficientsIn l; blocks = blocksIn l }
 
--- "Then K contents entries of 16 bytes": where block j's stands
-abbrev pub entryAt : ℕ → ℕ
-entryAt j = 56 + 16 * j
+-- N and B say what the shape of the clip is
+abbrev pub shapeIn : List ℕ → Shape
+shapeIn l = shape (totalIn l) (blockIn l)
 
 -- "body offset from the image start (4), length in nibbles (4), predictor-and-scale (2), newest history sample (2), older one (2), zero (2)"
 unfoldable pub offsetIn : List ℕ → ℕ → ℕ
-offsetIn l j = at32 l (entryAt j)
+offsetIn l j = at32 l (entryPlace j)
 
 unfoldable pub lengthIn : List ℕ → ℕ → ℕ
-lengthIn l j = at32 l (entryAt j + 4)
+lengthIn l j = at32 l (entryPlace j + 4)
 
 unfoldable pub headerIn : List ℕ → ℕ → ℕ
-headerIn l j = at16 l (entryAt j + 8)
+headerIn l j = at16 l (entryPlace j + 8)
 
 unfoldable pub newestIn : List ℕ → ℕ → ℤ
-newestIn l j = signedAt l (entryAt j + 10)
+newestIn l j = signedAt l (entryPlace j + 10)
 
 unfoldable pub olderIn : List ℕ → ℕ → ℤ
-olderIn l j = signedAt l (entryAt j + 12)
+olderIn l j = signedAt l (entryPlace j + 12)
 
 unfoldable pub entryZeroIn : List ℕ → ℕ → ℕ
-entryZeroIn l j = at16 l (entryAt j + 14)
+entryZeroIn l j = at16 l (entryPlace j + 14)

@@ -4,21 +4,19 @@ use mathlib.Core.List.{List, [], _∷_, _++_}
 use Prim.Native.Nat.{ℕ, zero, suc}
 use lib.Dec.{eqb}
 use lib.IntN.{ℤ}
-use Rattle.block.specs.Play.{play}
-use Rattle.block.specs.Refusals.{same, lowestPair}
-use Rattle.image.specs.declared.Answer.{Answer}
-use Rattle.image.specs.declared.Answer.the-variants.{Accepted, Refused}
+use Rattle.whole.specs.Outcome.{Outcome, accepted, refused}
+use Rattle.block.specs.Play as Block
+use Rattle.block.specs.Refusals as Tests
 use Rattle.image.specs.declared.SameAnswer.{SameAnswer}
-use Rattle.image.specs.declared.SameAnswer.the-variants as Compared
-use Rattle.image.specs.declared.Refusal.the-variants.{LowestPair}
+use Rattle.image.specs.declared.SameAnswer.the-variants.{Same, Different, Refused}
 use Rattle.image.specs.Reading.{totalIn, blocksIn, coefficientsIn, lengthIn}
-use Rattle.image.specs.Opened.{openAnswer}
-use Rattle.image.specs.Bodies.{andThen, bodyIn}
-use Rattle.image.specs.Samples.{contextIn}
+use Rattle.image.specs.Opening.{code, andThen, openAnswer}
+use Rattle.image.specs.Bodies.{bodyIn}
+use Rattle.image.specs.Playing.{contextIn}
 
 -- block k's samples, played from its entry
 unfoldable pub blockSamples : List ℕ → ℕ → List ℤ
-blockSamples l k = play (bodyIn l k) (coefficientsIn l) (lengthIn l k) (contextIn l k) .samples
+blockSamples l k = Block.play (bodyIn l k) (coefficientsIn l) (lengthIn l k) (contextIn l k) .samples
 
 -- k blocks from block j on, played in turn and joined
 unfoldable pub samplesFrom : List ℕ → ℕ → ℕ → List ℤ
@@ -29,28 +27,35 @@ samplesFrom l j (suc k) = blockSamples l j ++ samplesFrom l (suc j) k
 unfoldable pub samplesIn : List ℕ → List ℤ
 samplesIn l = samplesFrom l 0 (blocksIn l)
 
+-- two lists of samples are equal
 unfoldable pub equalSamples : List ℤ → List ℤ → Bool
 equalSamples [] [] = true
 equalSamples [] (y ∷ ys) = false
 equalSamples (x ∷ xs) [] = false
-equalSamples (x ∷ xs) (y ∷ ys) = same x y && equalSamples xs ys
+equalSamples (x ∷ xs) (y ∷ ys) = Tests.equal x y && equalSamples xs ys
 
 -- "N is equal and the played samples are equal"
 unfoldable pub sameSound : List ℕ → List ℕ → Bool
 sameSound a b = eqb (totalIn a) (totalIn b) && equalSamples (samplesIn a) (samplesIn b)
 
 -- codes 15, 16, 13
-unfoldable pub compareAnswer : List ℕ → Answer
-compareAnswer l = andThen (openAnswer l) (cond (lowestPair (coefficientsIn l)) (Refused LowestPair) Accepted)
+unfoldable pub compareAnswer : List ℕ → Outcome Unit
+compareAnswer l = andThen (openAnswer l) (cond (Tests.lowestPair (coefficientsIn l)) (refused 13) (accepted tt))
 
 -- "of two images the first is tested through 13 before the second"
-unfoldable pub bothAnswer : List ℕ → List ℕ → Answer
+unfoldable pub bothAnswer : List ℕ → List ℕ → Outcome Unit
 bothAnswer a b = andThen (compareAnswer a) (compareAnswer b)
 
-abbrev pub sameBy : Answer → Bool → SameAnswer
-sameBy Accepted t = cond t Compared.Same Compared.Different
-sameBy (Refused r) t = Compared.Refused r
+-- what an answer of comparing says: whether they are the same, or the refusal's number
+abbrev pub sameOutcome : SameAnswer → Outcome Bool
+sameOutcome Same = accepted true
+sameOutcome Different = accepted false
+sameOutcome (Refused r) = refused (code r)
+
+abbrev pub sameBy : Outcome Unit → Bool → Outcome Bool
+sameBy (accepted u) t = accepted t
+sameBy (refused n) t = refused n
 
 -- "Two images are the same when both open, N is equal and the played samples are equal"
-unfoldable pub sameOf : List ℕ → List ℕ → SameAnswer
-sameOf a b = sameBy (bothAnswer a b) (sameSound a b)
+unfoldable pub same : List ℕ → List ℕ → Outcome Bool
+same a b = sameBy (bothAnswer a b) (sameSound a b)

@@ -1,68 +1,53 @@
 // The tests of the calls, in document 01's sequence.
 ghost use mathlib.Core.Path.{_≡_};
-ghost use Rattle.image.specs.Opened.{openAnswer};
-ghost use Rattle.image.specs.Samples.{playAnswer};
+ghost use Rattle.image.specs.Opening.{outcome, openAnswer};
+ghost use Rattle.image.specs.Playing.{roomAnswer};
 ghost use Rattle.image.specs.Sameness.{compareAnswer, bothAnswer};
-ghost use Rattle.image.specs.AllBlocks.{allAnswer};
 use crate::Answer;
 use crate::Refusal;
-use crate::block_answer;
 use crate::entries::entries_ok;
 use crate::heading::head_ok;
 use crate::heading::read_coefficients;
-use block::address_to_sample;
+use crate::heading::shape_of;
 use block::coefficients::lowest_pair;
-use layout::ENTRY_BYTES;
-use layout::HEAD_BYTES;
 use layout::fields::get32;
-use layout::sizes::blocks;
 
 // Codes 15 and 16.
 pub(crate) fn open_answer(image: &[u8]) -> Answer
-    ensures { λ r. ⌜ r ≡ openAnswer (now (image .entry)) ⌝ }
+    ensures { λ r. ⌜ outcome r ≡ openAnswer (now (image .entry)) ⌝ }
 {
     if !head_ok(image) {
         return Answer::Refused(Refusal::BadHead);
     }
-    let total = get32(image, 4) as usize;
-    let block = get32(image, 12) as usize;
-    let kk = blocks(total, block);
-    if !entries_ok(image, total, block, kk) {
+    let shape = shape_of(get32(image, 4), get32(image, 12));
+    if !entries_ok(image, shape) {
         return Answer::Refused(Refusal::BadEntry);
     }
     Answer::Accepted
 }
 
-// Codes 15, 16, 17, 13 and 14, for an output of some room.
-pub(crate) fn play_answer(image: &[u8], k: u32, room: usize) -> Answer
-    ensures { λ r. ⌜ r ≡ playAnswer (now (image .entry)) k room ⌝ }
+// Codes 13 and 14, for so many samples and an output of some room.
+pub(crate) fn room_answer(coefficients: [i16; 16], samples: u64, room: usize) -> Answer
+    ensures { λ r. ⌜ outcome r ≡ roomAnswer coefficients samples room ⌝ }
 {
-    let answer = block_answer(image, k);
-    match answer {
-        Answer::Accepted => {
-            let cs = read_coefficients(image);
-            if lowest_pair(cs) {
-                return Answer::Refused(Refusal::LowestPair);
-            }
-            let nibbles = get32(image, HEAD_BYTES + ENTRY_BYTES * (k as usize) + 4);
-            if (room as u64) < address_to_sample(nibbles) {
-                return Answer::Refused(Refusal::OutputTooShort);
-            }
-            Answer::Accepted
-        }
-        Answer::Refused(why) => Answer::Refused(why),
+    if lowest_pair(coefficients) {
+        return Answer::Refused(Refusal::LowestPair);
     }
+    if (room as u64) < samples {
+        return Answer::Refused(Refusal::OutputTooShort);
+    }
+    Answer::Accepted
 }
 
 // Codes 15, 16 and 13.
 fn compare_answer(image: &[u8]) -> Answer
-    ensures { λ r. ⌜ r ≡ compareAnswer (now (image .entry)) ⌝ }
+    ensures { λ r. ⌜ outcome r ≡ compareAnswer (now (image .entry)) ⌝ }
 {
     let answer = open_answer(image);
     match answer {
         Answer::Accepted => {
-            let cs = read_coefficients(image);
-            if lowest_pair(cs) {
+            let coefficients = read_coefficients(image);
+            if lowest_pair(coefficients) {
                 return Answer::Refused(Refusal::LowestPair);
             }
             Answer::Accepted
@@ -73,27 +58,11 @@ fn compare_answer(image: &[u8]) -> Answer
 
 // Codes 15, 16 and 13 of the first image, then of the second.
 pub(crate) fn both_answer(a: &[u8], b: &[u8]) -> Answer
-    ensures { λ r. ⌜ r ≡ bothAnswer (now (a .entry)) (now (b .entry)) ⌝ }
+    ensures { λ r. ⌜ outcome r ≡ bothAnswer (now (a .entry)) (now (b .entry)) ⌝ }
 {
     let answer = compare_answer(a);
     match answer {
         Answer::Accepted => compare_answer(b),
-        Answer::Refused(why) => Answer::Refused(why),
-    }
-}
-
-// Codes 15, 16, 13 and 14 of a whole image, for an output of some room.
-pub(crate) fn all_answer(image: &[u8], room: usize) -> Answer
-    ensures { λ r. ⌜ r ≡ allAnswer (now (image .entry)) room ⌝ }
-{
-    let answer = compare_answer(image);
-    match answer {
-        Answer::Accepted => {
-            if room < get32(image, 4) as usize {
-                return Answer::Refused(Refusal::OutputTooShort);
-            }
-            Answer::Accepted
-        }
         Answer::Refused(why) => Answer::Refused(why),
     }
 }

@@ -4,18 +4,21 @@ ghost use Prim.Native.Nat.{_+_, _*_, _≤_, _<_};
 ghost use lib.ListN.{length};
 ghost use Rattle.block.specs.Refusals.{equalUpTo};
 ghost use Rattle.whole.specs.Frames.{framesOf};
-ghost use Rattle.image.specs.Facts.{Opens, Source, Turn, Pair};
-ghost use Rattle.image.specs.Frames.{countOf, contextBefore, frameAt, nextFrame};
+ghost use Rattle.image.specs.inner.Asked.{Opens, Source, Turn, Pair};
+ghost use Rattle.image.specs.inner.ByFrames.{frameSamples, contextBefore, playedFrame, nextFrame};
 ghost use Rattle.image.specs.Sameness.{equalSamples, samplesIn, sameSound};
 use crate::Head;
-use crate::bodies::read_context;
+use crate::bodies::read_entry;
 use crate::heading::read_head;
+use crate::heading::shape_of;
 use block::FrameContext;
 use block::coefficients::equal;
 use block::play_frame;
-use layout::ENTRY_BYTES;
-use layout::HEAD_BYTES;
+use layout::sizes::bodies_place;
 use layout::sizes::frames;
+use layout::sizes::last_samples;
+use whole::BYTES_PER_FRAME;
+use whole::SAMPLES_PER_FRAME;
 
 // A frame's samples, and the context after them.
 pub(crate) struct Frame {
@@ -24,42 +27,51 @@ pub(crate) struct Frame {
 }
 
 // The samples in frame i of a clip of `total` samples.
-fn count_of(total: usize, i: usize) -> usize
+fn frame_samples(total: usize, i: usize) -> usize
     requires { ⌜ (1 ≤ total) × (total ≤ 14680064) × (i < framesOf total) ⌝ }
-    ensures { λ r. ⌜ (r ≡ countOf total i) × (r ≤ 14) ⌝ }
+    ensures same { λ r. ⌜ r ≡ frameSamples total i ⌝ }
+    ensures most { λ r. ⌜ r ≤ 14 ⌝ }
 {
     let f = frames(total);
     if i + 1 < f {
-        return 14;
+        return SAMPLES_PER_FRAME;
     }
-    total - 14 * (f - 1)
+    last_samples(total)
 }
 
 // What frame i is played from: its block's entry's context, or what the frame before left, under its own header.
 fn context_before(
     image: &[u8],
     block: usize,
-    kk: usize,
+    bodies: usize,
     i: usize,
     before: FrameContext,
 ) -> FrameContext
-    requires { ⌜ Source (now image) block kk i ⌝ }
+    requires { ⌜ Source (now image) block bodies i ⌝ }
     ensures { λ r. ⌜ r ≡ contextBefore (now (image .entry)) i before ⌝ }
 {
-    let per = block / 8;
+    let per = block / BYTES_PER_FRAME;
     if i % per == 0 {
-        return read_context(image, i / per);
+        let entry = read_entry(image, i / per);
+        let context = entry.context;
+        return context;
     }
-    before.with_header(image[HEAD_BYTES + ENTRY_BYTES * kk + 8 * i])
+    before.with_header(image[bodies + BYTES_PER_FRAME * i])
 }
 
 // `count` samples of the frame at a byte.
-fn frame_at(image: &[u8], at: usize, count: usize, cs: [i16; 16], context: FrameContext) -> Frame
+fn played_frame(
+    image: &[u8],
+    at: usize,
+    count: usize,
+    coefficients: [i16; 16],
+    context: FrameContext,
+) -> Frame
     requires { ⌜ (2 * at + 2 + count ≤ 2 * length (now image)) × (count ≤ 14) ⌝ }
-    ensures { λ r. ⌜ r ≡ frameAt (now (image .entry)) at count cs context ⌝ }
+    ensures { λ r. ⌜ r ≡ playedFrame (now (image .entry)) at count coefficients context ⌝ }
 {
     let mut out = [0i16; 14];
-    let after = play_frame(image, at, count, cs, context, &mut out, 0);
+    let after = play_frame(image, at, count, coefficients, context, &mut out, 0);
     Frame {
         samples: out,
         context: after,
@@ -72,14 +84,14 @@ fn next_frame(image: &[u8], head: Head, i: usize, count: usize, before: FrameCon
     ensures { λ r. ⌜ r ≡ nextFrame (now (image .entry)) i before ⌝ }
 {
     let block = head.block as usize;
-    let kk = head.blocks as usize;
-    let cs = head.coefficients;
-    let context = context_before(image, block, kk, i, before);
-    frame_at(
+    let bodies = bodies_place(shape_of(head.total, head.block));
+    let coefficients = head.coefficients;
+    let context = context_before(image, block, bodies, i, before);
+    played_frame(
         image,
-        HEAD_BYTES + ENTRY_BYTES * kk + 8 * i,
+        bodies + BYTES_PER_FRAME * i,
         count,
-        cs,
+        coefficients,
         context,
     )
 }
@@ -110,7 +122,7 @@ fn equal_frames(a: &[u8], b: &[u8], first: Head, second: Head) -> bool
     let mut other = FrameContext::new();
     let mut i: usize = 0;
     while i < f {
-        let count = count_of(total, i);
+        let count = frame_samples(total, i);
         let x = next_frame(a, first, i, count, one);
         let y = next_frame(b, second, i, count, other);
         let xs = x.samples;

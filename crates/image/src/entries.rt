@@ -3,13 +3,15 @@ ghost use mathlib.Core.Path.{_≡_};
 ghost use Prim.Native.Nat.{_≤_, _<_};
 ghost use lib.ListN.{length};
 ghost use Rattle.layout.specs.Limits.{Limits};
-ghost use Rattle.layout.specs.Sizes.{blocksOf, sizeOf};
-ghost use Rattle.image.specs.Opened.{entryOk, entriesOk};
-use layout::ENTRY_BYTES;
-use layout::HEAD_BYTES;
+ghost use Rattle.layout.specs.Sizes.{blockCount, bodiesPlace, imageSize};
+ghost use Rattle.image.specs.Opening.{entryOk, entriesOk};
+use layout::Shape;
 use layout::fields::get16;
 use layout::fields::get32;
+use layout::sizes::block_count;
 use layout::sizes::block_length;
+use layout::sizes::bodies_place;
+use layout::sizes::entry_place;
 
 // The number that a byte is.
 fn byte(x: u8) -> u32
@@ -19,16 +21,16 @@ fn byte(x: u8) -> u32
 }
 
 // Whether block j's entry has its offset, its length, its zero bytes and its body's first byte.
-fn entry_ok(image: &[u8], total: usize, block: usize, kk: usize, j: usize) -> bool
-    requires { ⌜ Limits total block × (kk ≡ blocksOf total block) × (j < kk) × (sizeOf total block ≤ length (now image)) ⌝ }
-    ensures { λ r. ⌜ r ≡ entryOk (now (image .entry)) total block j ⌝ }
+fn entry_ok(image: &[u8], shape: Shape, bodies: usize, j: usize) -> bool
+    requires { ⌜ Limits shape × (bodies ≡ bodiesPlace shape) × (j < blockCount shape) × (imageSize shape ≤ length (now image)) ⌝ }
+    ensures { λ r. ⌜ r ≡ entryOk (now (image .entry)) shape j ⌝ }
 {
-    let at = HEAD_BYTES + ENTRY_BYTES * j;
-    let offset = HEAD_BYTES + ENTRY_BYTES * kk + j * block;
+    let at = entry_place(j);
+    let offset = bodies + j * shape.block;
     if get32(image, at) as usize != offset {
         return false;
     }
-    if get32(image, at + 4) as usize != block_length(total, block, j) {
+    if get32(image, at + 4) as usize != block_length(shape, j) {
         return false;
     }
     if get16(image, at + 14) != 0 {
@@ -40,13 +42,15 @@ fn entry_ok(image: &[u8], total: usize, block: usize, kk: usize, j: usize) -> bo
 }
 
 // Code 16.
-pub(crate) fn entries_ok(image: &[u8], total: usize, block: usize, kk: usize) -> bool
-    requires { ⌜ Limits total block × (kk ≡ blocksOf total block) × (sizeOf total block ≤ length (now image)) ⌝ }
-    ensures { λ r. ⌜ r ≡ entriesOk (now (image .entry)) total block 0 kk ⌝ }
+pub(crate) fn entries_ok(image: &[u8], shape: Shape) -> bool
+    requires { ⌜ Limits shape × (imageSize shape ≤ length (now image)) ⌝ }
+    ensures { λ r. ⌜ r ≡ entriesOk (now (image .entry)) shape 0 (blockCount shape) ⌝ }
 {
+    let blocks = block_count(shape);
+    let bodies = bodies_place(shape);
     let mut j: usize = 0;
-    while j < kk {
-        if !entry_ok(image, total, block, kk, j) {
+    while j < blocks {
+        if !entry_ok(image, shape, bodies, j) {
             return false;
         }
         j += 1;

@@ -3,16 +3,19 @@ ghost use mathlib.Core.Path.{_≡_};
 ghost use Prim.Native.Nat.{_+_, _≤_};
 ghost use lib.ListN.{length};
 ghost use Rattle.layout.specs.Fields.{at16};
+ghost use Rattle.layout.specs.Sizes.{shape};
 ghost use Rattle.image.specs.Reading.{signedAt, coefficientsIn, headIn};
-ghost use Rattle.image.specs.Opened.{markOk, numbersFit, headOk};
+ghost use Rattle.image.specs.Opening.{markOk, numbersFit, headOk};
 use crate::Head;
+use layout::HEAD_BYTES;
 use layout::MARK;
+use layout::Shape;
 use layout::fields::get16;
 use layout::fields::get32;
 use layout::fields::signed16;
 use layout::limits::numbers_ok;
-use layout::sizes::blocks;
-use layout::sizes::size;
+use layout::sizes::block_count;
+use layout::sizes::image_size;
 
 // Whether the image starts with the mark.
 fn mark_ok(image: &[u8]) -> bool
@@ -32,29 +35,39 @@ fn mark_ok(image: &[u8]) -> bool
     image[3] == m[3]
 }
 
+// The shape of a clip of N samples in blocks of B bytes, with no entries after those of its blocks.
+pub(crate) fn shape_of(total: u32, block: u32) -> Shape
+    ensures { λ r. ⌜ r ≡ shape total block ⌝ }
+{
+    Shape {
+        total: total as usize,
+        block: block as usize,
+        extra: 0,
+    }
+}
+
 // Whether N, rate, B, K and the zero bytes are right, and an image of `len` bytes has all of its bytes.
-fn numbers_fit(total: u32, rate: u32, block: u32, kk: u32, zero: u32, len: usize) -> bool
-    ensures { λ r. ⌜ r ≡ numbersFit total rate block kk zero len ⌝ }
+fn numbers_fit(total: u32, rate: u32, block: u32, blocks: u32, zero: u32, len: usize) -> bool
+    ensures { λ r. ⌜ r ≡ numbersFit total rate block blocks zero len ⌝ }
 {
     if !numbers_ok(0, total, block, rate) {
         return false;
     }
-    let n = total as usize;
-    let b = block as usize;
-    if kk as usize != blocks(n, b) {
+    let shape = shape_of(total, block);
+    if blocks as usize != block_count(shape) {
         return false;
     }
     if zero != 0 {
         return false;
     }
-    len >= size(n, b)
+    len >= image_size(shape)
 }
 
 // Code 15.
 pub(crate) fn head_ok(image: &[u8]) -> bool
     ensures { λ r. ⌜ r ≡ headOk (now (image .entry)) ⌝ }
 {
-    if image.len() < 56 {
+    if image.len() < HEAD_BYTES {
         return false;
     }
     if !mark_ok(image) {
@@ -63,9 +76,9 @@ pub(crate) fn head_ok(image: &[u8]) -> bool
     let total = get32(image, 4);
     let rate = get32(image, 8);
     let block = get32(image, 12);
-    let kk = get32(image, 52);
+    let blocks = get32(image, 52);
     let zero = get16(image, 50);
-    numbers_fit(total, rate, block, kk, zero, image.len())
+    numbers_fit(total, rate, block, blocks, zero, image.len())
 }
 
 // The number of 16 bits that two bytes are.
@@ -89,13 +102,13 @@ pub(crate) fn read_coefficients(image: &[u8]) -> [i16; 16]
     requires { ⌜ 56 ≤ length (now image) ⌝ }
     ensures { λ r. ⌜ r ≡ coefficientsIn (now (image .entry)) ⌝ }
 {
-    let mut cs = [0i16; 16];
+    let mut coefficients = [0i16; 16];
     let mut i: usize = 0;
     while i < 16 {
-        cs[i] = signed_at(image, 16 + 2 * i);
+        coefficients[i] = signed_at(image, 16 + 2 * i);
         i += 1;
     }
-    cs
+    coefficients
 }
 
 // The head's values.
@@ -108,13 +121,13 @@ pub(crate) fn read_head(image: &[u8]) -> Head
     let block = get32(image, 12);
     let coefficients = read_coefficients(image);
     let gain = word_at(image, 48);
-    let kk = get32(image, 52);
+    let blocks = get32(image, 52);
     Head {
         total: total,
         rate: rate,
         block: block,
         gain: gain,
         coefficients: coefficients,
-        blocks: kk,
+        blocks: blocks,
     }
 }

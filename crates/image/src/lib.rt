@@ -1,11 +1,11 @@
 // Reading a clip image: opening, the body of a block, playing, sameness.
 ghost use mathlib.Core.Path.{_≡_};
 ghost use Rattle.block.specs.Frame.{lent};
-ghost use Rattle.image.specs.Opened.{numberOf, noHead, openOf};
+ghost use Rattle.image.specs.Opening.{code, outcome, noHead, openEffect, openImage};
 ghost use Rattle.image.specs.Bodies.{blockAnswer, blockBody};
-ghost use Rattle.image.specs.Samples.{effectOf, playOf};
-ghost use Rattle.image.specs.Sameness.{sameOf};
-ghost use Rattle.image.specs.AllBlocks.{playAllOf};
+ghost use Rattle.image.specs.Playing.{playOutcome, playEffect, play};
+ghost use Rattle.image.specs.Sameness.{sameOutcome, same};
+ghost use Rattle.image.specs.WholeImage.{playAll};
 
 pub mod bodies;
 mod checks;
@@ -15,19 +15,16 @@ mod heading;
 mod playing;
 
 use block::FrameContext;
-use block::address_to_sample;
 use bodies::find_body;
-use bodies::read_length;
-use checks::all_answer;
+use bodies::read_entry;
 use checks::both_answer;
 use checks::open_answer;
-use checks::play_answer;
 use comparing::same_sound;
-use heading::read_coefficients;
 use heading::read_head;
 use layout::fields::get32;
-use playing::play_block;
-use playing::play_blocks;
+use playing::play_found;
+use playing::play_opened;
+use playing::refused_playback;
 
 // Why a call is refused.
 pub enum Refusal {
@@ -81,7 +78,7 @@ pub enum SameAnswer {
 
 // Document 01's number of a refusal.
 pub fn code(refusal: Refusal) -> u32
-    ensures { λ r. ⌜ r ≡ numberOf refusal ⌝ }
+    ensures { λ r. ⌜ r ≡ code refusal ⌝ }
 {
     match refusal {
         Refusal::LowestPair => 13,
@@ -108,7 +105,7 @@ fn no_head() -> Head
 
 // Opens an image: checks its head and its entries, and gives the head's values.
 pub fn open(image: &[u8]) -> Opening
-    ensures { λ r. ⌜ r ≡ openOf (now (image .entry)) ⌝ }
+    ensures { λ r. ⌜ openEffect (outcome (r .answer)) (r .head) ≡ openImage (now (image .entry)) ⌝ }
 {
     let answer = open_answer(image);
     match answer {
@@ -131,7 +128,7 @@ pub fn open(image: &[u8]) -> Opening
 
 // Whether there is a block k, by codes 15, 16 and 17: what `block_body` and `play` ask first.
 pub fn block_answer(image: &[u8], k: u32) -> Answer
-    ensures { λ r. ⌜ r ≡ blockAnswer (now (image .entry)) k ⌝ }
+    ensures { λ r. ⌜ outcome r ≡ blockAnswer (now (image .entry)) k ⌝ }
 {
     let answer = open_answer(image);
     match answer {
@@ -151,63 +148,39 @@ pub fn block_body<'a>(image: &'a [u8], k: u32) -> &'a [u8]
 {
     let answer = block_answer(image, k);
     match answer {
-        Answer::Accepted => find_body(image, k as usize),
+        Answer::Accepted => {
+            let entry = read_entry(image, k as usize);
+            find_body(image, entry.offset as usize, entry.nibbles as usize)
+        }
         Answer::Refused(_) => &image[..0],
     }
 }
 
 // Plays block k of an image to the output.
 pub fn play(image: &[u8], k: u32, out: &mut [i16]) -> Playback
-    ensures { λ r. ⌜ effectOf (r .answer) (lent (r .context) (now (out .exit))) ≡ playOf (now (image .entry)) k (now (out .entry)) ⌝ }
+    ensures { λ r. ⌜ playEffect (playOutcome (r .answer)) (lent (r .context) (now (out .exit))) ≡ play (now (image .entry)) k (now (out .entry)) ⌝ }
 {
-    let answer = play_answer(image, k, out.len());
+    let answer = block_answer(image, k);
     match answer {
-        Answer::Accepted => {
-            let nibbles = read_length(image, k as usize);
-            let cs = read_coefficients(image);
-            let after = play_block(image, k as usize, nibbles, cs, out);
-            Playback {
-                answer: PlayAnswer::Played(address_to_sample(nibbles)),
-                context: after,
-            }
-        }
-        Answer::Refused(why) => {
-            let context = FrameContext::new();
-            Playback {
-                answer: PlayAnswer::Refused(why),
-                context: context,
-            }
-        }
+        Answer::Accepted => play_found(image, k as usize, out),
+        Answer::Refused(why) => refused_playback(why),
     }
 }
 
 // Plays a whole image to the output: blocks 0 to K-1 in turn, joined. The table is tested once.
 pub fn play_all(image: &[u8], out: &mut [i16]) -> Playback
-    ensures { λ r. ⌜ effectOf (r .answer) (lent (r .context) (now (out .exit))) ≡ playAllOf (now (image .entry)) (now (out .entry)) ⌝ }
+    ensures { λ r. ⌜ playEffect (playOutcome (r .answer)) (lent (r .context) (now (out .exit))) ≡ playAll (now (image .entry)) (now (out .entry)) ⌝ }
 {
-    let answer = all_answer(image, out.len());
+    let answer = open_answer(image);
     match answer {
-        Answer::Accepted => {
-            let total = get32(image, 4);
-            let after = play_blocks(image, out);
-            Playback {
-                answer: PlayAnswer::Played(total as u64),
-                context: after,
-            }
-        }
-        Answer::Refused(why) => {
-            let context = FrameContext::new();
-            Playback {
-                answer: PlayAnswer::Refused(why),
-                context: context,
-            }
-        }
+        Answer::Accepted => play_opened(image, out),
+        Answer::Refused(why) => refused_playback(why),
     }
 }
 
 // Whether two images are the same: both open, N is equal and the played samples are equal, whatever their blocks.
 pub fn same(a: &[u8], b: &[u8]) -> SameAnswer
-    ensures { λ r. ⌜ r ≡ sameOf (now (a .entry)) (now (b .entry)) ⌝ }
+    ensures { λ r. ⌜ sameOutcome r ≡ same (now (a .entry)) (now (b .entry)) ⌝ }
 {
     let answer = both_answer(a, b);
     match answer {

@@ -1,54 +1,116 @@
 // Playing a block of an image, and all of them in turn.
 ghost use mathlib.Core.Path.{_≡_};
 ghost use lib.ListN.{length};
+ghost use Rattle.block.specs.Address.{addressToSample};
+ghost use Rattle.block.specs.Context.{newContext};
 ghost use Rattle.block.specs.Frame.{lent};
 ghost use Rattle.block.specs.Play.{playInto};
-ghost use Rattle.image.specs.Facts.{Playable, AllPlayable};
-ghost use Rattle.image.specs.Reading.{coefficientsIn, lengthIn};
+ghost use Rattle.image.specs.inner.Asked.{Opens, Found, Playable, AllPlayable};
+ghost use Rattle.image.specs.Opening.{outcome, code};
+ghost use Rattle.image.specs.Reading.{totalIn, coefficientsIn, lengthIn};
 ghost use Rattle.image.specs.Bodies.{bodyIn};
-ghost use Rattle.image.specs.Samples.{contextIn};
-ghost use Rattle.image.specs.AllBlocks.{allInto};
+ghost use Rattle.image.specs.Playing.{contextIn, readEntry, roomAnswer, playOutcome, playEffect, playBy};
+ghost use Rattle.image.specs.WholeImage.{allInto, playAllBy};
+ghost use Rattle.whole.specs.Outcome.{refused};
+use crate::Answer;
+use crate::PlayAnswer;
+use crate::Playback;
+use crate::Refusal;
+use crate::bodies::Entry;
 use crate::bodies::find_body;
-use crate::bodies::read_context;
-use crate::bodies::read_length;
+use crate::bodies::read_entry;
+use crate::checks::room_answer;
 use crate::heading::read_coefficients;
 use block::FrameContext;
 use block::address_to_sample;
-use block::play_bytes;
+use block::play::play_into;
 use layout::fields::get32;
 
-// Block k's samples to the output, with the length and the coefficients that were read: the context after them.
-pub(crate) fn play_block(
+// What a refused call of playing gives.
+pub(crate) fn refused_playback(why: Refusal) -> Playback
+    ensures { λ r. ⌜ (playOutcome (r .answer) ≡ refused (code why)) × (r .context ≡ newContext) ⌝ }
+{
+    let context = FrameContext::new();
+    Playback {
+        answer: PlayAnswer::Refused(why),
+        context: context,
+    }
+}
+
+// Block k's samples to the output, with the entry and the coefficients that were read: the context after them.
+fn play_block(
     image: &[u8],
     k: usize,
-    nibbles: u32,
-    cs: [i16; 16],
+    entry: Entry,
+    coefficients: [i16; 16],
     out: &mut [i16],
 ) -> FrameContext
-    requires { ⌜ Playable (now image) k (length (now out)) × (nibbles ≡ lengthIn (now image) k) × (cs ≡ coefficientsIn (now image)) ⌝ }
+    requires { ⌜ Playable (now image) k (length (now out)) × (entry ≡ readEntry (now image) k) × (coefficients ≡ coefficientsIn (now image)) ⌝ }
     ensures { λ r. ⌜ lent r (now (out .exit)) ≡ playInto (bodyIn (now (image .entry)) k) (coefficientsIn (now (image .entry))) (lengthIn (now (image .entry)) k) (contextIn (now (image .entry)) k) (now (out .entry)) ⌝ }
 {
-    let context = read_context(image, k);
-    let body = find_body(image, k);
-    let played = play_bytes(body, nibbles, cs, context, out);
-    played.context
+    let offset = entry.offset as usize;
+    let nibbles = entry.nibbles as usize;
+    let context = entry.context;
+    let body = find_body(image, offset, nibbles);
+    play_into(body, nibbles, coefficients, context, out)
+}
+
+// Plays block k of an image that has it.
+pub(crate) fn play_found(image: &[u8], k: usize, out: &mut [i16]) -> Playback
+    requires { ⌜ Found (now image) k ⌝ }
+    ensures { λ r. ⌜ playEffect (playOutcome (r .answer)) (lent (r .context) (now (out .exit))) ≡ playBy (roomAnswer (coefficientsIn (now (image .entry))) (addressToSample (lengthIn (now (image .entry)) k)) (length (now (out .entry)))) (now (image .entry)) k (now (out .entry)) ⌝ }
+{
+    let coefficients = read_coefficients(image);
+    let entry = read_entry(image, k);
+    let samples = address_to_sample(entry.nibbles);
+    let answer = room_answer(coefficients, samples, out.len());
+    match answer {
+        Answer::Accepted => {
+            let after = play_block(image, k, entry, coefficients, out);
+            Playback {
+                answer: PlayAnswer::Played(samples),
+                context: after,
+            }
+        }
+        Answer::Refused(why) => refused_playback(why),
+    }
 }
 
 // Blocks 0 to K-1 in turn to the output, each after the one before: the context after the last.
-pub(crate) fn play_blocks(image: &[u8], out: &mut [i16]) -> FrameContext
-    requires { ⌜ AllPlayable (now image) (length (now out)) ⌝ }
+fn play_blocks(image: &[u8], coefficients: [i16; 16], out: &mut [i16]) -> FrameContext
+    requires { ⌜ AllPlayable (now image) (length (now out)) × (coefficients ≡ coefficientsIn (now image)) ⌝ }
     ensures { λ r. ⌜ lent r (now (out .exit)) ≡ allInto (now (image .entry)) (now (out .entry)) ⌝ }
 {
-    let cs = read_coefficients(image);
-    let kk = get32(image, 52) as usize;
+    let blocks = get32(image, 52) as usize;
     let mut context = FrameContext::new();
     let mut at: usize = 0;
     let mut k: usize = 0;
-    while k < kk {
-        let nibbles = read_length(image, k);
-        context = play_block(image, k, nibbles, cs, &mut out[at..]);
+    while k < blocks {
+        let entry = read_entry(image, k);
+        let nibbles = entry.nibbles;
+        context = play_block(image, k, entry, coefficients, &mut out[at..]);
         at += address_to_sample(nibbles) as usize;
         k += 1;
     }
     context
+}
+
+// Plays the whole of an image that opens.
+pub(crate) fn play_opened(image: &[u8], out: &mut [i16]) -> Playback
+    requires { ⌜ Opens (now image) ⌝ }
+    ensures { λ r. ⌜ playEffect (playOutcome (r .answer)) (lent (r .context) (now (out .exit))) ≡ playAllBy (roomAnswer (coefficientsIn (now (image .entry))) (totalIn (now (image .entry))) (length (now (out .entry)))) (now (image .entry)) (now (out .entry)) ⌝ }
+{
+    let coefficients = read_coefficients(image);
+    let samples = get32(image, 4) as u64;
+    let answer = room_answer(coefficients, samples, out.len());
+    match answer {
+        Answer::Accepted => {
+            let after = play_blocks(image, coefficients, out);
+            Playback {
+                answer: PlayAnswer::Played(samples),
+                context: after,
+            }
+        }
+        Answer::Refused(why) => refused_playback(why),
+    }
 }

@@ -1,12 +1,10 @@
-// Replays a list of calls on two images of which the answers are known. A line of the input is a letter and a record of 27 bytes in
-// hexadecimal digits of lower case. b, f and g put bytes into both images, the first or the second: 0 their place (two bytes), 2 how many,
-// 3 the bytes. The others are calls: 0 and 2 the lengths of the two images that are lent (two bytes each), 4 the block's number (four
-// bytes), 8 the output's length (two bytes). o opens the first image, k finds the body of a block of it, p plays that block, a plays all
-// blocks, s compares the first with the second, r the second with the first. A call is answered by a line: 00 or the refusal's number;
-// then the head's values, the body, the count, the context and the whole output, which has 5A in each byte at first, or 1 where the images
-// are the same.
-mod numbers;
-mod record;
+// Replays a list of calls on two images of which the answers are known. A line of the input is a letter and numbers in hexadecimal digits of
+// lower case, here with their first digit's place. b, f and g put bytes into both images, the first or the second: 1 the bytes' place
+// (four digits), 5 how many (two), 7 the bytes. The others are calls: 1 and 5 the lengths of the two images that are lent (four each), 9 the
+// block's number (eight), 17 the output's length (four). o opens the first image, k finds the body of a block of it, p plays that block, a
+// plays all blocks, s compares the first with the second, r the second with the first. A call is answered by a line: 00 or the refusal's
+// number; then the head's values, the body, the count, the context and the whole output, which has 5A in each byte at first, or 1 where the
+// images are the same.
 mod text;
 
 ghost use mathlib.Core.Path.{_≡_};
@@ -15,18 +13,19 @@ use image::Answer;
 use image::PlayAnswer;
 use image::Playback;
 use image::SameAnswer;
-use numbers::least;
-use record::double_word;
-use record::put;
-use record::unhex;
-use record::word;
-use text::print_bytes;
+use replay::byte;
+use replay::double_word;
+use replay::least;
+use replay::print_bytes;
+use replay::print_field;
+use replay::print_samples;
+use replay::print_space;
+use replay::word;
 use text::print_code;
 use text::print_context;
-use text::print_field;
 use text::print_head;
-use text::print_samples;
 
+// Writes 0, or the refusal's number.
 fn print_answer(answer: Answer) {
     match answer {
         Answer::Accepted => print_code(0),
@@ -34,6 +33,7 @@ fn print_answer(answer: Answer) {
     }
 }
 
+// Opens an image and writes its head.
 fn open(image: &[u8]) {
     let done = image::open(image);
     let answer = done.answer;
@@ -42,12 +42,15 @@ fn open(image: &[u8]) {
     print_head(head);
 }
 
+// Finds a block's body and writes it.
 fn body(image: &[u8], k: u32) {
     let answer = image::block_answer(image, k);
     print_answer(answer);
+    print_space();
     print_bytes(image::block_body(image, k));
 }
 
+// An output before a call.
 fn fresh_samples() -> [i16; 512]
     ensures { λ r. ⌜ 512 ≡ length r ⌝ }
 {
@@ -68,6 +71,7 @@ fn played(letter: u8, image: &[u8], k: u32, out: &mut [i16]) -> Playback {
     image::play_all(image, out)
 }
 
+// Plays to an output and writes what that leaves.
 fn play_to(letter: u8, image: &[u8], k: u32, out: &mut [i16]) {
     let done = played(letter, image, k, out);
     let answer = done.answer;
@@ -77,15 +81,18 @@ fn play_to(letter: u8, image: &[u8], k: u32, out: &mut [i16]) {
         PlayAnswer::Refused(why) => print_value(image::code(why), 0),
     }
     print_context(context);
+    print_space();
     print_samples(out);
 }
 
+// Plays to the first samples of an output.
 fn play(letter: u8, image: &[u8], k: u32, room: usize) {
     let n = least(room, 512);
     let mut out = fresh_samples();
     play_to(letter, image, k, &mut out[..n]);
 }
 
+// Compares two images.
 fn same(first: &[u8], second: &[u8]) {
     let answer = image::same(first, second);
     match answer {
@@ -96,14 +103,14 @@ fn same(first: &[u8], second: &[u8]) {
 }
 
 // Makes the call of a letter.
-fn call(letter: u8, record: &[u8; 27], first: &[u8], second: &[u8]) -> bool {
-    let k = double_word(record, 4);
+fn call(letter: u8, line: &[u8; 56], first: &[u8], second: &[u8]) -> bool {
+    let k = double_word(line, 9);
     if letter == b'o' {
         open(first);
     } else if letter == b'k' {
         body(first, k);
     } else if letter == b'p' || letter == b'a' {
-        play(letter, first, k, word(record, 8) as usize);
+        play(letter, first, k, word(line, 17) as usize);
     } else if letter == b's' {
         same(first, second);
     } else {
@@ -113,22 +120,33 @@ fn call(letter: u8, record: &[u8; 27], first: &[u8], second: &[u8]) -> bool {
 }
 
 // Makes a call on the first bytes of the images.
-fn lend(letter: u8, record: &[u8; 27], first: &[u8], second: &[u8]) -> bool {
-    let n = least(word(record, 0) as usize, first.len());
-    let m = least(word(record, 2) as usize, second.len());
-    call(letter, record, &first[..n], &second[..m])
+fn lend(letter: u8, line: &[u8; 56], first: &[u8], second: &[u8]) -> bool {
+    let n = least(word(line, 1) as usize, first.len());
+    let m = least(word(line, 5) as usize, second.len());
+    call(letter, line, &first[..n], &second[..m])
+}
+
+// Puts the bytes of a line at their place in an image.
+fn put(line: &[u8; 56], image: &mut [u8; 1024]) {
+    let start = least(word(line, 1) as usize, 1000);
+    let k = least(byte(line, 5) as usize, 24);
+    let mut i: usize = 0;
+    while i < k {
+        image[start + i] = byte(line, 7 + 2 * i);
+        i += 1;
+    }
 }
 
 // Replays a line.
-fn turn(letter: u8, record: &[u8; 27], first: &mut [u8; 1024], second: &mut [u8; 1024]) -> bool {
+fn turn(letter: u8, line: &[u8; 56], first: &mut [u8; 1024], second: &mut [u8; 1024]) -> bool {
     if letter == b'b' || letter == b'f' {
-        put(record, first);
+        put(line, first);
     }
     if letter == b'b' || letter == b'g' {
-        put(record, second);
+        put(line, second);
         return true;
     }
-    letter == b'f' || lend(letter, record, first, second)
+    letter == b'f' || lend(letter, line, first, second)
 }
 
 // Reads a line and replays it, and answers whether the list goes on.
@@ -138,11 +156,10 @@ fn replay(first: &mut [u8; 1024], second: &mut [u8; 1024]) -> bool {
     if n < 56 {
         return false;
     }
-    let mut record = [0u8; 27];
-    unhex(&line, &mut record);
-    turn(line[0], &record, first, second)
+    turn(line[0], &line, first, second)
 }
 
+// Replays every line of the list.
 fn main() {
     let mut first = [0u8; 1024];
     let mut second = [0u8; 1024];

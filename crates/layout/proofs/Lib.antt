@@ -1,4 +1,4 @@
--- Laws.
-mod Bits
-pub mod Sizing
-pub mod Numbers
+-- Laws of sizes and limits.
+mod SignedBits
+pub mod SizeLaws
+pub mod LimitLaws

@@ -4,6 +4,7 @@ use mathlib.Core.Path.{_≡_}
 use Prim.Native.Nat.{ℕ, _%_, _≤_}
 use lib.Dec.{eqb, leb}
 use Rattle.whole.specs.Frames.{most}
+use Rattle.layout.specs.declared.Shape.{Shape}
 
 -- N within the limits of 4, B within those of 6
 abbrev pub totalOk : ℕ → Bool
@@ -16,10 +17,11 @@ blockOk b = leb 8 b && leb b 65536
 unfoldable pub numbersOk : ℕ → ℕ → ℕ → ℕ → Bool
 numbersOk n total b rate = leb n total && (totalOk total && (blockOk b && (eqb (b % 8) 0 && not (eqb rate 0))))
 
--- the limits of a sample count and a block size
-pub record Limits (n b : ℕ) : Type 0 where
-  pub some : 1 ≤ n
-  pub few : n ≤ most
-  pub wide : 8 ≤ b
-  pub narrow : b ≤ 65536
-  pub eights : b % 8 ≡ 0
+-- the limits of a clip's shape
+pub record Limits (s : Shape) : Type 0 where
+  pub some : 1 ≤ s .total
+  pub few : s .total ≤ most
+  pub wide : 8 ≤ s .block
+  pub narrow : s .block ≤ 65536
+  pub eights : s .block % 8 ≡ 0
+  pub further : s .extra ≤ 1

@@ -1,47 +1,63 @@
--- The sizes of a clip of N samples in blocks of B bytes. Definitions only.
+-- The sizes of a clip and the places in its image. Definitions only.
 use mathlib.Core.Bool.{cond}
 use Prim.Native.Nat.{ℕ, _+_, _-_, _*_, _/_}
 use lib.Dec.{ltb}
 use Rattle.whole.specs.Frames.{framesOf}
+use Rattle.layout.specs.declared.Shape.{Shape}
+
+-- a clip of N samples in blocks of B bytes, with no entries after those of its blocks
+abbrev pub shape : ℕ → ℕ → Shape
+shape n b = record { total = n; block = b; extra = 0 }
 
 -- "m = N − 14(F−1) the samples in its last frame"
-unfoldable pub lastOf : ℕ → ℕ
+unfoldable pub lastSamples : ℕ → ℕ
 unfolding framesOf
-lastOf n = n - 14 * (framesOf n - 1)
+lastSamples n = n - 14 * (framesOf n - 1)
 
 -- "Blocks K = ⌈8F/B⌉"
-unfoldable pub blocksOf : ℕ → ℕ → ℕ
+unfoldable pub blockCount : Shape → ℕ
 unfolding framesOf
-blocksOf n b = (8 * framesOf n + b - 1) / b
+blockCount s = (8 * framesOf (s .total) + s .block - 1) / s .block
 
 -- "Body bytes T = 8(F−1) + 1 + ⌈m/2⌉"
-unfoldable pub bodyOf : ℕ → ℕ
-unfolding framesOf lastOf
-bodyOf n = 8 * (framesOf n - 1) + 1 + (lastOf n + 1) / 2
+unfoldable pub bodyBytes : ℕ → ℕ
+unfolding framesOf lastSamples
+bodyBytes n = 8 * (framesOf n - 1) + 1 + (lastSamples n + 1) / 2
+
+-- where block j's entry stands: after the head of 56 bytes, 16 bytes each
+abbrev pub entryPlace : ℕ → ℕ
+entryPlace j = 56 + 16 * j
+
+-- where the bodies begin: after the K entries and those that follow them
+abbrev pub bodiesPlace : Shape → ℕ
+bodiesPlace s = entryPlace (blockCount s + s .extra)
 
 -- "Image size S = 56 + 16K + T"
-unfoldable pub sizeOf : ℕ → ℕ → ℕ
-unfolding blocksOf bodyOf
-sizeOf n b = 56 + 16 * blocksOf n b + bodyOf n
+unfoldable pub imageSize : Shape → ℕ
+unfolding blockCount bodyBytes
+imageSize s = bodiesPlace s + bodyBytes (s .total)
 
 -- "The block size is cut down to a multiple of 8, B"
 unfoldable pub cutDown : ℕ → ℕ
 cutDown size = size / 8 * 8
 
--- where block j's body begins: the bodies stand back to back after the contents
-unfoldable pub offsetOf : ℕ → ℕ → ℕ → ℕ
-unfolding blocksOf
-offsetOf n b j = 56 + 16 * blocksOf n b + j * b
+-- where block j's body begins: the bodies stand back to back
+unfoldable pub blockOffset : Shape → ℕ → ℕ
+unfolding blockCount
+blockOffset s j = bodiesPlace s + j * s .block
 
 -- "A length is 16 for each whole frame and m + 2 for the last": B / 8 frames in every block but the last
-unfoldable pub lengthOf : ℕ → ℕ → ℕ → ℕ
-unfolding framesOf lastOf
-lengthOf n b j =
-    cond (ltb (j * (b / 8) + b / 8) (framesOf n)) (16 * (b / 8)) (16 * (framesOf n - 1 - j * (b / 8)) + (lastOf n + 2))
+unfoldable pub blockLength : Shape → ℕ → ℕ
+unfolding framesOf lastSamples
+blockLength s j =
+    let per = s .block / 8 in
+    let f = framesOf (s .total) in
+    cond (ltb (j * per + per) f) (16 * per) (16 * (f - 1 - j * per) + (lastSamples (s .total) + 2))
 
--- where frame q's bytes stand, and where the context of block k does
-abbrev pub placeOf : ℕ → ℕ → ℕ → ℕ
-placeOf n b q = 56 + 16 * blocksOf n b + 8 * q
+-- where frame q's bytes stand
+abbrev pub framePlace : Shape → ℕ → ℕ
+framePlace s q = bodiesPlace s + 8 * q
 
+-- where the context in block j's entry stands
 abbrev pub contextPlace : ℕ → ℕ
-contextPlace k = 56 + 16 * k + 8
+contextPlace j = entryPlace j + 8

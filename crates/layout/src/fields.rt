@@ -13,6 +13,7 @@ fn wide(x: u8) -> u32
     x as u32
 }
 
+// internal: two bytes of a number, the high one first.
 pub fn put16(buf: &mut [u8], at: usize, v: u16)
     requires { ⌜ at + 2 ≤ length (now buf) ⌝ }
     ensures { λ _. ⌜ now (buf .exit) ≡ sets (now (buf .entry)) at (be16 v) ⌝ }
@@ -21,6 +22,7 @@ pub fn put16(buf: &mut [u8], at: usize, v: u16)
     buf[at + 1] = (v % 256) as u8;
 }
 
+// internal: four bytes of a number, the highest first.
 pub fn put32(buf: &mut [u8], at: usize, v: u32)
     requires { ⌜ at + 4 ≤ length (now buf) ⌝ }
     ensures { λ _. ⌜ now (buf .exit) ≡ sets (now (buf .entry)) at (be32 v) ⌝ }
@@ -31,7 +33,7 @@ pub fn put32(buf: &mut [u8], at: usize, v: u32)
     buf[at + 3] = (v % 256) as u8;
 }
 
-// The bits of a signed number.
+// internal: the bits of a signed number.
 pub fn bits16(x: i16) -> u16
     ensures { λ r. ⌜ r ≡ ofZ w16 x ⌝ }
 {
@@ -72,7 +74,7 @@ pub fn get32(buf: &[u8], at: usize) -> u32
         + wide(buf[at + 3])
 }
 
-// The first n of eight bytes.
+// internal: the first n of eight bytes.
 pub fn put_part(buf: &mut [u8], at: usize, b: [u8; 8], n: usize)
     requires { ⌜ (at + n ≤ length (now buf)) × (n ≤ 8) ⌝ }
     ensures { λ _. ⌜ now (buf .exit) ≡ sets (now (buf .entry)) at (take n b) ⌝ }
@@ -84,7 +86,7 @@ pub fn put_part(buf: &mut [u8], at: usize, b: [u8; 8], n: usize)
     }
 }
 
-// Zeros from a place on, n of them.
+// internal: zeros from a place on, n of them.
 pub fn zeros(buf: &mut [u8], at: usize, n: usize)
     requires { ⌜ at + n ≤ length (now buf) ⌝ }
     ensures { λ _. ⌜ now (buf .exit) ≡ sets (now (buf .entry)) at (replicate n 0) ⌝ }

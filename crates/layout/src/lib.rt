@@ -10,3 +10,10 @@ pub const MARK: [u8; 4] = *b"DSPC";
 pub const HEAD_BYTES: usize = 56;
 
 pub const ENTRY_BYTES: usize = 16;
+
+// What fixes the sizes and places of a clip: N, B, and how many entries follow those of its K blocks.
+pub struct Shape {
+    pub total: usize,
+    pub block: usize,
+    pub extra: usize,
+}

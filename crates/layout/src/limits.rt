@@ -1,6 +1,7 @@
 // The limits of a clip's numbers.
 ghost use mathlib.Core.Path.{_≡_};
 ghost use Rattle.layout.specs.Limits.{numbersOk};
+use whole::MOST_SAMPLES;
 
 // Whether N, B, the rate and n are within their limits. It is internal: crate image calls it.
 pub fn numbers_ok(n: u32, total: u32, block: u32, rate: u32) -> bool
@@ -12,7 +13,7 @@ pub fn numbers_ok(n: u32, total: u32, block: u32, rate: u32) -> bool
     if total < 1 {
         return false;
     }
-    if total > 14_680_064 {
+    if total > MOST_SAMPLES {
         return false;
     }
     if block < 8 {

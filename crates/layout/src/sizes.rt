@@ -1,55 +1,95 @@
-// The sizes of a clip.
+// The sizes of a clip and the places in its image.
 ghost use Prim.Native.Nat.{_≤_, _<_};
 ghost use Rattle.layout.specs.Limits.{Limits};
-ghost use Rattle.layout.specs.Sizes.{blocksOf, bodyOf, sizeOf, lengthOf};
+ghost use Rattle.layout.specs.Sizes.{lastSamples, blockCount, bodyBytes, bodiesPlace, entryPlace, imageSize, cutDown, blockLength};
 ghost use mathlib.Core.Path.{_≡_};
 ghost use Rattle.whole.specs.Frames.{framesOf};
+use crate::ENTRY_BYTES;
+use crate::HEAD_BYTES;
+use crate::Shape;
+use whole::BYTES_PER_FRAME;
+use whole::SAMPLES_PER_FRAME;
 
-// Frames of n samples, the last one filled. It is internal: crate image calls it.
+// Frames of n samples, the last one filled. It is internal: clip and image call it.
 pub fn frames(n: usize) -> usize
     requires { ⌜ n ≤ 14680064 ⌝ }
-    ensures { λ r. ⌜ (r ≡ framesOf n) × (r ≤ 1048576) ⌝ }
+    ensures same { λ r. ⌜ r ≡ framesOf n ⌝ }
+    ensures most { λ r. ⌜ r ≤ 1048576 ⌝ }
 {
-    (n + 13) / 14
+    (n + 13) / SAMPLES_PER_FRAME
 }
 
-// Blocks of a clip. It is internal: crate image calls it.
-pub fn blocks(total: usize, block: usize) -> usize
-    requires { ⌜ Limits total block ⌝ }
-    ensures { λ r. ⌜ (r ≡ blocksOf total block) × (r ≤ 1048576) ⌝ }
-{
-    (8 * frames(total) + block - 1) / block
-}
-
-// Bytes of a clip's bodies.
-pub fn body(total: usize) -> usize
+// Samples in the last frame. It is internal: image calls it.
+pub fn last_samples(total: usize) -> usize
     requires { ⌜ (1 ≤ total) × (total ≤ 14680064) ⌝ }
-    ensures { λ r. ⌜ (r ≡ bodyOf total) × (r ≤ 8388608) ⌝ }
+    ensures same { λ r. ⌜ r ≡ lastSamples total ⌝ }
+    ensures most { λ r. ⌜ r ≤ 14 ⌝ }
 {
-    let f = frames(total);
-    let last = total - 14 * (f - 1);
-    8 * (f - 1) + 1 + (last + 1) / 2
+    total - SAMPLES_PER_FRAME * (frames(total) - 1)
 }
 
-// Bytes of a clip's image. It is internal: crate image calls it.
-pub fn size(total: usize, block: usize) -> usize
-    requires { ⌜ Limits total block ⌝ }
-    ensures { λ r. ⌜ r ≡ sizeOf total block ⌝ }
+// Blocks of a clip. It is internal: clip and image call it.
+pub fn block_count(shape: Shape) -> usize
+    requires { ⌜ Limits shape ⌝ }
+    ensures same { λ r. ⌜ r ≡ blockCount shape ⌝ }
+    ensures most { λ r. ⌜ r ≤ 1048576 ⌝ }
 {
-    56 + 16 * blocks(total, block) + body(total)
+    let block = shape.block;
+    (BYTES_PER_FRAME * frames(shape.total) + block - 1) / block
 }
 
-// The nibbles of block j. It is internal: crate image calls it.
-pub fn block_length(total: usize, block: usize, j: usize) -> usize
-    requires { ⌜ Limits total block × (j < blocksOf total block) ⌝ }
-    ensures { λ r. ⌜ (r ≡ lengthOf total block j) × (r < 4294967296) ⌝ }
+// Bytes of a clip's bodies. It is internal: clip calls it.
+pub fn body_bytes(total: usize) -> usize
+    requires { ⌜ (1 ≤ total) × (total ≤ 14680064) ⌝ }
+    ensures same { λ r. ⌜ r ≡ bodyBytes total ⌝ }
+    ensures most { λ r. ⌜ r ≤ 8388608 ⌝ }
 {
-    let per = block / 8;
+    BYTES_PER_FRAME * (frames(total) - 1) + 1 + (last_samples(total) + 1) / 2
+}
+
+// Where block j's entry stands. It is internal: clip, image and doilycairn call it.
+pub fn entry_place(j: usize) -> usize
+    requires { ⌜ j ≤ 1048577 ⌝ }
+    ensures { λ r. ⌜ r ≡ entryPlace j ⌝ }
+{
+    HEAD_BYTES + ENTRY_BYTES * j
+}
+
+// Where the bodies begin. It is internal: clip and image call it.
+pub fn bodies_place(shape: Shape) -> usize
+    requires { ⌜ Limits shape ⌝ }
+    ensures { λ r. ⌜ r ≡ bodiesPlace shape ⌝ }
+{
+    entry_place(block_count(shape) + shape.extra)
+}
+
+// Bytes of a clip's image. It is internal: clip and image call it.
+pub fn image_size(shape: Shape) -> usize
+    requires { ⌜ Limits shape ⌝ }
+    ensures { λ r. ⌜ r ≡ imageSize shape ⌝ }
+{
+    bodies_place(shape) + body_bytes(shape.total)
+}
+
+// A block size cut down to a multiple of 8. It is internal: clip and doilycairn call it.
+pub fn cut_down(size: u32) -> u32
+    ensures { λ r. ⌜ r ≡ cutDown size ⌝ }
+{
+    size / 8 * 8
+}
+
+// The nibbles of block j. It is internal: clip and image call it.
+pub fn block_length(shape: Shape, j: usize) -> usize
+    requires { ⌜ Limits shape × (j < blockCount shape) ⌝ }
+    ensures same { λ r. ⌜ r ≡ blockLength shape j ⌝ }
+    ensures most { λ r. ⌜ r < 4294967296 ⌝ }
+{
+    let per = shape.block / BYTES_PER_FRAME;
+    let total = shape.total;
     let f = frames(total);
     let first = j * per;
     if first + per < f {
         return 16 * per;
     }
-    let last = total - 14 * (f - 1);
-    16 * (f - 1 - first) + (last + 2)
+    16 * (f - 1 - first) + (last_samples(total) + 2)
 }

@@ -2,49 +2,60 @@
 use mathlib.Core.Path.{_≡_, refl, ap, _∙_}
 use mathlib.Core.Bool.{true}
 use mathlib.Core.List.{List, [], _∷_, _++_}
-use Prim.Native.Nat.{ℕ, _≤_}
+use Prim.Native.Nat.{ℕ, _+_, _-_, _*_, _/_, _≤_, _<_}
+use native.Mathlib.Nat.{le-div-iff-mul-le, div-lt-iff-lt-mul}
+use native.Mathlib.Omega.{arith}
 use borrow.Author.Tests.{le-ltb}
 use lib.IntN.{pos, negsuc}
 use lib.ListN.{length, drop, replicate}
 use Rattle.whole.specs.Frames.{frameAt, framesOf}
-use Rattle.frame.specs.Frame.{pairWithin, within, withinLimits}
-use Rattle.frame.specs.Worked.{quotients, frames}
-use Rattle.block.specs.Context.{predictorOf, scaleOf, pushSample, withHeader}
+use Rattle.frame.specs.Frame.{pairOk, pairsOk, coefficientsOk}
+use Rattle.frame.proofs.Worked.{quotients, frames}
+use Rattle.block.specs.Context.{predictor, scale, pushSample, withHeader}
 use Rattle.block.specs.Frame.{nibbleAt, nextSample, takeNibble}
 use Rattle.block.specs.Play.{takeHeader, playFrom, play}
-use Rattle.block.specs.Sample.{sampleOf}
-use Rattle.whole.specs.Whole.{signedNibble, clamp16}
+use Rattle.block.specs.Sample.{decodeSample}
+use Rattle.whole.specs.Whole.{signedNibble, clamp}
 use Rattle.block.proofs.Worked.{to-sample, to-address, header}
-use Rattle.clip.specs.declared.Answer.the-variants.{Accepted}
-use Rattle.layout.specs.Sizes.{lastOf, blocksOf, bodyOf, sizeOf, cutDown, offsetOf, lengthOf}
-use Rattle.clip.specs.Image.{coefficientBytes, headOf, entryOf, tableOf}
-use Rattle.clip.specs.Encoding.{Both, startAnswer, startOf}
-use Rattle.clip.specs.Runs.{Start, startWith, historyAt, encodedAt, bodiesOf, contextAt, imageOf, followed, feeds, closes, plainAfter}
+use Rattle.whole.specs.Outcome.{accepted}
+use Rattle.layout.specs.Sizes.{shape, lastSamples, blockCount, bodyBytes, imageSize, cutDown, blockOffset, blockLength}
+use Rattle.clip.specs.Image.{cut, coefficientBytes, headBytes, entryBytes, tableBytes}
+use Rattle.clip.specs.Encoding.{Left, startAnswer, start}
+use Rattle.clip.specs.Runs.{historyAt, encodedAt, bodies, contextAt, imageAfter, leftAfter, feeds, closes, plainAfter}
 use Rattle.clip.proofs.WholeRuns.{encoding-states}
 use Rattle.image.proofs.Worked.{plays}
-use Rattle.round_trip.specs.Numbers.{silence, nine, heard, WorkedNumbers}
+use Rattle.round_trip.specs.Numbers.{silence, ofNine, nine, heard, WorkedNumbers}
 
 heard-are : (heard 0x00 0x80 ≡ negsuc 7 ∷ []) × (heard 0x01 0x40 ≡ pos 8 ∷ [])
-unfolding play playFrom takeHeader takeNibble nextSample nibbleAt pushSample withHeader predictorOf scaleOf sampleOf signedNibble clamp16
+unfolding play playFrom takeHeader takeNibble nextSample nibbleAt pushSample withHeader predictor scale decodeSample signedNibble clamp
 heard-are = (refl, refl)
 
-sizes-are : (sizeOf 1 8 ≡ 74) × (sizeOf 14 8 ≡ 80) × (sizeOf 15 8 ≡ 98) × (sizeOf 15 16 ≡ 82)
-unfolding sizeOf bodyOf blocksOf lastOf framesOf
-sizes-are = (refl, refl, refl, refl)
+-- one frame is one block, whatever the block size
+one-block : (b : ℕ) → 8 ≤ b → (8 * 1 + b - 1) / b ≡ 1
+one-block b h =
+    let z : 0 < b = omega arith in
+    let lo : 1 ≤ (8 * 1 + b - 1) / b = le-div-iff-mul-le {x = 1} {y = 8 * 1 + b - 1} z .1 (omega arith) in
+    let hi : (8 * 1 + b - 1) / b < 2 = div-lt-iff-lt-mul {x = 8 * 1 + b - 1} {y = 2} z .1 (omega arith) in
+    omega arith
 
-abbrev start : Start
-start = startWith 1 32000 15 0 (replicate 16 (pos 0)) silence
+sizes-any : (b : ℕ) → 8 ≤ b → (imageSize (shape 1 b) ≡ 74) × (imageSize (shape 14 b) ≡ 80)
+unfolding imageSize bodyBytes blockCount lastSamples framesOf
+sizes-any b h = let k = one-block b h in (omega (arith, k), omega (arith, k))
 
-accepted : (l : List ℕ) → 74 ≤ length l → startOf 1 32000 15 0 (replicate 16 (pos 0)) silence l .answer ≡ Accepted
-unfolding startOf startAnswer withinLimits within pairWithin sizeOf bodyOf blocksOf lastOf framesOf cutDown
-accepted l h = rw (le-ltb (length l) 74 h)
+sizes-are : (imageSize (shape 15 8) ≡ 98) × (imageSize (shape 15 16) ≡ 82)
+unfolding imageSize bodyBytes blockCount lastSamples framesOf
+sizes-are = (refl, refl)
 
-image-is : imageOf start (pos 9 ∷ []) true ≡ nine
-unfolding imageOf headOf coefficientBytes tableOf entryOf contextAt bodiesOf encodedAt historyAt frameAt cutDown offsetOf lengthOf sizeOf bodyOf blocksOf lastOf framesOf
+started : (l : List ℕ) → 74 ≤ length l → start ofNine l .outcome ≡ accepted tt
+unfolding start startAnswer coefficientsOk pairsOk pairOk imageSize bodyBytes blockCount lastSamples framesOf cutDown
+started l h = rw (le-ltb (length l) 74 h)
+
+image-is : imageAfter (cut ofNine) (pos 9 ∷ []) true ≡ nine
+unfolding imageAfter headBytes coefficientBytes tableBytes entryBytes contextAt bodies encodedAt historyAt frameAt cutDown blockOffset blockLength imageSize bodyBytes blockCount lastSamples framesOf
 image-is = rw (frames .3)
 
 pub worked : WorkedNumbers
-unfolding followed plainAfter sizeOf bodyOf blocksOf lastOf framesOf cutDown
+unfolding leftAfter plainAfter imageSize bodyBytes blockCount lastSamples framesOf cutDown
 worked =
     record {
       to-samples = (to-sample .0, to-sample .1, to-sample .2, to-sample .3, to-sample .4, to-sample .5, to-sample .6, to-sample .7);
@@ -53,10 +64,10 @@ worked =
       quantising = quotients;
       encoding = frames;
       playing = heard-are;
+      sizes-any = sizes-any;
       sizes = sizes-are;
       image =
           λ l h.
-          ap (λ (s : Both). s .bytes) (encoding-states 1 32000 15 0 (replicate 16 (pos 0)) silence l refl (accepted l h) (feeds (pos 9 ∷ []) ∷ closes ∷ []))
-          ∙ ap (λ (a : List ℕ). a ++ drop 74 l) image-is;
+          ap (λ (s : Left). s .bytes) (encoding-states ofNine l refl (started l h) (feeds (pos 9 ∷ []) ∷ closes ∷ [])) ∙ ap (λ (a : List ℕ). a ++ drop 74 l) image-is;
       sound = plays;
     }

@@ -5,11 +5,10 @@ use lib.IntN.{ℤ, pos}
 use lib.ListN.{getD}
 use mir.Syntax.{w16}
 use mir.Val.{SFits}
-use Rattle.frame.specs.declared.History.{History}
-use Rattle.coefficients.specs.declared.Answer as Measure
+use Rattle.whole.specs.declared.History.{History}
+use Rattle.whole.specs.Outcome.{Outcome, accepted, refused}
 use Rattle.coefficients.specs.Runs as measured
 use Rattle.coefficients.specs.Runs.{measures, asks}
-use Rattle.clip.specs.declared.Answer.{Answer}
 use Rattle.clip.specs.Runs as encoded
 use Rattle.clip.specs.Runs.{feeds, closes}
 
@@ -17,6 +16,7 @@ use Rattle.clip.specs.Runs.{feeds, closes}
 abbrev pub Sampled : List ℤ → Type 0
 Sampled xs = (i : ℕ) → SFits w16 (getD xs i (pos 0))
 
+-- the starting history is of such numbers
 abbrev pub Starting : History → Type 0
 Starting h = SFits w16 (h .newest) × SFits w16 (h .older)
 
@@ -36,16 +36,13 @@ encodingCalls [] = closes ∷ []
 encodingCalls (p ∷ ps) = feeds p ∷ encodingCalls ps
 
 -- the coefficients that the last call answered
-unfoldable pub lastCoefficients : List measured.Seen → List ℤ
+unfoldable pub lastCoefficients : List (Outcome (List ℤ)) → List ℤ
 lastCoefficients [] = []
-lastCoefficients (s ∷ []) = s .coefficients
-lastCoefficients (s ∷ t ∷ ss) = lastCoefficients (t ∷ ss)
+lastCoefficients (accepted cs ∷ []) = cs
+lastCoefficients (refused n ∷ []) = []
+lastCoefficients (o ∷ q ∷ os) = lastCoefficients (q ∷ os)
 
 -- what each call answered
-unfoldable pub measuringAnswers : List measured.Seen → List Measure.Answer
-measuringAnswers [] = []
-measuringAnswers (s ∷ ss) = s .answer ∷ measuringAnswers ss
-
-unfoldable pub encodingAnswers : List encoded.Seen → List Answer
+unfoldable pub encodingAnswers : List encoded.Seen → List (Outcome Unit)
 encodingAnswers [] = []
-encodingAnswers (s ∷ ss) = s .answer ∷ encodingAnswers ss
+encodingAnswers (s ∷ ss) = s .outcome ∷ encodingAnswers ss

@@ -1,4 +1,4 @@
 -- What the theorems cite.
 pub mod Job
-pub mod Outcome
+pub mod ClosedClip
 pub mod Numbers

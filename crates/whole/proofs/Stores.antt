@@ -1,11 +1,11 @@
 -- Laws of runs of stores, `sets`, and of joined lists.
-use Prim.Native.Nat.{ℕ, zero, suc, _+_, _-_, _≤_, _<_}
+use Prim.Native.Nat.{ℕ, suc, _+_, _-_, _≤_, _<_}
 use mathlib.Core.Path.{_≡_, refl, sym, ap, _∙_}
 use mathlib.Core.List.{List, [], _∷_, _++_, append-assoc}
 use native.Mathlib.Nat.{add-zero, zero-add, add-suc, suc-add, add-sub-of-le}
 use native.Mathlib.Omega.{arith}
 use native.Mathlib.Numerals.{add-one}
-use lib.ListN.{length, take, drop, set, getD, replicate, length-append, length-set, length-replicate, replicate-append-replicate}
+use lib.ListN.{length, take, set, getD, replicate, length-append, length-set, length-replicate, replicate-append-replicate}
 use lib.Seq.{sets, set-at, append-snoc, take-suc, length-take-le, set-append-left, take-at, take-append-add}
 
 module _ {A : Type 0} where

@@ -5,9 +5,13 @@ use lib.Dec.{ltb}
 use lib.IntN.{ℤ, pos, negsuc, _-ℤ_}
 use lib.Signed.{ltZ, quotZ, shrZ}
 
--- z, or the nearer end of -32768..32767
-unfoldable pub clamp16 : ℤ → ℤ
-clamp16 z = cond (ltZ z (negsuc 32767)) (negsuc 32767) (cond (ltZ (pos 32767) z) (pos 32767) z)
+-- z, or the nearer end of −n − 1 .. n
+unfoldable pub clamp : ℕ → ℤ → ℤ
+clamp n z = cond (ltZ z (negsuc n)) (negsuc n) (cond (ltZ (pos n) z) (pos n) z)
+
+-- z, or the nearer end of −32768..32767
+abbrev pub clamp16 : ℤ → ℤ
+clamp16 z = clamp 32767 z
 
 -- z / d, rounded towards zero: the quotient of the magnitudes, with the sign of z
 abbrev pub towardsZero : ℤ → ℕ → ℤ

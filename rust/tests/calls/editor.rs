@@ -11,11 +11,53 @@ fn the_worked_example_of_undo_runs() {
     undo_example::main().unwrap();
 }
 
+#[path = "../../examples/peak.rs"]
+mod peak_example;
+
 #[test]
-fn the_worked_example_in_the_document_is_the_file() {
+fn the_worked_example_of_a_meter_runs() {
+    peak_example::main().unwrap();
+}
+
+#[test]
+fn the_worked_examples_in_the_document_are_the_files() {
     let document = include_str!("../../../docs/EDITOR.md");
-    let quoted = document.split("```").nth(1).unwrap();
-    assert_eq!(quoted.strip_prefix("rust\n"), Some(include_str!("../../examples/undo.rs")));
+    for (language, file) in [
+        ("c", include_str!("../../../examples/undo.c")),
+        ("rust", include_str!("../../examples/undo.rs")),
+        ("rust", include_str!("../../examples/peak.rs")),
+    ] {
+        assert!(document.contains(&format!("\n```{language}\n{file}```\n")), "{file}");
+    }
+}
+
+#[test]
+fn the_peak_of_the_first_samples_of_a_block() {
+    let loudest = |samples: &[i16]| samples.iter().map(|s| s.unsigned_abs()).max().unwrap_or(0);
+    for (total, block_size) in
+        (1..=60).flat_map(|total| (8..=48).step_by(8).map(move |b| (total, b)))
+    {
+        let bytes = encode(&noise(total, 9000, total as u64), block_size);
+        let image = Image::open(&bytes).unwrap();
+        let whole = image.play().unwrap();
+        for (k, block) in whole.chunks(block_size as usize / 8 * 14).enumerate() {
+            for count in 0..=block.len() {
+                let peak = peak_example::peak(&image, k as u32, count as u32);
+                assert_eq!(peak, Ok(loudest(&block[..count])), "{total} {block_size} {k} {count}");
+            }
+        }
+    }
+}
+
+#[test]
+fn the_peak_of_a_largest_block() {
+    let bytes = encode(&noise(114_688, 30_000, 3), 65_536);
+    let image = Image::open(&bytes).unwrap();
+    let whole = image.play().unwrap();
+    for count in [0, 1, 13, 14, 15, 1000, 114_673, 114_674, 114_675, 114_687, 114_688] {
+        let loudest = whole[..count].iter().map(|s| s.unsigned_abs()).max().unwrap_or(0);
+        assert_eq!(peak_example::peak(&image, 0, count as u32), Ok(loudest));
+    }
 }
 
 /// The bytes of all bodies.

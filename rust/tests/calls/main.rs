@@ -1,5 +1,6 @@
 //! The calls of the crate, against the archive that it is linked with.
 
+mod altered;
 mod blocks;
 mod clips;
 mod cuts;

@@ -59,6 +59,26 @@ fn number_1_measuring() {
     assert!(state(14, 1).process(&[], &mut [0.5; 2]).is_ok());
 }
 
+#[test]
+fn a_refused_measuring_does_not_grow_its_store() {
+    let state = |samples, records| Calculator { samples, records, history: [1; 28] };
+    let refused = [(state(5, 1), 1), (state(28, 3), 1), (state(MAX_SAMPLES + 1, 0), 1)];
+    for (given, number) in refused.into_iter().chain([(state(MAX_SAMPLES, 0), 2)]) {
+        let mut measure = Measure::from_parts(given, vec![2.5; 3]);
+        assert_eq!(measure.process(&[1; 500]).unwrap_err().number(), number);
+        if number == 1 {
+            assert_eq!(measure.coefficients(), Err(Refusal::InvalidState));
+        }
+        let (after, store) = measure.into_parts();
+        assert_eq!((after, &store[..]), (given, &[2.5; 3][..]));
+        assert!(store.capacity() < 10);
+    }
+    // Accepted, it grows to what the samples need.
+    let mut measure = Measure::from_parts(state(5, 0), vec![2.5; 3]);
+    measure.process(&[1; 24]).unwrap();
+    assert_eq!(measure.into_parts().1.len(), store_size(29));
+}
+
 /// States that differ from a valid one by one field.
 fn invalid_states() -> Vec<EncoderState> {
     let (state, _) = fed(15);

@@ -1,17 +1,19 @@
-//! The panels of frames: exponents, predictors, and the legend of these.
+//! The panels of frames: exponents and predictors.
 
 use super::layout::{LEFT, Layout};
 use super::panels::grid;
 use super::path::Path;
 use super::seen::{Cell, Seen};
 use super::svg::{Anchor, Svg};
-use super::words::percent;
 use std::io;
 
-const EXPONENT: &str = "#00695c";
+pub const EXPONENT: &str = "#00695c";
+
+/// Below the smallest exponent of a cell.
+pub const GROUND: &str = "#dfe5e2";
 
 /// A colour for each predictor, told apart by most eyes.
-const PREDICTORS: [&str; 8] =
+pub const PREDICTORS: [&str; 8] =
     ["#1c1c1c", "#e69f00", "#56b4e9", "#009e73", "#c9b800", "#0072b2", "#d55e00", "#cc79a7"];
 
 /// Where cells `from` to `to` stand: their left edge and their width.
@@ -79,7 +81,7 @@ fn below(svg: &mut Svg, layout: &Layout, seen: &Seen, high: f64) -> io::Result<(
         }
         from += run.len();
     }
-    svg.fill("below", &path, "#dfe5e2", 1.0)
+    svg.fill("below", &path, GROUND, 1.0)
 }
 
 pub fn predictors(svg: &mut Svg, layout: &Layout, seen: &Seen) -> io::Result<()> {
@@ -88,25 +90,8 @@ pub fn predictors(svg: &mut Svg, layout: &Layout, seen: &Seen) -> io::Result<()>
     svg.upwards(12.0, panel.middle(), "predictor")?;
     for (k, colour) in PREDICTORS.into_iter().enumerate() {
         let y = panel.bottom() - (k + 1) as f64 * high;
-        let small = r##"fill="#1c1c1c" font-size="8""##;
-        svg.styled(LEFT - 6.0, y + high / 2.0 + 3.0, Anchor::End, &k.to_string(), small)?;
+        svg.text(LEFT - 6.0, y + high / 2.0 + 4.0, Anchor::End, &k.to_string())?;
         row(svg, layout, seen, ("predictor", colour), (y, high), |cell| cell.predictors[k])?;
-    }
-    Ok(())
-}
-
-/// Each predictor's colour, coefficients, and the share of frames that have it.
-pub fn legend(svg: &mut Svg, layout: &Layout, seen: &Seen) -> io::Result<()> {
-    let y = layout.predictor.bottom() + 45.0;
-    for (k, (c0, c1)) in seen.head.coefficients.pairs().into_iter().enumerate() {
-        let x = LEFT + 140.0 * k as f64;
-        let mut swatch = Path::new();
-        swatch.area(x, y - 9.0, 10.0, 10.0);
-        svg.fill("swatch", &swatch, PREDICTORS[k], 1.0)?;
-        let share = percent(seen.predicted_by(k), seen.frames);
-        let small = r##"fill="#1c1c1c" font-size="10""##;
-        let text = format!("{k}: {c0} {c1}, {share}").replace('-', "−");
-        svg.styled(x + 14.0, y, Anchor::Start, &text, small)?;
     }
     Ok(())
 }

@@ -3,14 +3,18 @@
 use super::seen::{COLUMNS, Seen};
 
 pub const WIDTH: u32 = 1200;
-pub const HEIGHT: u32 = 600;
 
 /// The left edge of the panels; a column of samples is one unit wide.
 pub const LEFT: f64 = 64.0;
 pub const RIGHT: f64 = LEFT + COLUMNS as f64;
 
-/// The height of the strips above and below the waveform, which have the labels of marks.
-const STRIP: f64 = 16.0;
+/// The first line of words below the title, and from line to line.
+pub const WORDS: f64 = 40.0;
+pub const LINE: f64 = 14.0;
+
+/// Between panels; more where a mark has its label there.
+const GAP: f64 = 8.0;
+const STRIP: f64 = 18.0;
 
 #[derive(Clone, Copy, Debug)]
 pub struct Panel {
@@ -28,8 +32,8 @@ impl Panel {
     }
 
     /// The panel after this one.
-    fn below(&self, gap: f64, height: f64) -> Self {
-        Self { top: self.bottom() + gap, height }
+    fn below(&self, labelled: bool, height: f64) -> Self {
+        Self { top: self.bottom() + if labelled { STRIP } else { GAP }, height }
     }
 }
 
@@ -42,19 +46,34 @@ pub struct Layout {
 }
 
 impl Layout {
-    /// The waveform has what the others leave.
-    pub fn new(seen: &Seen) -> Self {
+    /// Below so many lines of words.
+    pub fn new(seen: &Seen, lines: usize) -> Self {
         let compared = seen.distance.is_some();
-        let wave = Panel { top: 86.0, height: if compared { 214.0 } else { 290.0 } };
-        let distance = compared.then(|| wave.below(STRIP, 60.0));
-        let exponent = distance.unwrap_or(wave).below(STRIP, 78.0);
-        let predictor = exponent.below(8.0, 64.0);
+        let above = WORDS + LINE * lines as f64;
+        let top = above + if seen.odd.is_some() { 8.0 } else { -4.0 };
+        let wave = Panel { top, height: if compared { 220.0 } else { 280.0 } };
+        let clicks = seen.seams.largest.is_some();
+        let distance = compared.then(|| wave.below(clicks, 60.0));
+        let far = seen.distance.as_ref().and_then(|distance| distance.largest);
+        let labelled = if compared { far.is_some_and(|far| far.size > 0) } else { clicks };
+        let exponent = distance.unwrap_or(wave).below(labelled, 78.0);
+        let predictor = exponent.below(false, 96.0);
         Self { total: seen.head.total.into(), wave, distance, exponent, predictor }
     }
 
     /// Where a sample begins; half a sample on is its middle.
     pub fn x(&self, sample: f64) -> f64 {
         LEFT + sample / self.total * f64::from(COLUMNS)
+    }
+
+    /// The line of an axis below the panels, from 0 on.
+    pub fn axis(&self, line: usize) -> f64 {
+        self.predictor.bottom() + 14.0 + LINE * line as f64
+    }
+
+    /// The first line of the legend.
+    pub fn legend(&self) -> f64 {
+        self.axis(3) + 8.0
     }
 
     pub fn panels(&self) -> impl Iterator<Item = Panel> {

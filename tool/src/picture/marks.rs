@@ -4,25 +4,23 @@ use super::layout::{LEFT, Layout, RIGHT};
 use super::path::Path;
 use super::seen::{Seen, step};
 use super::svg::{Anchor, Svg};
+use super::time::{self, LABELS};
 use super::words::number;
 use std::io;
 
-const EDGE: &str = "#8a8880";
-const JUMP: &str = "#b35c00";
-const CLICK: &str = "#c1121f";
-
-/// The most numbers along an axis.
-const LABELS: u32 = 12;
+pub const EDGE: &str = "#8a8880";
+pub const JUMP: &str = "#b35c00";
+pub const CLICK: &str = "#c1121f";
 
 pub fn all(svg: &mut Svg, layout: &Layout, seen: &Seen) -> io::Result<()> {
     edges(svg, layout, seen)?;
     jump(svg, layout, seen)?;
     seams(svg, layout, seen)?;
     furthest(svg, layout, seen)?;
-    let below = layout.predictor.bottom();
     let (blocks, samples) = (seen.head.blocks, seen.head.total);
-    axis(svg, layout, below + 13.0, "block", blocks, seen.block_samples())?;
-    axis(svg, layout, below + 27.0, "sample", samples, 1)
+    times(svg, layout, seen)?;
+    axis(svg, layout, layout.axis(1), "sample", samples, 1)?;
+    axis(svg, layout, layout.axis(2), "block", blocks, seen.block_samples())
 }
 
 fn edges(svg: &mut Svg, layout: &Layout, seen: &Seen) -> io::Result<()> {
@@ -32,7 +30,7 @@ fn edges(svg: &mut Svg, layout: &Layout, seen: &Seen) -> io::Result<()> {
             lines.vertical(layout.x(sample.into()), panel.top, panel.bottom());
         }
     }
-    svg.stroke("edge", &lines, EDGE, 0.75)
+    svg.stroke("edge", &lines, EDGE, 0.5)
 }
 
 /// A label beside a mark, on the side that has more room.
@@ -42,9 +40,9 @@ fn label(svg: &mut Svg, x: f64, y: f64, colour: &str, text: &str) -> io::Result<
     svg.styled(x, y, anchor, text, &format!(r#"fill="{colour}" font-weight="bold""#))
 }
 
-/// The largest jump: a mark above the waveform and a line through it.
+/// The largest jump that stands out: a mark above the waveform and a line through it.
 fn jump(svg: &mut Svg, layout: &Layout, seen: &Seen) -> io::Result<()> {
-    let Some(jump) = seen.jump.filter(|jump| jump.size > 0) else { return Ok(()) };
+    let Some(jump) = seen.odd else { return Ok(()) };
     let (x, top) = (layout.x(jump.at.into()), layout.wave.top);
     let (mut tip, mut line) = (Path::new(), Path::new());
     tip.triangle(x, top - 1.0, -8.0);
@@ -85,6 +83,32 @@ fn furthest(svg: &mut Svg, layout: &Layout, seen: &Seen) -> io::Result<()> {
     label(svg, x, panel.bottom() + 12.0, "#6a1b9a", &text)
 }
 
+/// Times along the bottom.
+fn times(svg: &mut Svg, layout: &Layout, seen: &Seen) -> io::Result<()> {
+    svg.text(LEFT - 14.0, layout.axis(0), Anchor::End, "time")?;
+    let (total, rate) = (f64::from(seen.head.total), f64::from(seen.head.rate));
+    let step = time::step(total / rate);
+    for i in (0..=LABELS).map(f64::from).take_while(|i| i * step * rate < total) {
+        let text = time::label(i * step, step);
+        number_at(svg, layout.x(i * step * rate), layout.axis(0), &text)?;
+    }
+    Ok(())
+}
+
+/// Numbers nearer to an edge stand beside their place.
+const LEFT_MOST: f64 = LEFT + 12.0;
+const RIGHT_MOST: f64 = RIGHT - 24.0;
+
+/// A number along the bottom.
+fn number_at(svg: &mut Svg, x: f64, y: f64, text: &str) -> io::Result<()> {
+    let anchor = match x {
+        ..LEFT_MOST => Anchor::Start,
+        RIGHT_MOST.. => Anchor::End,
+        _ => Anchor::Middle,
+    };
+    svg.text(x, y, anchor, text)
+}
+
 /// Numbers along the bottom, each at the first sample of what it counts: `each` samples.
 fn axis(
     svg: &mut Svg,
@@ -96,9 +120,7 @@ fn axis(
 ) -> io::Result<()> {
     svg.text(LEFT - 14.0, y, Anchor::End, name)?;
     for i in (0..count).step_by(step(count, LABELS) as usize) {
-        let x = layout.x((i * each).into());
-        let anchor = if x > RIGHT - 24.0 { Anchor::End } else { Anchor::Middle };
-        svg.text(x, y, anchor, &number(i))?;
+        number_at(svg, layout.x((i * each).into()), y, &number(i))?;
     }
     Ok(())
 }

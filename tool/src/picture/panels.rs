@@ -18,8 +18,7 @@ pub fn all(svg: &mut Svg, layout: &Layout, seen: &Seen) -> io::Result<()> {
         samples::distance(svg, layout, panel, seen)?;
     }
     frames::exponents(svg, layout, seen)?;
-    frames::predictors(svg, layout, seen)?;
-    frames::legend(svg, layout, seen)
+    frames::predictors(svg, layout, seen)
 }
 
 /// A line across a panel, and what it stands for.

@@ -8,8 +8,9 @@ use super::svg::Svg;
 use super::words::number;
 use std::io;
 
-const WAVE: &str = "#1f4e79";
-const DISTANCE: &str = "#6a1b9a";
+pub const WAVE: &str = "#1f4e79";
+pub const PEAKS: &str = "#8fb1d3";
+pub const DISTANCE: &str = "#6a1b9a";
 
 /// Samples that are drawn as dots on their line.
 const DOTS: usize = 160;
@@ -18,10 +19,11 @@ pub fn wave(svg: &mut Svg, layout: &Layout, seen: &Seen) -> io::Result<()> {
     let panel = layout.wave;
     let limit = seen.loudest().next_power_of_two().max(16);
     let unit = (panel.height / 2.0 - 2.0) / f64::from(limit);
-    let y = |sample: i16| panel.middle() - f64::from(sample) * unit;
+    let level = |level: f64| panel.middle() - level * unit;
+    let y = |sample: i16| level(sample.into());
     svg.upwards(12.0, panel.middle(), "samples")?;
-    for level in [i64::from(limit), 0, -i64::from(limit)] {
-        grid(svg, panel.middle() - level as f64 * unit, &number(level))?;
+    for line in [i64::from(limit), 0, -i64::from(limit)] {
+        grid(svg, level(line as f64), &number(line))?;
     }
     let mut path = Path::new();
     if seen.gathered() {
@@ -29,13 +31,28 @@ pub fn wave(svg: &mut Svg, layout: &Layout, seen: &Seen) -> io::Result<()> {
             let (from, to) = (y(column.high) - 0.75, y(column.low) + 0.75);
             path.area(LEFT + g as f64, from, 1.0, to - from);
         }
-        return svg.fill("wave", &path, WAVE, 1.0);
+        let colour = if seen.has_rms() { PEAKS } else { WAVE };
+        svg.fill("wave", &path, colour, 1.0)?;
+        return rms(svg, seen, level);
     }
     for (i, column) in seen.columns.iter().enumerate() {
         path.point(layout.x(i as f64 + 0.5), y(column.high));
     }
     svg.stroke("wave", &path, WAVE, 1.25)?;
     dots(svg, layout, seen, y)
+}
+
+/// The root mean square of each column, within its peaks.
+fn rms(svg: &mut Svg, seen: &Seen, y: impl Fn(f64) -> f64) -> io::Result<()> {
+    let mut path = Path::new();
+    for (g, column) in seen.columns.iter().enumerate().filter(|_| seen.has_rms()) {
+        let size = column.rms();
+        let (high, low) = (size.min(column.high.into()), (-size).max(column.low.into()));
+        if high > low {
+            path.area(LEFT + g as f64, y(high), 1.0, y(low) - y(high));
+        }
+    }
+    svg.fill("rms", &path, WAVE, 1.0)
 }
 
 /// Each sample as a dot, where there are few.

@@ -15,14 +15,26 @@ pub struct Peak {
     pub at: u32,
 }
 
-/// The samples of a column: the lowest and the highest, with what the column before ends with; the largest distance from the reference and
-/// the largest bound of one.
+/// Samples that a column has at least where their root mean square is drawn.
+const MANY: u32 = 16;
+
+/// The samples of a column: the lowest and the highest, with what the column before ends with; how many they are, and the sum of their squares;
+/// the largest distance from the reference and the largest bound of one.
 #[derive(Clone, Copy, Debug, PartialEq, Eq)]
 pub struct Column {
     pub low: i16,
     pub high: i16,
+    pub samples: u32,
+    pub squares: u64,
     pub distance: u32,
     pub bound: u32,
+}
+
+impl Column {
+    /// The root mean square.
+    pub fn rms(&self) -> f64 {
+        (self.squares as f64 / f64::from(self.samples.max(1))).sqrt()
+    }
 }
 
 /// The frames of a column: how many have each exponent, and each predictor.
@@ -63,6 +75,8 @@ pub struct Seen {
     pub cells: Vec<Cell>,
     /// Between neighbouring samples: its place is that of the second.
     pub jump: Option<Peak>,
+    /// The largest that stands out: from the reference, or else from what is around it.
+    pub odd: Option<Peak>,
     pub seams: Seams,
     pub distance: Option<Distance>,
 }
@@ -82,6 +96,11 @@ impl Seen {
     /// Whether a column has several samples.
     pub fn gathered(&self) -> bool {
         self.head.total > COLUMNS
+    }
+
+    /// Whether the root mean square is drawn.
+    pub fn has_rms(&self) -> bool {
+        self.head.total / COLUMNS >= MANY
     }
 
     /// The first sample of column `g`; the count of samples after the last one.

@@ -1,6 +1,6 @@
 //! The elements of the picture, written one after the other.
 
-use super::layout::{HEIGHT, WIDTH};
+use super::layout::WIDTH;
 use super::path::{Path, units};
 use std::io::{self, Write};
 
@@ -33,14 +33,15 @@ fn escaped(text: &str) -> String {
 
 impl<'a> Svg<'a> {
     /// Begins a picture of fixed size with a background of its own, so that it reads the same on light and dark pages.
-    pub fn begin(out: &'a mut dyn Write, title: &str) -> io::Result<Self> {
+    pub fn begin(out: &'a mut dyn Write, title: &str, height: f64) -> io::Result<Self> {
+        let high = units(height.ceil());
         writeln!(out, r#"<?xml version="1.0" encoding="UTF-8"?>"#)?;
         writeln!(
             out,
-            r#"<svg xmlns="http://www.w3.org/2000/svg" version="1.1" width="{WIDTH}" height="{HEIGHT}" viewBox="0 0 {WIDTH} {HEIGHT}" font-family="sans-serif" font-size="11">"#
+            r#"<svg xmlns="http://www.w3.org/2000/svg" version="1.1" width="{WIDTH}" height="{high}" viewBox="0 0 {WIDTH} {high}" font-family="sans-serif" font-size="11">"#
         )?;
         writeln!(out, "<title>{}</title>", escaped(title))?;
-        writeln!(out, r##"<rect width="{WIDTH}" height="{HEIGHT}" fill="#f7f6f2"/>"##)?;
+        writeln!(out, r##"<rect width="{WIDTH}" height="{high}" fill="#f7f6f2"/>"##)?;
         Ok(Self { out })
     }
 

@@ -1,6 +1,8 @@
 //! Gathering what the picture shows: the blocks are played in turn, once.
 
+use super::jumps::{Around, Beside};
 use super::seen::{COLUMNS, Cell, Column, Distance, Peak, Seams, Seen, bound};
+use crate::seams::off;
 use doilycairn::{Block, Image, Refusal};
 
 /// What the picture of this image shows.
@@ -9,6 +11,11 @@ pub fn walk(image: &Image, reference: Option<&[i16]>) -> Result<Seen, Refusal> {
     for block in image.blocks() {
         walk.block(&block)?;
     }
+    walk.around.finish();
+    walk.seen.odd = match reference {
+        Some(_) => walk.beside.largest,
+        None => walk.around.largest,
+    };
     Ok(walk.seen)
 }
 
@@ -33,20 +40,24 @@ struct Walk<'a> {
     /// What the block before ended with, the newest first.
     ended: Option<[i16; 2]>,
     played: Vec<i16>,
+    around: Around,
+    beside: Beside,
 }
 
 impl<'a> Walk<'a> {
     fn new(image: &Image, reference: &'a [i16], compared: bool) -> Self {
         let head = *image.head();
         let frames = head.total.div_ceil(14);
-        let column = Column { low: i16::MAX, high: i16::MIN, distance: 0, bound: 0 };
+        let (low, high) = (i16::MAX, i16::MIN);
+        let column = Column { low, high, samples: 0, squares: 0, distance: 0, bound: 0 };
         let columns = vec![column; head.total.min(COLUMNS) as usize];
         let cells = vec![Cell::default(); frames.min(COLUMNS) as usize];
         let seams = Seams { columns: vec![false; columns.len()], ..Seams::default() };
         let reference_len = reference.len();
         let distance = compared.then_some(Distance { largest: None, exponent: 0, reference_len });
-        let seen = Seen { head, frames, columns, cells, jump: None, seams, distance };
-        Self { seen, reference, at: 0, last: None, ended: None, played: vec![] }
+        let seen = Seen { head, frames, columns, cells, jump: None, odd: None, seams, distance };
+        let (around, beside) = (Around::default(), Beside::default());
+        Self { seen, reference, at: 0, last: None, ended: None, played: vec![], around, beside }
     }
 
     fn block(&mut self, block: &Block) -> Result<(), Refusal> {
@@ -68,7 +79,7 @@ impl<'a> Walk<'a> {
     /// Compares the entry's history with what the block before ended with.
     fn seam(&mut self, history: [i16; 2]) {
         let Some(ended) = self.ended else { return };
-        let off = ended[0].abs_diff(history[0]).max(ended[1].abs_diff(history[1]));
+        let off = off(history, ended);
         if off > 0 {
             let g = self.column();
             let seams = &mut self.seen.seams;
@@ -92,8 +103,12 @@ impl<'a> Walk<'a> {
         let also = self.last.filter(|_| gathered).unwrap_or(sample);
         column.low = column.low.min(sample).min(also);
         column.high = column.high.max(sample).max(also);
+        column.samples += 1;
+        column.squares += u64::from(sample.unsigned_abs()).pow(2);
         if let Some(last) = self.last {
-            raise(&mut self.seen.jump, sample.abs_diff(last).into(), self.at);
+            let size = sample.abs_diff(last).into();
+            raise(&mut self.seen.jump, size, self.at);
+            self.around.push(size);
         }
         self.compare(g, sample, exponent);
         self.last = Some(sample);
@@ -104,6 +119,8 @@ impl<'a> Walk<'a> {
     fn compare(&mut self, g: usize, sample: i16, exponent: u8) {
         let Some(original) = self.reference.get(self.at as usize) else { return };
         let Some(distance) = &mut self.seen.distance else { return };
+        let jump = self.last.map(|last| u32::from(sample.abs_diff(last)));
+        self.beside.push(*original, bound(exponent), jump, self.at);
         let size = u32::from(sample.abs_diff(*original));
         let column = &mut self.seen.columns[g];
         column.distance = column.distance.max(size);

@@ -1,8 +1,9 @@
 //! What the picture says in words.
 
-use super::layout::LEFT;
+use super::layout::{LEFT, LINE, WORDS};
 use super::seen::{Distance, Seen, bound};
 use super::svg::{Anchor, Svg};
+use crate::text::clip_length;
 use std::io;
 
 /// A number with its digits in threes.
@@ -33,22 +34,16 @@ fn count(value: u32, name: &str) -> String {
     format!("{} {name}{plural}", number(value))
 }
 
-fn duration(seconds: f64) -> String {
-    if seconds < 1.0 { format!("{:.2} ms", 1000.0 * seconds) } else { format!("{seconds:.3} s") }
-}
-
 /// What the head says.
-pub fn title(seen: &Seen) -> String {
+pub fn summary(seen: &Seen) -> String {
     let head = &seen.head;
     format!(
-        "{} at {} Hz, {}; {}, {} of {} bytes; gain {}",
-        count(head.total, "sample"),
-        number(head.rate),
-        duration(f64::from(head.total) / f64::from(head.rate)),
+        "{}; {}, {} of up to {} bytes; gain {}.",
+        clip_length(head.total, head.rate),
         count(seen.frames, "frame"),
         count(head.blocks, "block"),
         number(head.block),
-        head.gain
+        number(head.gain)
     )
 }
 
@@ -59,7 +54,7 @@ fn marks(seen: &Seen) -> String {
         Some(jump) if jump.size == 0 => "All samples are equal.".into(),
         Some(jump) => {
             let (from, to) = (number(jump.at - 1), number(jump.at));
-            format!("Largest jump: {}, from sample {from} to {to}.", number(jump.size))
+            format!("Largest jump: {}, from sample {from} to {to}.{}", number(jump.size), odd(seen))
         }
     };
     let edges = seen.head.blocks - 1;
@@ -79,22 +74,35 @@ fn marks(seen: &Seen) -> String {
     format!("{jump} {seams}")
 }
 
+/// Whether a jump stands out.
+fn odd(seen: &Seen) -> String {
+    let from = if seen.distance.is_some() { "the recording" } else { "what is around it" };
+    match seen.odd {
+        None => String::new(),
+        odd if odd == seen.jump => format!(" It stands out from {from}."),
+        Some(odd) => {
+            let (size, at) = (number(odd.size), number(odd.at));
+            format!(" That of {size} at sample {at} stands out from {from}.")
+        }
+    }
+}
+
 fn edge_count(edges: u32) -> String {
     count(edges, "block edge")
 }
 
 /// How far the samples are from the reference.
 fn distance(distance: &Distance, total: u32) -> String {
-    let Some(largest) = distance.largest else { return "The reference has no sample.".into() };
+    let Some(largest) = distance.largest else { return "The recording has no sample.".into() };
     if largest.size == 0 {
-        return format!("Equal to the reference.{}", lengths(distance, total));
+        return format!("Equal to the recording.{}", lengths(distance, total));
     }
     let bound = match bound(distance.exponent) {
         None => "no bound".into(),
         Some(bound) => format!("bound {}", number(bound)),
     };
     format!(
-        "Largest distance from the reference: {} at sample {} (exponent {}, {bound}).{}",
+        "Largest distance from the recording: {} at sample {} (exponent {}, {bound}).{}",
         number(largest.size),
         number(largest.at),
         distance.exponent,
@@ -106,7 +114,7 @@ fn distance(distance: &Distance, total: u32) -> String {
 fn lengths(distance: &Distance, total: u32) -> String {
     match distance.reference_len {
         len if len == total as usize => String::new(),
-        len => format!(" The reference has {} samples.", number(len as i64)),
+        len => format!(" The recording has {} samples.", number(len as i64)),
     }
 }
 
@@ -118,7 +126,7 @@ fn gathered(seen: &Seen) -> String {
         text += &format!("A column has up to {}.", count(samples, "sample"));
     }
     if seen.frames as usize > seen.cells.len() {
-        text += " Exponents and predictors: the stronger, the more of its frames.";
+        text += " Exponents and predictors: the stronger, the more of the column's frames.";
     }
     let step = seen.edges().1;
     if step > 1 {
@@ -128,14 +136,20 @@ fn gathered(seen: &Seen) -> String {
     text
 }
 
-/// The lines above the panels.
-pub fn heading(svg: &mut Svg, seen: &Seen) -> io::Result<()> {
-    let bold = r##"fill="#1c1c1c" font-size="15" font-weight="bold""##;
-    svg.styled(LEFT, 22.0, Anchor::Start, &title(seen), bold)?;
+/// The lines above the panels, below the title.
+pub fn lines(seen: &Seen) -> Vec<String> {
     let distance = seen.distance.as_ref().map(|d| distance(d, seen.head.total));
-    let lines = [marks(seen), distance.unwrap_or_default(), gathered(seen)];
-    for (i, line) in lines.iter().filter(|line| !line.is_empty()).enumerate() {
-        svg.text(LEFT, 38.0 + 14.0 * i as f64, Anchor::Start, line.trim())?;
+    let lines = [summary(seen), marks(seen), distance.unwrap_or_default(), gathered(seen)];
+    let lines = lines.into_iter().map(|line| line.trim().to_string());
+    lines.filter(|line| !line.is_empty()).collect()
+}
+
+/// The name of the file, and the lines.
+pub fn heading(svg: &mut Svg, name: &str, lines: &[String]) -> io::Result<()> {
+    let bold = r##"fill="#1c1c1c" font-size="15" font-weight="bold""##;
+    svg.styled(LEFT, 22.0, Anchor::Start, name, bold)?;
+    for (i, line) in lines.iter().enumerate() {
+        svg.text(LEFT, WORDS + LINE * i as f64, Anchor::Start, line)?;
     }
     Ok(())
 }

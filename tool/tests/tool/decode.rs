@@ -10,7 +10,7 @@ fn the_samples_are_the_librarys() {
         let bytes = image(&sound(len, 7), 32_000, size);
         let played = Image::open(&bytes).unwrap().play().unwrap();
         folder.write("in.dspc", &bytes);
-        folder.done("decode in.dspc out.wav");
+        folder.done("decode --force in.dspc out.wav");
         assert_eq!(folder.read("out.wav"), wav(&played, 32_000), "{len} {size}");
         folder.done("decode --raw in.dspc out.raw");
         assert_eq!(folder.read("out.raw"), raw(&played));
@@ -32,8 +32,10 @@ fn blocks_one_by_one_are_the_clip() {
     }
     assert_eq!(joined, folder.read("whole"));
     let line = format!("decode --block {blocks} in.dspc none");
-    folder.run(&line).expect(4, "(refusal 17); it has 8 blocks, from 0 on");
-    folder.run("decode --block 99999999999 in.dspc none").expect(4, "(refusal 17)");
+    folder.run(&line).expect(2, "--block: '8' is not a number from 0 to 7: in.dspc has 8 blocks");
+    folder
+        .run("decode --block 99999999999 in.dspc none")
+        .expect(2, "'99999999999' is not a number");
     assert!(!folder.has("none"));
 }
 
@@ -56,7 +58,7 @@ fn any_rate_is_kept() {
     let folder = Folder::new();
     for rate in [1, 44_100, u32::MAX] {
         folder.write("in.dspc", image(&[1, 2, 3], rate, 8));
-        folder.done("decode in.dspc out.wav");
+        folder.done("decode --force in.dspc out.wav");
         assert_eq!(folder.read("out.wav")[24..28], rate.to_le_bytes());
         folder.done("encode out.wav again.dspc");
         assert_eq!(folder.read("again.dspc")[8..12], rate.to_be_bytes());

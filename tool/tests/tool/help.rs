@@ -4,7 +4,7 @@ use crate::support::Folder;
 use std::ffi::OsStr;
 use std::os::unix::ffi::OsStrExt;
 
-const COMMANDS: [&str; 6] = ["encode", "decode", "info", "check", "same", "join"];
+const COMMANDS: [&str; 7] = ["encode", "decode", "info", "check", "same", "join", "trim"];
 
 #[test]
 fn help_and_version() {
@@ -43,10 +43,12 @@ fn help_tells_every_option() {
     let folder = Folder::new();
     let options = [
         ("encode", "--block-size --gain --history --coefficients --verify --raw --rate"),
-        ("encode", "--after --ignore-length --force --quiet --json --help"),
-        ("decode", "--block --raw --force --quiet --json --help"),
+        ("encode", "--after --ignore-length --force --quiet --json --help --into --jobs"),
+        ("encode", "--pad-to-frame --cut-to-frame"),
+        ("decode", "--block --raw --force --quiet --json --help --into --jobs"),
         ("info", "--blocks --against --raw --ignore-length --svg --force --quiet --json --help"),
-        ("check", "--quiet --json --help"),
+        ("check", "--strict --jobs --quiet --json --help"),
+        ("trim", "--from --to --recording --raw --ignore-length --force --quiet --json --help"),
         ("same", "--quiet --json --help"),
         ("join", "--gain --reencode --block-size --force --quiet --json --help"),
     ];
@@ -66,7 +68,7 @@ fn wrong_command_lines() {
         ("what", "'what' is no command"),
         ("help what", "'what' is no command"),
         ("help a b", "a command is missing"),
-        ("--json", "'--json' is no command"),
+        ("--json", "a command is missing"),
         ("encode", "IN.wav is missing; see `doilycairn encode --help`"),
         ("encode a", "OUT.dspc is missing"),
         ("encode a b c", "'c' is one word too many"),
@@ -74,20 +76,24 @@ fn wrong_command_lines() {
         ("encode -x a b", "unknown option '-x'"),
         ("encode --block-size", "--block-size lacks its value"),
         ("encode --block-size x a b", "'x' is not a number"),
-        ("encode --gain 65536 a b", "'65536' is not a number from 0 to 65535"),
+        ("encode --gain 65536 a b", "'65536' is not a number from 0 to 65,535"),
         ("encode --gain 1 --gain 2 a b", "--gain is given twice"),
         ("encode --raw a b", "--raw needs --rate HZ"),
         ("encode --rate 5 a b", "--rate goes with --raw"),
-        ("encode --raw --rate 4294967296 a b", "is not a number from 0 to 4294967295"),
+        ("encode --raw --rate 4294967296 a b", "is not a number from 1 to 4,294,967,295"),
         ("encode --history 5 a b", "--history is NEWEST,OLDER"),
         ("encode --history 5,40000 a b", "--history is NEWEST,OLDER"),
+        ("encode --raw --rate 0 a b", "--rate: '0' is not a number from 1 to 4,294,967,295"),
+        ("encode --block-size 7 a b", "--block-size: '7' is not a number from 8 to 65,536"),
+        ("encode --block-size 65537 a b", "'65537' is not a number from 8 to 65,536"),
+        ("encode --block-size 99999999999999999999999 a b", "is not a number from 8 to 65,536"),
+        ("join --reencode --block-size 7 a b c", "'7' is not a number from 8 to 65,536"),
         ("encode --verify=1 a b", "--verify takes no value"),
         ("encode --coefficients - - b", "standard input can be read only once"),
         ("decode --block -1 a b", "'-1' is not a number"),
         ("decode a", "OUT.wav is missing"),
         ("info", "IN.dspc is missing"),
         ("info --against - -", "standard input can be read only once"),
-        ("check a b", "'b' is one word too many"),
         ("same a", "B.dspc is missing"),
         ("same - -", "standard input can be read only once"),
         ("join a b", "OUT.dspc is missing"),

@@ -54,7 +54,8 @@ fn words() {
     let folder = Folder::new();
     folder.write("in", image(&sound(20_000, 2), 32_000, 8192));
     let out = folder.done("info in").out;
-    for words in ["20,000: 0.625 s at 32,000 Hz", "2 of up to 8,192 bytes", "predictor", "exponent"]
+    for words in
+        ["20,000 at 32,000 Hz (625.0 ms)", "2 of up to 8,192 bytes", "predictor", "exponent"]
     {
         assert!(out.contains(words), "{words}: {out}");
     }

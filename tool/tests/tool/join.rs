@@ -119,7 +119,7 @@ fn what_does_not_fit() {
     run("short a").expect(3, "short: 139 samples: its last frame is not full");
     run("middle a").expect(3, "a: its block 0 begins after 0,0 and would come after ");
     run("a gain").expect(3, "its gain is 9, and that of a is 0: choose with --gain");
-    run("a a").expect(0, "280 samples in 2 blocks of 80 bytes, as they were");
+    run("a a").expect(0, "280 samples at 32,000 Hz (8.8 ms) in 2 blocks of 80 bytes, as they were");
     folder.run("join a gain --gain 5 out").expect(0, "");
     assert_eq!(folder.read("out")[48..50], [0, 5]);
     folder.run("join a a a").expect(2, "a is an input too: --force writes over it");
@@ -153,5 +153,4 @@ fn encoded_again() {
     let mut wanted = image(&clip, 32_000, 4096);
     wanted[49] = 3;
     assert_eq!(folder.read("out"), wanted);
-    folder.run("join --reencode --block-size 7 a b none").expect(4, "(refusal 6)");
 }

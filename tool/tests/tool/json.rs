@@ -15,8 +15,8 @@ fn every_command_answers_one_object() {
     let cases = [
         ("encode in.wav out", 0),
         ("encode --verify in.wav out", 0),
-        ("decode a out", 0),
-        ("decode --block 0 a out", 0),
+        ("decode a new", 0),
+        ("decode --force --block 0 a new", 0),
         ("info a", 0),
         ("info --blocks --against in.wav a", 0),
         ("check a", 0),
@@ -28,8 +28,8 @@ fn every_command_answers_one_object() {
         ("encode --what", 2),
         ("encode in.wav -", 2),
         ("encode none out", 3),
-        ("decode none out", 4),
-        ("decode absent out", 5),
+        ("decode none x", 4),
+        ("decode absent x", 5),
     ];
     for (line, status) in cases {
         let run = folder.run(&format!("{line} --json"));

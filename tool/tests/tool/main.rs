@@ -1,20 +1,34 @@
 //! The tool as it is run: every command, every exit status, what it leaves on the disk.
 
+mod calls;
+mod clicks;
 mod coefficients;
 mod damage;
 mod decode;
+mod demo;
+mod dropped;
 mod encode;
+mod followed;
+mod generated;
 mod help;
 mod info;
+mod installed;
 mod join;
 mod json;
 mod kills;
 mod largest;
+mod lengths;
+mod many;
+mod memory;
 mod noise;
 mod outputs;
 mod parse;
 mod refused_wavs;
+mod replaced;
 mod same;
+mod screen;
 mod status;
 mod support;
+mod terminal;
+mod trim;
 mod wavs;

@@ -2,19 +2,21 @@
 
 use crate::support::{Folder, Random, chunk, format, image, raw, riff, sound};
 
-const LINES: [&str; 12] = [
-    "encode in out",
-    "encode --raw --rate 8000 in out",
-    "encode --ignore-length --verify in out",
-    "encode --coefficients in clip out",
-    "decode in out",
-    "decode --block 1 in out",
+const LINES: [&str; 14] = [
+    "encode --force in out",
+    "encode --force --raw --rate 8000 in out",
+    "encode --force --ignore-length --verify in out",
+    "encode --force --coefficients in clip out",
+    "decode --force in out",
+    "decode --force --block 1 in out",
     "info --blocks --svg out.svg in",
     "info --json --blocks --raw --against in a",
-    "check in",
+    "check in a in",
     "same in a",
-    "join a in out",
-    "join --reencode in a out",
+    "join --force a in out",
+    "join --force --reencode in a out",
+    "trim --force --from 28 --to 65 in out",
+    "trim --force --from 1 --raw --recording clip in out",
 ];
 
 fn tried(folder: &Folder, bytes: &[u8]) {

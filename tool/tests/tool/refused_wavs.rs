@@ -62,9 +62,23 @@ fn containers() {
     refuses(&with_mark(b"RIFX"), "big-endian");
     refuses(&with_mark(b"RF64"), "64-bit WAV file");
     refuses(&with_mark(b"BW64"), "64-bit WAV file");
-    refuses(&with_mark(b"FORM"), "AIFF");
-    refuses(&with_mark(b"fLaC"), "FLAC");
-    refuses(&with_mark(b"OggS"), "Ogg");
+    let others = [
+        (&b"FORM\0\0\0\x20AIFFCOMM"[..], "an AIFF file"),
+        (b".snd\0\0\0\x18", "an AU file"),
+        (b"riff\x2e\x91\xcf\x11\xa5\xd6", "a Wave64 file"),
+        (b"fLaC\0\0\0\x22", "a FLAC file"),
+        (b"OggS\0\x02", "an Ogg file"),
+        (b"ID3\x03", "an MP3 file"),
+        (b"\0\0\0\x20ftypM4A ", "an MP4 file"),
+        (b"RF64\xff\xff\xff\xffWAVE", "a 64-bit WAV file (RF64)"),
+    ];
+    for (bytes, kind) in others {
+        refuses(bytes, kind);
+        refuses(bytes, "`ffmpeg -i IN -ac 1 -c:a pcm_s16le OUT.wav` serves every kind");
+    }
+    for (channels, bits) in [(2, 16), (1, 24), (6, 32)] {
+        refuses(&of_format(1, channels, bits), "`ffmpeg -i IN -ac 1 -c:a pcm_s16le OUT.wav`");
+    }
     refuses(&with_mark(b"what"), "not a WAV file; headerless samples are read with --raw");
     refuses(&image(&sound(100, 1), 32_000, 80), "a clip image already: `decode`");
 }

@@ -13,7 +13,7 @@ fn the_same_and_different() {
     folder.write("short", image(&clip[..999], 32_000, 80));
     clip[500] += 5000;
     folder.write("c", image(&clip, 32_000, 80));
-    assert_eq!(folder.done("same a b").out, "the same: 1,000 samples\n");
+    assert_eq!(folder.done("same a b").out, "the same: 1,000 samples at 32,000 Hz (31.2 ms)\n");
     let rate = folder.done("same a rate");
     assert!(rate.err.contains("note: the rates differ"));
     let run = folder.run("same a c");

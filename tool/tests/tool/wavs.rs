@@ -69,6 +69,11 @@ fn streamed_lengths() {
     reads(&with_lengths(&clip, 0, 0), &clip);
     reads(&with_lengths(&clip, u32::MAX, 0), &clip);
     reads(&with_lengths(&clip, 12, 1000), &clip);
+    // What espeak-ng, sox and arecord say in a pipe.
+    for size in [0x7fff_f000_u32, 0x7fff_ffb8, 0x8000_0000, 0xffff_fff0] {
+        reads(&with_lengths(&clip, size.wrapping_add(36), size), &clip);
+    }
+    reads(&with_lengths(&clip, 0x7fff_f024, 0), &clip);
 }
 
 #[test]

@@ -1,8 +1,10 @@
 -- `play_bytes` meets its contract, test by test. Assumes nothing.
 use denote.Ref.{now}
-use mathlib.Core.Path.{sym, _∙_}
+use mathlib.Core.Bool.{false}
+use mathlib.Core.Path.{_≡_, sym, _∙_}
 use native.Mathlib.Omega.{arith}
 use lib.ListN.{length}
+use Rattle.block.specs.Refusals.{badLength, lowestPair}
 use Rattle.block.proofs.LawsRefusals.{good-length}
 use Rattle.block.proofs.LawsCalls.{play-12, play-13, play-14, play-done}
 use borrow.Author.Needs.{needs}
@@ -13,24 +15,42 @@ bad-length-requires : tie.Need-bad-length-requires
 bad-length-requires c κs = search needs
 
 returns : tie.Need-returns
-returns c = let a = c .before .before .before .args in play-12 (now (a .bytes)) (a .len) (a .coefficients) (a .context) (now (a .out)) (sym (c .before .bad-length .ensures) ∙ c .if1 .taken)
+returns c =
+    let a = c .before .before .before .args in
+    play-12 (now (a .bytes)) (a .len) (a .coefficients) (a .context) (now (a .out)) (sym (c .before .bad-length .ensures) ∙ c .if1 .taken)
+
+-- the length is in range
+in-range : (c : tie.Else1) → let a = c .before .before .before .args in badLength (a .len) (length (now (a .bytes))) ≡ false
+in-range c = sym (c .before .bad-length .ensures) ∙ c .if1 .left
 
 lowest-pair-requires : tie.Need-lowest-pair-requires
 lowest-pair-requires c κs = search needs
 
 returns-2 : tie.Need-returns-2
-returns-2 c = let a = c .before .before .before .before .before .args in play-13 (now (a .bytes)) (a .len) (a .coefficients) (a .context) (now (a .out)) (sym (c .before .before .before .bad-length .ensures) ∙ c .before .before .if1 .left) (sym (c .before .lowest-pair .ensures) ∙ c .if2 .taken)
+returns-2 c =
+    let e = c .before .before in
+    let a = e .before .before .before .args in
+    play-13 (now (a .bytes)) (a .len) (a .coefficients) (a .context) (now (a .out)) (in-range e) (sym (c .before .lowest-pair .ensures) ∙ c .if2 .taken)
+
+-- no pair is the lowest one
+no-lowest : (c : tie.Else2) → lowestPair (c .before .before .before .before .before .args .coefficients) ≡ false
+no-lowest c = sym (c .before .lowest-pair .ensures) ∙ c .if2 .left
 
 address-to-sample-requires : tie.Need-address-to-sample-requires
 address-to-sample-requires c κs = search needs
 
 returns-3 : tie.Need-returns-3
-returns-3 c = let a = c .before .before .before .before .before .before .before .args in play-14 (now (a .bytes)) (a .len) (a .coefficients) (a .context) (now (a .out)) (sym (c .before .before .before .before .before .bad-length .ensures) ∙ c .before .before .before .before .if1 .left) (sym (c .before .before .before .lowest-pair .ensures) ∙ c .before .before .if2 .left) (omega (arith, c .before .address-to-sample .ensures))
+returns-3 c =
+    let t = c .before .before in
+    let e = t .before .before in
+    let a = e .before .before .before .args in
+    play-14 (now (a .bytes)) (a .len) (a .coefficients) (a .context) (now (a .out)) (in-range e) (no-lowest t) (omega (arith, c .before .address-to-sample .ensures))
 
-play-frames-requires : tie.Need-play-frames-requires
-play-frames-requires c κs =
-    let a = c .before .before .before .before .before .before .before .before .args in
-    let g = good-length (a .len) (length (now (a .bytes))) (sym (c .before .before .before .before .before .before .bad-length .ensures) ∙ c .before .before .before .before .before .if1 .left) in
+play-into-requires : tie.Need-play-into-requires
+play-into-requires c κs =
+    let e = c .before .before .before .before .before in
+    let a = e .before .before .before .args in
+    let g = good-length (a .len) (length (now (a .bytes))) (in-range e) in
     (g .0, g .1, omega (arith, c .before .before .address-to-sample .ensures))
 
 same-length : tie.Need-same-length
@@ -38,9 +58,13 @@ same-length c = search needs
 
 returns-4 : tie.Need-returns-4
 returns-4 c =
-    let a = c .before .before .before .before .before .before .before .before .before .before .args in
-    let e = c .before .before .before .before .address-to-sample .ensures in
-    play-done (now (a .bytes)) (a .len) (a .coefficients) (a .context) (now (a .out)) (c .before .before .before .before .address-to-sample .result) _ (sym (c .before .before .before .before .before .before .before .before .bad-length .ensures) ∙ c .before .before .before .before .before .before .before .if1 .left) (sym (c .before .before .before .before .before .before .lowest-pair .ensures) ∙ c .before .before .before .before .before .if2 .left) (omega (arith, e)) e (c .before .play-frames .ensures)
+    let d = c .before .before .before .before in
+    let t = d .before in
+    let e = t .before .before in
+    let a = e .before .before .before .args in
+    let n = d .address-to-sample in
+    play-done (now (a .bytes)) (a .len) (a .coefficients) (a .context) (now (a .out)) (n .result) _ (in-range e) (no-lowest t)
+    (omega (arith, n .ensures)) (n .ensures) (c .before .play-into .ensures)
 
 pub play-bytes-spec : {M : Type 1} → statement M
 play-bytes-spec =
@@ -52,6 +76,6 @@ play-bytes-spec =
     returns-2
     address-to-sample-requires
     returns-3
-    play-frames-requires
+    play-into-requires
     same-length
     returns-4)

@@ -1,15 +1,13 @@
 -- `play_frame` meets its contract: the pair and the scale that the header names, then the nibbles. Assumes nothing.
 use borrow.Author.Needs.{needs}
 use denote.Ref.{now}
-use mathlib.Core.Path.{_≡_}
 use Prim.Native.Nat.{_+_, _*_, _<_}
 use native.Mathlib.Omega.{arith}
 use lib.IntN.{pos}
-use lib.ListN.{length, getD}
+use lib.ListN.{getD}
 use mir.Facts.{toZ-ofZ}
 use mir.Syntax.{w16}
 use mir.Val.{SFits}
-use Rattle.block.specs.Context.{newest, older}
 use Rattle.block.proofs.LawsContext.{predictor-lt, scale-le}
 use Rattle.block.proofs.LawsFrame.{frame-into}
 use Rattle.block.proofs.play_frame.Statement.{statement}
@@ -42,42 +40,27 @@ array-copy-out-c1 c = omega (arith, predictor-small (c .before))
 scale-requires : tie.Need-scale-requires
 scale-requires c κs = search needs
 
-array-copy-out-s0 : tie.Need-array-copy-out-s0
-array-copy-out-s0 c = search needs
-
-array-copy-out-s1 : tie.Need-array-copy-out-s1
-array-copy-out-s1 c = search needs
-
 add-play-nibbles : tie.Need-add-play-nibbles
 add-play-nibbles c = search needs
 
 play-nibbles-requires : tie.Need-play-nibbles-requires
 play-nibbles-requires c κs =
-    let a = c .before .before .before .before .before .before .before .before .before in
-    (omega arith, a .pre .1, rw (c .before .before .before .before .scale .ensures) (scale-le _))
+    let a = c .before .before .before .before .before .before .before in
+    (omega arith, a .pre .1, rw (c .before .before .scale .ensures) (scale-le _))
 
 same-length : tie.Need-same-length
 same-length c = search needs
 
--- a history has two samples
-two : (c : tie.Start) → length (c .args .context .«last_samples») ≡ 2
-two c = search needs
-
 returns : tie.Need-returns
 returns c =
-    let n = c .before .before in
-    let m = n .before .before in
-    let s = m .before .before .before .before .before .before .before .before in
-    let a = s .args in
-    let h = two s in
-    let f1 : SFits w16 (older (a .context)) = record { sfits = m .s1 .given } in
-    let f0 : SFits w16 (newest (a .context)) = record { sfits = m .before .s0 .given } in
-    let g1 : SFits w16 (getD (a .t4) (2 * m .before .before .before .before .before .before .predictor .result + 1) (pos 0)) = record { sfits = m .before .before .before .before .c1 .given } in
-    let g0 : SFits w16 (getD (a .t4) (2 * m .before .before .before .before .before .before .predictor .result) (pos 0)) = record { sfits = m .before .before .before .before .before .c0 .given } in
-    let r0 : SFits w16 (n .play-nibbles .result .s0) = record { sfits = c .struct-told .given .0 .1 } in
-    let r1 : SFits w16 (n .play-nibbles .result .s1) = record { sfits = c .struct-told .given .1 .0 .1 } in
-    let e = rw (toZ-ofZ g0, toZ-ofZ g1, toZ-ofZ f0, toZ-ofZ f1, m .before .before .before .before .before .before .predictor .ensures, m .before .before .before .scale .ensures) at (n .play-nibbles .ensures) in
-    rw (toZ-ofZ r0, toZ-ofZ r1) (frame-into (now (a .bytes)) (a .at) (a .count) (a .t4) (a .context) (now (a .out)) (a .to) (n .play-nibbles .result) _ h e)
+    let n = c .before in
+    let k = n .before .before .before in
+    let q = k .before .before .before in
+    let a = q .before .before .args in
+    let g0 : SFits w16 (getD (a .t4) (2 * q .predictor .result) (pos 0)) = record { sfits = k .before .before .c0 .given } in
+    let g1 : SFits w16 (getD (a .t4) (2 * q .predictor .result + 1) (pos 0)) = record { sfits = k .before .c1 .given } in
+    let e = rw (toZ-ofZ g0, toZ-ofZ g1, q .predictor .ensures, k .scale .ensures) at (n .play-nibbles .ensures) in
+    frame-into (now (a .bytes)) (a .at) (a .count) (a .t4) (a .context) (now (a .out)) (a .to) (n .play-nibbles .result) _ (e .0) (e .1)
 
 pub play-frame-spec : {M : Type 1} → statement M
 play-frame-spec =
@@ -91,8 +74,6 @@ play-frame-spec =
     mul-c1
     array-copy-out-c1
     scale-requires
-    array-copy-out-s0
-    array-copy-out-s1
     add-play-nibbles
     play-nibbles-requires
     same-length

@@ -5,6 +5,9 @@ use Rattle.block.specs.Address.{sampleToAddress}
 use Rattle.block.proofs.sample_to_address.Statement.{statement}
 use Rattle.block.proofs.sample_to_address.Tie as tie
 
+div-frames : tie.Need-div-frames
+div-frames c = search needs
+
 add-frames : tie.Need-add-frames
 add-frames c = search needs
 
@@ -19,4 +22,4 @@ unfolding sampleToAddress
 returns c = omega arith
 
 pub sample-to-address-spec : {M : Type 1} → statement M
-sample-to-address-spec = tie.close (tie.spec add-frames mul-result add-result returns)
+sample-to-address-spec = tie.close (tie.spec div-frames add-frames mul-result add-result returns)

@@ -28,19 +28,25 @@ array-share-prefix-first : tie.Need-array-share-prefix-first
 array-share-prefix-first c = search needs
 
 slice-aggregate-join-to : tie.Need-slice-aggregate-join-to
-slice-aggregate-join-to c = sym (length-take-le (c .before .before .before .before .before .before .size .result) (c .before .before .before .part .result) (omega arith))
+slice-aggregate-join-to c =
+    let p = c .before .before .before in
+    sym (length-take-le (p .before .before .before .size .result) (p .part .result) (omega arith))
 
 array-share-prefix-second : tie.Need-array-share-prefix-second
 array-share-prefix-second c = search needs
 
 slice-aggregate-join-to-2 : tie.Need-slice-aggregate-join-to-2
-slice-aggregate-join-to-2 c = sym (length-take-le (c .before .before .before .before .before .before .size2 .result) (c .before .before .before .part2 .result) (omega arith))
+slice-aggregate-join-to-2 c =
+    let p = c .before .before .before in
+    sym (length-take-le (p .before .before .before .size2 .result) (p .part2 .result) (omega arith))
 
 array-borrow-prefix-out : tie.Need-array-borrow-prefix-out
 array-borrow-prefix-out c = search needs
 
 slice-aggregate-join-to-3 : tie.Need-slice-aggregate-join-to-3
-slice-aggregate-join-to-3 c = sym (length-take-le (c .before .before .before .before .before .before .size3 .result) (c .before .before .before .fresh-bytes .result) (omega arith))
+slice-aggregate-join-to-3 c =
+    let p = c .before .before .before in
+    sym (length-take-le (p .before .before .before .size3 .result) (p .fresh-bytes .result) (omega arith))
 
 join-to-requires : tie.Need-join-to-requires
 join-to-requires c κs = search needs

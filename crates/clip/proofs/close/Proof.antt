@@ -1,7 +1,7 @@
 -- `close` meets its contract. Assumes nothing.
 use mathlib.Core.Path.{_≡_, sym, ap, _∙_}
-use Rattle.clip.specs.declared.Answer.the-variants.{Accepted}
-use Rattle.clip.specs.Encoding.{Both, outOf, closeOf}
+use Rattle.whole.specs.Outcome.{Outcome, accepted, refused}
+use Rattle.clip.specs.Encoding.{outcome, Left, effect, close}
 use Rattle.clip.proofs.Accepting.{close-accepted}
 use borrow.Author.Needs.{needs}
 use Rattle.clip.proofs.close.Statement.{statement}
@@ -15,7 +15,7 @@ enum-told : tie.Need-enum-told
 enum-told c = search needs
 
 finish-requires : tie.Need-finish-requires
-finish-requires c κs = close-accepted _ _ (sym (c .before .before .before .close-answer .ensures) ∙ c .before .enum-told .given .1)
+finish-requires c κs = close-accepted _ _ (sym (c .before .before .before .close-answer .ensures) ∙ ap outcome (c .before .enum-told .given .1))
 
 enum-known-answer : tie.Need-enum-known-answer
 enum-known-answer c = search needs
@@ -24,11 +24,12 @@ same-length : tie.Need-same-length
 same-length c = search needs
 
 returns : tie.Need-returns
-unfolding closeOf
-returns c = rw (← c .before .before .before .before .before .before .close-answer .ensures, c .before .before .before .before .enum-told .given .1) (ap (λ (s : Both). outOf Accepted s) (c .before .before .finish .ensures))
+unfolding close
+returns c =
+    rw (← c .before .before .before .before .before .before .close-answer .ensures, c .before .before .before .before .enum-told .given .1) (ap (λ (s : Left). effect (accepted tt) s) (c .before .before .finish .ensures))
 
 returns-2 : tie.Need-returns-2
-unfolding closeOf
+unfolding close
 returns-2 c = rw (← c .before .before .before .close-answer .ensures, c .before .answer .given .1)
 
 pub close-spec : {M : Type 1} → statement M

@@ -1,7 +1,7 @@
 -- `feed` meets its contract. Assumes nothing.
 use mathlib.Core.Path.{_≡_, sym, ap, _∙_}
-use Rattle.clip.specs.declared.Answer.the-variants.{Accepted}
-use Rattle.clip.specs.Encoding.{Both, outOf, feedOf}
+use Rattle.whole.specs.Outcome.{Outcome, accepted, refused}
+use Rattle.clip.specs.Encoding.{outcome, Left, effect, feed}
 use Rattle.clip.proofs.Accepting.{feed-accepted}
 use borrow.Author.Needs.{needs}
 use Rattle.clip.proofs.feed.Statement.{statement}
@@ -15,7 +15,7 @@ enum-told : tie.Need-enum-told
 enum-told c = search needs
 
 feed-all-requires : tie.Need-feed-all-requires
-feed-all-requires c κs = feed-accepted _ _ _ (sym (c .before .before .before .feed-answer .ensures) ∙ c .before .enum-told .given .1)
+feed-all-requires c κs = feed-accepted _ _ _ (sym (c .before .before .before .feed-answer .ensures) ∙ ap outcome (c .before .enum-told .given .1))
 
 enum-known-answer : tie.Need-enum-known-answer
 enum-known-answer c = search needs
@@ -24,11 +24,12 @@ same-length : tie.Need-same-length
 same-length c = search needs
 
 returns : tie.Need-returns
-unfolding feedOf
-returns c = rw (← c .before .before .before .before .before .before .feed-answer .ensures, c .before .before .before .before .enum-told .given .1) (ap (λ (s : Both). outOf Accepted s) (c .before .before .feed-all .ensures))
+unfolding feed
+returns c =
+    rw (← c .before .before .before .before .before .before .feed-answer .ensures, c .before .before .before .before .enum-told .given .1) (ap (λ (s : Left). effect (accepted tt) s) (c .before .before .feed-all .ensures))
 
 returns-2 : tie.Need-returns-2
-unfolding feedOf
+unfolding feed
 returns-2 c = rw (← c .before .before .before .feed-answer .ensures, c .before .answer .given .1)
 
 pub feed-spec : {M : Type 1} → statement M

@@ -14,8 +14,8 @@ cast-least c = search needs
 least-requires : tie.Need-least-requires
 least-requires c κs = search needs
 
-element-copy-out-shown : tie.Need-element-copy-out-shown
-element-copy-out-shown c = search needs
+byte-requires : tie.Need-byte-requires
+byte-requires c κs = search needs
 
 slice-relend-prefix-start : tie.Need-slice-relend-prefix-start
 slice-relend-prefix-start c = search needs
@@ -69,7 +69,7 @@ call-spec =
     word-requires
     cast-least
     least-requires
-    element-copy-out-shown
+    byte-requires
     slice-relend-prefix-start
     slice-aggregate-start
     start-requires

@@ -1,5 +1,5 @@
+-- `abs` meets its contract. Assumes nothing.
 use lib.Ieee.{ofBits}
-use denote.Floats.{passes}
 use Rattle.float.proofs.HalfAway.{yes-so, no-so, abs-zero, abs-minus, abs-plus}
 use Rattle.float.proofs.abs.Statement.{statement}
 use Rattle.float.proofs.abs.Tie as tie

@@ -1,6 +1,6 @@
 -- `is_less` meets its contract. Assumes nothing.
 use lib.Ieee.{ofBits}
-use Rattle.float.proofs.Less.{less-zeros, less-equal, less-apart}
+use Rattle.float.proofs.LessThan.{less-zeros, less-equal, less-apart}
 use Rattle.float.proofs.is_less.Statement.{statement}
 use Rattle.float.proofs.is_less.Tie as tie
 

@@ -1,31 +1,37 @@
 -- `mul_add` meets its contract. Assumes nothing.
 use mathlib.Core.Path.{_≡_, sym, _∙_, subst}
+use mathlib.Core.Bool.{true}
 use borrow.Author.Needs.{needs}
 use lib.Dec.{T}
 use lib.Ieee.{binary64, fits, toBits}
 use Rattle.float.specs.FusedMultiplyAdd.{fusedMultiplyAdd}
-use Rattle.float.specs.Split.{Near}
-use Rattle.float.proofs.Special.{not-nan, normal-finite, fma-read, fma-bits, own}
+use Rattle.float.specs.inner.Operands.{areNear}
+use Rattle.float.proofs.Decomposition.{near-is}
+use Rattle.float.proofs.SpecialValues.{not-nan, normal-finite, fma-read, fma-bits, read-back}
 use Rattle.float.proofs.mul_add.Statement.{statement}
 use Rattle.float.proofs.mul_add.Tie as tie
 
 -- what owning an `f64` tells: the format holds it
-held-a : (c : tie.Start) → T (fits binary64 (c .args .a))
-held-a c = subst T (sym (c .good .0 .1)) tt
+fits-a : (c : tie.Start) → T (fits binary64 (c .args .a))
+fits-a c = subst T (sym (c .good .0 .1)) tt
 
-held-b : (c : tie.Start) → T (fits binary64 (c .args .b))
-held-b c = subst T (sym (c .good .1 .0 .1)) tt
+fits-b : (c : tie.Start) → T (fits binary64 (c .args .b))
+fits-b c = subst T (sym (c .good .1 .0 .1)) tt
 
-held-c : (c : tie.Start) → T (fits binary64 (c .args .c))
-held-c c = subst T (sym (c .good .1 .1 .0 .1)) tt
+fits-c : (c : tie.Start) → T (fits binary64 (c .args .c))
+fits-c c = subst T (sym (c .good .1 .1 .0 .1)) tt
+
+-- where the call began
+abbrev start : tie.Then4 → tie.Start
+start c = c .before .before .before .before .before
 
 -- what the test says
-near : (c : tie.Then4) → Near (toBits binary64 (c .before .before .before .before .before .args .a)) (toBits binary64 (c .before .before .before .before .before .args .b)) (toBits binary64 (c .before .before .before .before .before .args .c))
-near c = c .before .are-near .ensures (c .if4 .taken)
+near : (c : tie.Then4) → let a = start c .args in areNear (toBits binary64 (a .a)) (toBits binary64 (a .b)) (toBits binary64 (a .c)) ≡ true
+near c = sym (c .before .are-near .ensures) ∙ c .if4 .taken
 
 -- what `fused_near` gives
-bits : (c : tie.After-fused-near) → c .fused-near .result ≡ toBits binary64 (fusedMultiplyAdd binary64 (c .before .before .before .before .before .before .args .a) (c .before .before .before .before .before .before .args .b) (c .before .before .before .before .before .before .args .c))
-bits c = let s = c .before .before .before .before .before .before in c .fused-near .ensures ∙ own (s .args .a) (s .args .b) (s .args .c) (held-a s) (held-b s) (held-c s)
+bits : (c : tie.After-fused-near) → let a = start (c .before) .args in c .fused-near .result ≡ toBits binary64 (fusedMultiplyAdd binary64 (a .a) (a .b) (a .c))
+bits c = let s = start (c .before) in c .fused-near .ensures ∙ read-back (s .args .a) (s .args .b) (s .args .c) (fits-a s) (fits-b s) (fits-c s)
 
 mul-add-any-requires : tie.Need-mul-add-any-requires
 mul-add-any-requires c κs = search needs
@@ -50,12 +56,14 @@ fused-near-requires c κs = near c
 
 float-from-bits-result : tie.Need-float-from-bits-result
 float-from-bits-result c =
-    let s = c .before .before .before .before .before .before in
-    let n = near (c .before) in
-    fma-bits (s .args .a) (s .args .b) (s .args .c) (c .fused-near .result) (normal-finite (s .args .a) (held-a s) (n .first)) (normal-finite (s .args .b) (held-b s) (n .second)) (normal-finite (s .args .c) (held-c s) (n .third)) (bits c)
+    let s = start (c .before) in
+    let a = s .args in
+    let n = near-is (toBits binary64 (a .a)) (toBits binary64 (a .b)) (toBits binary64 (a .c)) (near (c .before)) in
+    fma-bits (a .a) (a .b) (a .c) (c .fused-near .result)
+    (normal-finite (a .a) (fits-a s) (n .first)) (normal-finite (a .b) (fits-b s) (n .second)) (normal-finite (a .c) (fits-c s) (n .third)) (bits c)
 
 returns-2 : tie.Need-returns-2
-returns-2 c = let a = c .before .before .before .before .before .before .args in fma-read (a .a) (a .b) (a .c) (c .fused-near .result) (bits c)
+returns-2 c = let a = start (c .before) .args in fma-read (a .a) (a .b) (a .c) (c .fused-near .result) (bits c)
 
 mul-add-any-requires-2 : tie.Need-mul-add-any-requires-2
 mul-add-any-requires-2 c κs = search needs

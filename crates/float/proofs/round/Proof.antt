@@ -1,3 +1,4 @@
+-- `round` meets its contract. Assumes nothing.
 use native.Mathlib.Omega.{arith}
 use lib.Ieee.{ofBits}
 use Rattle.float.proofs.HalfAway.{yes-so, no-so, zero-stays, large-stays, trunc-asks, trunc-small, near-plus, near-minus}

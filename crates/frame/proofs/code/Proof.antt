@@ -1,12 +1,12 @@
 -- `code` meets its contract. Assumes nothing.
 use mathlib.Core.Path.{_≡_, refl}
-use Rattle.frame.specs.Frame.{numberOf}
+use Rattle.frame.specs.Frame.{code}
 use Rattle.frame.specs.declared.Refusal.{Refusal}
 use Rattle.frame.specs.declared.Refusal.the-variants.{CoefficientOutside}
 use Rattle.frame.proofs.code.Statement.{statement}
 use Rattle.frame.proofs.code.Tie as tie
 
-seven : (r : Refusal) → 7 ≡ numberOf r
+seven : (r : Refusal) → 7 ≡ code r
 seven CoefficientOutside = refl
 
 returns : tie.Need-returns

@@ -11,19 +11,19 @@ use mir.Syntax.{w16}
 use mir.Val.{SFits, toZ, ofZ}
 use mir.Facts.{toZ-ofZ}
 use Rattle.frame.specs.Choice.{c0At, c1At}
-use Rattle.frame.specs.Frame.{pairWithin, within, withinLimits}
-use Rattle.frame.proofs.LawsFrame.{within-bad, within-good}
+use Rattle.frame.specs.Frame.{pairOk, pairsOk, coefficientsOk}
+use Rattle.frame.proofs.LawsFrame.{pairs-bad, pairs-good}
 use Rattle.frame.proofs.coefficients_ok.Statement.{statement}
 use Rattle.frame.proofs.coefficients_ok.Tie as tie
 
 abbrev Inv-loop : tie.InvT-loop
-Inv-loop coefs ok₀ i₀ ok i = (i ≤ 8) × (ok ≡ within coefs i)
+Inv-loop coefficients ok₀ i₀ ok i = (i ≤ 8) × (ok ≡ pairsOk coefficients i)
 
 abbrev μ-loop : tie.MeasureT-loop
-μ-loop coefs ok₀ i₀ ok i = 8 - i
+μ-loop coefficients ok₀ i₀ ok i = 8 - i
 
 loop-holds : tie.Need-loop-holds Inv-loop μ-loop
-unfolding within
+unfolding pairsOk
 loop-holds c = (omega arith, refl)
 
 mul-c0 : tie.Need-mul-c0 Inv-loop μ-loop
@@ -50,7 +50,8 @@ array-copy-out-c1 c = omega arith
 pair-ok-requires : tie.Need-pair-ok-requires Inv-loop μ-loop
 pair-ok-requires c κs = tt
 
-pair-is : (c : tie.After-pair-ok Inv-loop μ-loop) → c .pair-ok .result ≡ pairWithin (c0At (c .before .before .before .before .before .args .t1) (c .before .before .before .before .loop .i)) (c1At (c .before .before .before .before .before .args .t1) (c .before .before .before .before .loop .i))
+pair-is : (c : tie.After-pair-ok Inv-loop μ-loop) → let s = c .before .before .before .before .before in let l = c .before .before .before .before in
+    c .pair-ok .result ≡ pairOk (c0At (s .args .t1) (l .loop .i)) (c1At (s .args .t1) (l .loop .i))
 pair-is c =
     let cs = c .before .before .before .before .before .args .t1 in
     let i = c .before .before .before .before .loop .i in
@@ -71,14 +72,14 @@ loop-again c =
     let cs = l .before .args .t1 in (
       omega arith,
       ⊎-elim
-          (λ w. w .1 ∙ within-bad cs (l .loop .i) (sym (pair-is a) ∙ not-true _ (w .0 .taken)))
-          (λ w. w .1 ∙ l .loop .inv .1 ∙ within-good cs (l .loop .i) (sym (pair-is a) ∙ not-false _ (w .0 .left)))
+          (λ w. w .1 ∙ pairs-bad cs (l .loop .i) (sym (pair-is a) ∙ not-true _ (w .0 .taken)))
+          (λ w. w .1 ∙ l .loop .inv .1 ∙ pairs-good cs (l .loop .i) (sym (pair-is a) ∙ not-false _ (w .0 .left)))
           (c .if1 .came),
     )
 
 returns : tie.Need-returns Inv-loop μ-loop
-unfolding withinLimits
-returns c = let e : c .before .loop .i ≡ 8 = omega arith in c .before .loop .inv .1 ∙ ap (within (c .before .before .args .t1)) e
+unfolding coefficientsOk
+returns c = let e : c .before .loop .i ≡ 8 = omega arith in c .before .loop .inv .1 ∙ ap (pairsOk (c .before .before .args .t1)) e
 
 pub coefficients-ok-spec : {M : Type 1} → statement M
 coefficients-ok-spec =

@@ -6,15 +6,15 @@ use mathlib.Core.List.{List}
 use native.Mathlib.Omega.{arith}
 use borrow.Author.Tests.{not-true, not-false}
 use Rattle.frame.specs.declared.EncodedFrame.{EncodedFrame}
-use Rattle.frame.specs.Frame.{encodeFrame, encodeOneFrame, historyAfter, withinLimits}
+use Rattle.frame.specs.Frame.{encodeFrame, encodeOneFrame, historyAfter, coefficientsOk}
 use Rattle.frame.proofs.LawsFrame.{limits-bounded}
 use Rattle.frame.proofs.encode_one_frame.Statement.{statement}
 use Rattle.frame.proofs.encode_one_frame.Tie as tie
 
-outside : (c : tie.Then1) → withinLimits (c .before .before .args .coefs) ≡ false
+outside : (c : tie.Then1) → coefficientsOk (c .before .before .args .coefficients) ≡ false
 outside c = sym (c .before .coefficients-ok .ensures) ∙ not-true _ (c .if1 .taken)
 
-inside : (c : tie.Else1) → withinLimits (c .before .before .args .coefs) ≡ true
+inside : (c : tie.Else1) → coefficientsOk (c .before .before .args .coefficients) ≡ true
 inside c = sym (c .before .coefficients-ok .ensures) ∙ not-false _ (c .if1 .left)
 
 coefficients-ok-requires : tie.Need-coefficients-ok-requires
@@ -25,7 +25,7 @@ unfolding encodeOneFrame
 returns c = rw (outside c)
 
 encode-frame-requires : tie.Need-encode-frame-requires
-encode-frame-requires c κs = limits-bounded (c .before .before .args .coefs) (inside c)
+encode-frame-requires c κs = limits-bounded (c .before .before .args .coefficients) (inside c)
 
 history-after-requires : tie.Need-history-after-requires
 history-after-requires c κs = search needs

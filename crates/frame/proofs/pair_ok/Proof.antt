@@ -7,7 +7,7 @@ use lib.Dec.{leb}
 use lib.IntN.{natAbs}
 use borrow.Author.Tests.{le-leb, lt-leb}
 use Rattle.whole.proofs.Values.{is-16, is-in, is-size, chk-cast}
-use Rattle.frame.specs.Frame.{pairWithin}
+use Rattle.frame.specs.Frame.{pairOk}
 use Rattle.frame.proofs.pair_ok.Statement.{statement}
 use Rattle.frame.proofs.pair_ok.Tie as tie
 
@@ -30,14 +30,14 @@ magnitude-requires-2 : tie.Need-magnitude-requires-2
 magnitude-requires-2 c κs = omega (arith, is-size (is-16 (c .before .before .fits .c1)))
 
 returns : tie.Need-returns
-unfolding pairWithin
+unfolding pairOk
 returns c =
     let h : natAbs (c .before .before .before .args .c0) ≤ 4096 = omega (arith, first (c .before .before)) in
     let a : leb (natAbs (c .before .before .before .args .c0)) 4096 ≡ true = le-leb _ _ h in
     rw (a, second c)
 
 returns-2 : tie.Need-returns-2
-unfolding pairWithin
+unfolding pairOk
 returns-2 c =
     let h : 4096 < natAbs (c .before .before .args .c0) = omega (arith, first (c .before)) in
     let a : leb (natAbs (c .before .before .args .c0)) 4096 ≡ false = lt-leb _ _ h in

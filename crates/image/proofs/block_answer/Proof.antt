@@ -1,10 +1,11 @@
 -- `block_answer` meets its contract. Assumes nothing.
-use mathlib.Core.Path.{_≡_, sym, _∙_}
+use mathlib.Core.Path.{ap, _≡_, sym, _∙_}
 use native.Mathlib.Omega.{arith}
 use borrow.Author.Tests.{le-leb, lt-leb}
 use Rattle.image.specs.Bodies.{blockAnswer}
 use Rattle.image.specs.Reading.{blocksIn}
-use Rattle.image.proofs.Accepting.{opened}
+use Rattle.image.specs.Opening.{outcome}
+use Rattle.image.proofs.OpenImages.{opened}
 use borrow.Author.Needs.{needs}
 use Rattle.image.proofs.block_answer.Statement.{statement}
 use Rattle.image.proofs.block_answer.Tie as tie
@@ -16,7 +17,7 @@ enum-told : tie.Need-enum-told
 enum-told c = search needs
 
 get32-requires : tie.Need-get32-requires
-get32-requires c κs = omega (arith, opened _ (sym (c .before .before .open-answer .ensures) ∙ c .enum-told .given .1) .head .long)
+get32-requires c κs = omega (arith, opened _ (sym (c .before .before .open-answer .ensures) ∙ ap outcome (c .enum-told .given .1)) .head .long)
 
 returns : tie.Need-returns
 unfolding blockAnswer blocksIn

@@ -1,7 +1,7 @@
 -- `open` meets its contract. Assumes nothing.
-use mathlib.Core.Path.{_≡_, sym, _∙_}
-use Rattle.image.specs.Opened.{openOf}
-use Rattle.image.proofs.Accepting.{opened}
+use mathlib.Core.Path.{ap, _≡_, sym, _∙_}
+use Rattle.image.specs.Opening.{outcome, openImage}
+use Rattle.image.proofs.OpenImages.{opened}
 use borrow.Author.Needs.{needs}
 use Rattle.image.proofs.open.Statement.{statement}
 use Rattle.image.proofs.open.Tie as tie
@@ -13,7 +13,7 @@ enum-told : tie.Need-enum-told
 enum-told c = search needs
 
 read-head-requires : tie.Need-read-head-requires
-read-head-requires c κs = opened _ (sym (c .before .before .open-answer .ensures) ∙ c .enum-told .given .1) .head .long
+read-head-requires c κs = opened _ (sym (c .before .before .open-answer .ensures) ∙ ap outcome (c .enum-told .given .1)) .head .long
 
 enum-known-answer : tie.Need-enum-known-answer
 enum-known-answer c = search needs
@@ -22,11 +22,11 @@ no-head-requires : tie.Need-no-head-requires
 no-head-requires c κs = search needs
 
 returns : tie.Need-returns
-unfolding openOf
+unfolding openImage
 returns c = rw (← c .before .before .before .open-answer .ensures, c .before .enum-told .given .1, c .read-head .ensures)
 
 returns-2 : tie.Need-returns-2
-unfolding openOf
+unfolding openImage
 returns-2 c = rw (← c .before .before .before .before .open-answer .ensures, c .before .before .answer .given .1, c .no-head .ensures)
 
 pub open-spec : {M : Type 1} → statement M

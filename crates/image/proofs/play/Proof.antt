@@ -1,65 +1,48 @@
 -- `play` meets its contract. Assumes nothing.
-use denote.Ref.{now}
-use mathlib.Core.Path.{_≡_, sym, _∙_}
-use lib.ListN.{length}
-use Rattle.image.specs.Facts.{Playable}
-use Rattle.image.specs.Samples.{playOf}
-use Rattle.image.proofs.LawsBody.{play-accepted}
-use Rattle.image.proofs.LawsPlayed.{play-made}
 use borrow.Author.Needs.{needs}
+use denote.Ref.{now}
+use mathlib.Core.Path.{_≡_, ap, sym, _∙_}
+use Rattle.image.specs.Opening.{outcome}
+use Rattle.image.specs.Playing.{playAnswer, play}
+use Rattle.image.proofs.LawsBody.{block-accepted}
 use Rattle.image.proofs.play.Statement.{statement}
 use Rattle.image.proofs.play.Tie as tie
 
-play-answer-requires : tie.Need-play-answer-requires
-play-answer-requires c κs = search needs
+block-answer-requires : tie.Need-block-answer-requires
+block-answer-requires c κs = search needs
 
 enum-told : tie.Need-enum-told
 enum-told c = search needs
 
--- what playing was accepted with
-playable : (c : tie.After-enum-told) → let a = c .before .before .before .before .args in Playable (now (a .image)) (a .k) (length (now (a .out)))
-playable c = play-accepted _ _ _ (sym (c .before .before .play-answer .ensures) ∙ c .enum-told .given .1)
-
-read-length-requires : tie.Need-read-length-requires
-read-length-requires c κs = playable c .found
-
-read-coefficients-requires : tie.Need-read-coefficients-requires
-read-coefficients-requires c κs = playable (c .before) .found .opens .head .long
-
-play-block-requires : tie.Need-play-block-requires
-play-block-requires c κs = (playable (c .before .before .before), c .before .before .read-length .ensures, c .before .read-coefficients .ensures)
-
-address-to-sample-requires : tie.Need-address-to-sample-requires
-address-to-sample-requires c κs = search needs
+play-found-requires : tie.Need-play-found-requires
+play-found-requires c κs = block-accepted _ _ (sym (c .before .before .before .block-answer .ensures) ∙ ap outcome (c .before .enum-told .given .1))
 
 enum-known-answer : tie.Need-enum-known-answer
 enum-known-answer c = search needs
 
-new-requires : tie.Need-new-requires
-new-requires c κs = search needs
+refused-playback-requires : tie.Need-refused-playback-requires
+refused-playback-requires c κs = search needs
 
 same-length : tie.Need-same-length
 same-length c = search needs
 
 returns : tie.Need-returns
-returns c = play-made _ _ _ (playable (c .before .before .before .before .before .before)) _ _ _ (c .before .before .before .before .before .read-length .ensures) (c .address-to-sample .ensures) (c .before .before .play-block .ensures)
+unfolding play playAnswer
+returns c = rw (← c .before .before .before .before .before .block-answer .ensures, c .before .before .before .enum-told .given .1) (c .before .play-found .ensures)
 
 returns-2 : tie.Need-returns-2
-unfolding playOf
-returns-2 c = rw (← c .before .before .before .before .play-answer .ensures, c .before .before .answer .given .1, c .new .ensures)
+unfolding play playAnswer
+returns-2 c = let r = c .refused-playback .ensures in rw (← c .before .before .before .before .block-answer .ensures, c .before .before .answer .given .1, r .0, r .1)
 
 pub play-spec : {M : Type 1} → statement M
 play-spec =
     tie.close
     (tie.spec
-    play-answer-requires
+    block-answer-requires
     enum-told
-    read-length-requires
-    read-coefficients-requires
-    play-block-requires
-    address-to-sample-requires
+    play-found-requires
     enum-known-answer
-    new-requires
+    refused-playback-requires
     same-length
     returns
     returns-2)

@@ -1,63 +1,48 @@
 -- `play_all` meets its contract. Assumes nothing.
-use denote.Ref.{now}
-use mathlib.Core.Path.{_≡_, sym, _∙_}
-use native.Mathlib.Omega.{arith}
-use lib.ListN.{length}
 use borrow.Author.Needs.{needs}
-use Rattle.image.specs.Facts.{AllPlayable}
-use Rattle.image.specs.Reading.{totalIn}
-use Rattle.image.specs.AllBlocks.{playAllOf}
-use Rattle.image.proofs.LawsAll.{all-accepted, all-made}
+use denote.Ref.{now}
+use mathlib.Core.Path.{_≡_, ap, sym, _∙_}
+use Rattle.image.specs.Opening.{outcome}
+use Rattle.image.specs.WholeImage.{allAnswer, playAll}
+use Rattle.image.proofs.OpenImages.{opened}
 use Rattle.image.proofs.play_all.Statement.{statement}
 use Rattle.image.proofs.play_all.Tie as tie
 
-all-answer-requires : tie.Need-all-answer-requires
-all-answer-requires c κs = search needs
+open-answer-requires : tie.Need-open-answer-requires
+open-answer-requires c κs = search needs
 
 enum-told : tie.Need-enum-told
 enum-told c = search needs
 
--- what playing was accepted with
-playable : (c : tie.After-enum-told) → let a = c .before .before .before .before .args in AllPlayable (now (a .image)) (length (now (a .out)))
-playable c = all-accepted _ _ (sym (c .before .before .all-answer .ensures) ∙ c .enum-told .given .1)
-
-get32-requires : tie.Need-get32-requires
-get32-requires c κs = let h = playable c .opens .head .long in omega (arith, h)
-
-play-blocks-requires : tie.Need-play-blocks-requires
-play-blocks-requires c κs = playable (c .before .before)
-
-cast-t12 : tie.Need-cast-t12
-cast-t12 c = search needs
+play-opened-requires : tie.Need-play-opened-requires
+play-opened-requires c κs = opened _ (sym (c .before .before .before .open-answer .ensures) ∙ ap outcome (c .before .enum-told .given .1))
 
 enum-known-answer : tie.Need-enum-known-answer
 enum-known-answer c = search needs
 
-new-requires : tie.Need-new-requires
-new-requires c κs = search needs
+refused-playback-requires : tie.Need-refused-playback-requires
+refused-playback-requires c κs = search needs
 
 same-length : tie.Need-same-length
 same-length c = search needs
 
 returns : tie.Need-returns
-unfolding totalIn
-returns c = all-made _ _ (playable (c .before .before .before .before)) _ _ (c .before .before .before .get32 .ensures) (c .before .play-blocks .ensures)
+unfolding playAll allAnswer
+returns c = rw (← c .before .before .before .before .before .open-answer .ensures, c .before .before .before .enum-told .given .1) (c .before .play-opened .ensures)
 
 returns-2 : tie.Need-returns-2
-unfolding playAllOf
-returns-2 c = rw (← c .before .before .before .before .all-answer .ensures, c .before .before .answer .given .1, c .new .ensures)
+unfolding playAll allAnswer
+returns-2 c = let r = c .refused-playback .ensures in rw (← c .before .before .before .before .open-answer .ensures, c .before .before .answer .given .1, r .0, r .1)
 
 pub play-all-spec : {M : Type 1} → statement M
 play-all-spec =
     tie.close
     (tie.spec
-    all-answer-requires
+    open-answer-requires
     enum-told
-    get32-requires
-    play-blocks-requires
-    cast-t12
+    play-opened-requires
     enum-known-answer
-    new-requires
+    refused-playback-requires
     same-length
     returns
     returns-2)

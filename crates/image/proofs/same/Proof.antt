@@ -1,6 +1,7 @@
 -- `same` meets its contract. Assumes nothing.
-use mathlib.Core.Path.{_≡_, sym, _∙_}
-use Rattle.image.specs.Sameness.{sameOf}
+use mathlib.Core.Path.{ap, _≡_, sym, _∙_}
+use Rattle.image.specs.Sameness.{same}
+use Rattle.image.specs.Opening.{outcome}
 use Rattle.image.proofs.LawsSame.{both-accepted}
 use borrow.Author.Needs.{needs}
 use Rattle.image.proofs.same.Statement.{statement}
@@ -13,21 +14,21 @@ enum-told : tie.Need-enum-told
 enum-told c = search needs
 
 same-sound-requires : tie.Need-same-sound-requires
-same-sound-requires c κs = let p = both-accepted _ _ (sym (c .before .before .both-answer .ensures) ∙ c .enum-told .given .1) in (p .0 .opens, p .1 .opens)
+same-sound-requires c κs = let p = both-accepted _ _ (sym (c .before .before .both-answer .ensures) ∙ ap outcome (c .enum-told .given .1)) in (p .0 .opens, p .1 .opens)
 
 returns : tie.Need-returns
-unfolding sameOf
+unfolding same
 returns c = simp (← c .before .before .before .before .both-answer .ensures, c .before .before .enum-told .given .1, ← c .before .same-sound .ensures, c .if1 .taken)
 
 enum-known-answer : tie.Need-enum-known-answer
 enum-known-answer c = search needs
 
 returns-2 : tie.Need-returns-2
-unfolding sameOf
+unfolding same
 returns-2 c = simp (← c .before .before .before .before .both-answer .ensures, c .before .before .enum-told .given .1, ← c .before .same-sound .ensures, c .if1 .left)
 
 returns-3 : tie.Need-returns-3
-unfolding sameOf
+unfolding same
 returns-3 c = simp (← c .before .before .before .both-answer .ensures, c .before .answer .given .1)
 
 pub same-spec : {M : Type 1} → statement M

@@ -9,7 +9,7 @@ div-result : tie.Need-div-result
 div-result c = (lit< tt, rw (toZ-ofZ (c .fits .x)) (quot-fits 2048 (c .fits .x)))
 
 returns : tie.Need-returns
-returns c = rw (toZ-ofZ (c .fits .x), toZ-ofZ (quot-fits 2048 (c .fits .x)))
+returns c = rw (toZ-ofZ (c .fits .x)) (toZ-ofZ (quot-fits 2048 (c .fits .x)))
 
 pub quotient-2048-spec : {M : Type 1} → statement M
 quotient-2048-spec = tie.close (tie.spec div-result returns)

@@ -6,7 +6,7 @@ use Prim.Native.Nat.{ℕ, _-_, _≤_}
 use native.Mathlib.Omega.{arith}
 use lib.ListN.{length, take}
 use lib.Seq.{sets, length-sets, take-all}
-use Rattle.block.proofs.Stores.{sets-take}
+use Rattle.whole.proofs.Stores.{sets-take}
 use Rattle.block.proofs.join.copy.Statement.{statement}
 use Rattle.block.proofs.join.copy.Tie as tie
 

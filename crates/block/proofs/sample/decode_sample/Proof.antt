@@ -9,7 +9,7 @@ use mir.Syntax.{w16, w64}
 use mir.Val.{SFits, toZ, ofZ}
 use Rattle.whole.specs.Whole.{clamp16, floored, signedNibble}
 use Rattle.whole.proofs.Values.{Is, is-16, is-in, is-lit, is-nat, is-add, chk-add, is-mul, chk-mul, chk-cast, is-call, abs-shr}
-use Rattle.block.specs.Sample.{sampleOf}
+use Rattle.block.specs.Sample.{decodeSample}
 use Rattle.block.proofs.LawsSample.{nibble-size}
 use Rattle.block.proofs.sample.decode_sample.Statement.{statement}
 use Rattle.block.proofs.sample.decode_sample.Tie as tie
@@ -82,7 +82,7 @@ clamp-i16-requires : tie.Need-clamp-i16-requires
 clamp-i16-requires c κs = search needs
 
 returns : tie.Need-returns
-unfolding sampleOf
+unfolding decodeSample
 returns c =
     let n = c .before in
     rw (toZ-ofZ (record { sfits = c .clamp-i16 .ok }))

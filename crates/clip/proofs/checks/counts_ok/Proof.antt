@@ -13,8 +13,8 @@ returns : tie.Need-returns
 unfolding countsOk
 returns c = simp (c .before .if1 .taken, lt-ltb _ _ (c .if2 .taken))
 
-encoded-requires : tie.Need-encoded-requires
-encoded-requires c κs = search needs
+encoded-frames-requires : tie.Need-encoded-frames-requires
+encoded-frames-requires c κs = search needs
 
 mul-result : tie.Need-mul-result
 mul-result c = search needs
@@ -27,7 +27,7 @@ open-or-whole c =
 
 returns-2 : tie.Need-returns-2
 unfolding countsOk
-returns-2 c = simp (open-or-whole (c .before), ← c .encoded .ensures .0)
+returns-2 c = simp (open-or-whole (c .before), ← c .encoded-frames .ensures .0)
 
 pub counts-ok-spec : {M : Type 1} → statement M
-counts-ok-spec = tie.close (tie.spec returns encoded-requires mul-result returns-2)
+counts-ok-spec = tie.close (tie.spec returns encoded-frames-requires mul-result returns-2)

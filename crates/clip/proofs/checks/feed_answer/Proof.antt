@@ -1,13 +1,20 @@
 -- `feed_answer` meets its contract. Assumes nothing.
+use borrow.Author.Needs.{needs}
 use mathlib.Core.Path.{_≡_, sym, _∙_}
 use mathlib.Core.Bool.{true}
 use borrow.Author.Tests.{lt-ltb, le-ltb, not-true, not-false}
-use native.Mathlib.Omega.{arith}
-use Rattle.clip.specs.Encoding.{validOf, feedAnswer}
-use Rattle.clip.proofs.Sound.{sound}
-use borrow.Author.Needs.{needs}
+use Rattle.layout.specs.declared.Shape.{Shape}
+use Rattle.layout.specs.Limits.{Limits}
+use Rattle.clip.specs.Encoding.{valid, feedAnswer}
+use Rattle.clip.proofs.ValidState.{sound}
+use mathlib.Core.Path.{ap}
+use lib.ListN.{length}
 use Rattle.clip.proofs.checks.feed_answer.Statement.{statement}
 use Rattle.clip.proofs.checks.feed_answer.Tie as tie
+
+-- the state passed its test
+passed : (c : tie.Else1) → valid (c .before .before .args .e) ≡ true
+passed c = sym (c .before .valid .ensures) ∙ not-false (c .before .valid .result) (c .if1 .left)
 
 valid-requires : tie.Need-valid-requires
 valid-requires c κs = search needs
@@ -22,34 +29,32 @@ cast-n c = search needs
 cast-total : tie.Need-cast-total
 cast-total c = search needs
 
-cast-block : tie.Need-cast-block
-cast-block c = search needs
+encoder-shape-requires : tie.Need-encoder-shape-requires
+encoder-shape-requires c κs = search needs
 
--- the state passed its test
-passed : (c : tie.Else1) → validOf (c .before .before .args .e) ≡ true
-passed c = sym (c .before .valid .ensures) ∙ not-false (c .before .valid .result) (c .if1 .left)
-
-size-requires : tie.Need-size-requires
-size-requires c κs = sound _ (passed (c .before .before .before)) .limits
+image-size-requires : tie.Need-image-size-requires
+image-size-requires c κs = rw (c .encoder-shape .ensures) (sound _ (passed (c .before .before .before)) .limits)
 
 returns-2 : tie.Need-returns-2
 unfolding feedAnswer
-returns-2 c = simp (passed (c .before .before .before .before .before), lt-ltb _ _ (rw (c .before .size .ensures) at (c .if2 .taken)))
+returns-2 c = simp (passed (c .before .before .before .before .before), lt-ltb _ _ (rw (c .before .image-size .ensures, c .before .before .encoder-shape .ensures) at (c .if2 .taken)))
 
 returns-3 : tie.Need-returns-3
 unfolding feedAnswer
-returns-3 c = simp (passed (c .before .before .before .before .before .before), le-ltb _ _ (rw (c .before .before .size .ensures) at (c .before .if2 .left)), c .if3 .taken)
+returns-3 c = let k = c .before .before .before .before .before .before in simp (passed k, le-ltb _ _ (rw (c .before .before .image-size .ensures, c .before .before .before .encoder-shape .ensures) at (c .before .if2 .left)), c .if3 .taken)
 
 sub-if4 : tie.Need-sub-if4
-sub-if4 c = sound _ (passed (c .before .before .before .before .before .before)) .fed
+sub-if4 c = let k = c .before .before .before .before .before .before in sound _ (passed k) .fed
 
 returns-4 : tie.Need-returns-4
 unfolding feedAnswer
-returns-4 c = simp (passed (c .before .before .before .before .before .before .before), le-ltb _ _ (rw (c .before .before .before .size .ensures) at (c .before .before .if2 .left)), c .before .if3 .left, lt-ltb _ _ (c .if4 .taken))
+returns-4 c = let k = c .before .before .before .before .before .before .before in
+    simp (passed k, le-ltb _ _ (rw (c .before .before .before .image-size .ensures, c .before .before .before .before .encoder-shape .ensures) at (c .before .before .if2 .left)), c .before .if3 .left, lt-ltb _ _ (c .if4 .taken))
 
 returns-5 : tie.Need-returns-5
 unfolding feedAnswer
-returns-5 c = simp (passed (c .before .before .before .before .before .before .before), le-ltb _ _ (rw (c .before .before .before .size .ensures) at (c .before .before .if2 .left)), c .before .if3 .left, le-ltb _ _ (c .if4 .left))
+returns-5 c = let k = c .before .before .before .before .before .before .before in
+    simp (passed k, le-ltb _ _ (rw (c .before .before .before .image-size .ensures, c .before .before .before .before .encoder-shape .ensures) at (c .before .before .if2 .left)), c .before .if3 .left, le-ltb _ _ (c .if4 .left))
 
 pub feed-answer-spec : {M : Type 1} → statement M
 feed-answer-spec =
@@ -59,8 +64,8 @@ feed-answer-spec =
     returns
     cast-n
     cast-total
-    cast-block
-    size-requires
+    encoder-shape-requires
+    image-size-requires
     returns-2
     returns-3
     sub-if4

@@ -1,12 +1,32 @@
 -- `start_answer` meets its contract. Assumes nothing.
-use mathlib.Core.Path.{_≡_, sym, _∙_}
-use borrow.Author.Tests.{lt-leb, le-leb, eq-eqb, ne-eqb, lt-ltb, le-ltb, not-true, not-false}
-use native.Mathlib.Omega.{arith}
-use Rattle.layout.specs.Sizes.{cutDown}
-use Rattle.clip.specs.Encoding.{startAnswer}
 use borrow.Author.Needs.{needs}
+use mathlib.Core.Path.{_≡_, ap, _∙_}
+use native.Mathlib.Omega.{arith}
+use borrow.Author.Tests.{lt-leb, le-leb, eq-eqb, ne-eqb, lt-ltb, le-ltb, not-true, not-false}
+use Rattle.layout.specs.Sizes.{shape, cutDown}
+use Rattle.layout.specs.Limits.{Limits}
+use Rattle.clip.specs.Image.{cut, startShape}
+use Rattle.clip.specs.Encoding.{startAnswer}
 use Rattle.clip.proofs.checks.start_answer.Statement.{statement}
 use Rattle.clip.proofs.checks.start_answer.Tie as tie
+
+-- the shape that was made
+made : (c : tie.After-shape-of) → c .shape-of .result ≡ startShape (cut (c .before .before .before .before .before .before .before .before .before .before .args .g))
+made c = c .shape-of .ensures ∙ ap (shape (c .before .before .before .before .before .before .before .before .before .before .args .g .total)) (c .before .cut-down .ensures)
+
+-- it is within the limits
+limits : (c : tie.After-shape-of) → Limits (startShape (cut (c .before .before .before .before .before .before .before .before .before .before .args .g)))
+unfolding cutDown
+limits c =
+    let k = c .before .before .before .before .before in
+    record {
+      some = omega (arith, k .before .before .before .before .if1 .left);
+      few = omega (arith, k .before .before .before .if2 .left);
+      wide = omega (arith, k .before .if4 .left);
+      narrow = omega (arith, k .if5 .left);
+      eights = omega arith;
+      further = omega arith;
+    }
 
 returns : tie.Need-returns
 unfolding startAnswer
@@ -33,24 +53,47 @@ coefficients-ok-requires c κs = search needs
 
 returns-6 : tie.Need-returns-6
 unfolding startAnswer
-returns-6 c = simp (le-leb _ _ (c .before .before .before .before .before .before .if1 .left), le-leb _ _ (c .before .before .before .before .before .if2 .left), ne-eqb _ _ (c .before .before .before .before .if3 .left), le-leb _ _ (c .before .before .before .if4 .left), le-leb _ _ (c .before .before .if5 .left), ← c .before .coefficients-ok .ensures, not-true (c .before .coefficients-ok .result) (c .if6 .taken))
+returns-6 c = let k = c .before .before .before in
+    simp (le-leb _ _ (k .before .before .before .before .if1 .left), le-leb _ _ (k .before .before .before .if2 .left), ne-eqb _ _ (k .before .before .if3 .left), le-leb _ _ (k .before .if4 .left), le-leb _ _ (k .if5 .left), ← c .before .coefficients-ok .ensures, not-true (c .before .coefficients-ok .result) (c .if6 .taken))
 
-mul-size : tie.Need-mul-size
-mul-size c = search needs
+cut-down-requires : tie.Need-cut-down-requires
+cut-down-requires c κs = search needs
 
-cast-size : tie.Need-cast-size
-cast-size c = search needs
+shape-of-requires : tie.Need-shape-of-requires
+shape-of-requires c κs = search needs
 
-size-requires : tie.Need-size-requires
-size-requires c κs = search needs
+image-size-requires : tie.Need-image-size-requires
+image-size-requires c κs = rw (made c) (limits c)
 
 returns-7 : tie.Need-returns-7
-unfolding startAnswer cutDown
-returns-7 c = simp (le-leb _ _ (c .before .before .before .before .before .before .before .before .if1 .left), le-leb _ _ (c .before .before .before .before .before .before .before .if2 .left), ne-eqb _ _ (c .before .before .before .before .before .before .if3 .left), le-leb _ _ (c .before .before .before .before .before .if4 .left), le-leb _ _ (c .before .before .before .before .if5 .left), ← c .before .before .before .coefficients-ok .ensures, not-false (c .before .before .before .coefficients-ok .result) (c .before .before .if6 .left), lt-ltb _ _ (rw (c .before .size .ensures) at (c .if7 .taken)))
+unfolding startAnswer
+returns-7 c = let m = c .before .before .before .before in
+    let k = m .before .before .before in
+    simp (
+      le-leb _ _ (k .before .before .before .before .if1 .left),
+      le-leb _ _ (k .before .before .before .if2 .left),
+      ne-eqb _ _ (k .before .before .if3 .left),
+      le-leb _ _ (k .before .if4 .left),
+      le-leb _ _ (k .if5 .left),
+      ← m .before .coefficients-ok .ensures,
+      not-false (m .before .coefficients-ok .result) (m .if6 .left),
+      lt-ltb _ _ (rw (c .before .image-size .ensures, made (c .before .before)) at (c .if7 .taken)),
+    )
 
 returns-8 : tie.Need-returns-8
-unfolding startAnswer cutDown
-returns-8 c = simp (le-leb _ _ (c .before .before .before .before .before .before .before .before .if1 .left), le-leb _ _ (c .before .before .before .before .before .before .before .if2 .left), ne-eqb _ _ (c .before .before .before .before .before .before .if3 .left), le-leb _ _ (c .before .before .before .before .before .if4 .left), le-leb _ _ (c .before .before .before .before .if5 .left), ← c .before .before .before .coefficients-ok .ensures, not-false (c .before .before .before .coefficients-ok .result) (c .before .before .if6 .left), le-ltb _ _ (rw (c .before .size .ensures) at (c .if7 .left)))
+unfolding startAnswer
+returns-8 c = let m = c .before .before .before .before in
+    let k = m .before .before .before in
+    simp (
+      le-leb _ _ (k .before .before .before .before .if1 .left),
+      le-leb _ _ (k .before .before .before .if2 .left),
+      ne-eqb _ _ (k .before .before .if3 .left),
+      le-leb _ _ (k .before .if4 .left),
+      le-leb _ _ (k .if5 .left),
+      ← m .before .coefficients-ok .ensures,
+      not-false (m .before .coefficients-ok .result) (m .if6 .left),
+      le-ltb _ _ (rw (c .before .image-size .ensures, made (c .before .before)) at (c .if7 .left)),
+    )
 
 pub start-answer-spec : {M : Type 1} → statement M
 start-answer-spec =
@@ -63,8 +106,8 @@ start-answer-spec =
     returns-5
     coefficients-ok-requires
     returns-6
-    mul-size
-    cast-size
-    size-requires
+    cut-down-requires
+    shape-of-requires
+    image-size-requires
     returns-7
     returns-8)

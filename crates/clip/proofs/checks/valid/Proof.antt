@@ -3,8 +3,8 @@ use mathlib.Core.Path.{_≡_, sym, _∙_}
 use mathlib.Core.Bool.{true}
 use borrow.Author.Tests.{not-true, not-false}
 use Rattle.layout.specs.Limits.{numbersOk}
-use Rattle.clip.specs.Encoding.{validOf}
-use Rattle.layout.proofs.Numbers.{numbers-sound}
+use Rattle.clip.specs.Encoding.{valid}
+use Rattle.layout.proofs.LimitLaws.{numbers-sound}
 use borrow.Author.Needs.{needs}
 use Rattle.clip.proofs.checks.valid.Statement.{statement}
 use Rattle.clip.proofs.checks.valid.Tie as tie
@@ -13,14 +13,14 @@ numbers-ok-requires : tie.Need-numbers-ok-requires
 numbers-ok-requires c κs = search needs
 
 returns : tie.Need-returns
-unfolding validOf
+unfolding valid
 returns c = simp (← c .before .numbers-ok .ensures, not-true (c .before .numbers-ok .result) (c .if1 .taken))
 
 coefficients-ok-requires : tie.Need-coefficients-ok-requires
 coefficients-ok-requires c κs = search needs
 
 returns-2 : tie.Need-returns-2
-unfolding validOf
+unfolding valid
 returns-2 c = simp (← c .before .before .before .before .numbers-ok .ensures, not-false (c .before .before .before .before .numbers-ok .result) (c .before .before .before .if1 .left), ← c .before .coefficients-ok .ensures, not-true (c .before .coefficients-ok .result) (c .if2 .taken))
 
 cast-counts-ok : tie.Need-cast-counts-ok
@@ -36,7 +36,7 @@ counts-ok-requires : tie.Need-counts-ok-requires
 counts-ok-requires c κs = let w = numbers-sound _ _ _ _ (sym (c .before .before .before .before .numbers-ok .ensures) ∙ not-false _ (c .before .before .before .if1 .left)) in (w .fed, w .limits .few)
 
 returns-3 : tie.Need-returns-3
-unfolding validOf
+unfolding valid
 returns-3 c = simp (← c .before .before .before .before .before .numbers-ok .ensures, not-false (c .before .before .before .before .before .numbers-ok .result) (c .before .before .before .before .if1 .left), ← c .before .before .coefficients-ok .ensures, not-false (c .before .before .coefficients-ok .result) (c .before .if2 .left), ← c .counts-ok .ensures)
 
 pub valid-spec : {M : Type 1} → statement M

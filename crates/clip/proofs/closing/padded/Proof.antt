@@ -5,7 +5,7 @@ use native.Mathlib.Omega.{arith}
 use lib.IntN.{pos}
 use lib.ListN.{replicate}
 use lib.Seq.{sets}
-use Rattle.clip.proofs.Ending.{pad-turn}
+use Rattle.clip.proofs.LastFrame.{pad-turn}
 use Rattle.clip.proofs.closing.padded.Statement.{statement}
 use Rattle.clip.proofs.closing.padded.Tie as tie
 

@@ -1,75 +1,88 @@
 -- `put_fresh` meets its contract. Assumes nothing.
-use mathlib.Core.Path.{_≡_, refl, ap₂, _∙_}
+use borrow.Author.Needs.{needs}
+use mathlib.Core.Path.{_≡_, refl, ap, ap₂, sym, _∙_}
 use mathlib.Core.List.{List, _++_}
 use Prim.Native.Nat.{ℕ, _+_, _*_}
 use native.Mathlib.Omega.{arith}
 use lib.ListN.{length, replicate}
 use lib.Seq.{sets}
-use Rattle.clip.specs.Image.{headOf, tableOf, freshOf}
+use Rattle.layout.specs.declared.Shape.{Shape}
 use Rattle.layout.specs.Fields.{noMark}
-use Rattle.layout.specs.Sizes.{blocksOf, bodyOf, sizeOf}
+use Rattle.layout.specs.Sizes.{blockCount, bodiesPlace, bodyBytes, imageSize}
+use Rattle.clip.specs.Image.{startShape, headBytes, tableBytes, freshBytes}
 use Rattle.clip.proofs.FieldRuns.{runs3, head-length}
 use Rattle.clip.proofs.Tables.{bare, table-length}
-use borrow.Author.Needs.{needs}
 use Rattle.clip.proofs.contents.put_fresh.Statement.{statement}
 use Rattle.clip.proofs.contents.put_fresh.Tie as tie
 
-blocks-requires : tie.Need-blocks-requires
-blocks-requires c κs = search needs
+shape-of-requires : tie.Need-shape-of-requires
+shape-of-requires c κs = search needs
 
-body-requires : tie.Need-body-requires
-body-requires c κs = search needs
+block-count-requires : tie.Need-block-count-requires
+block-count-requires c κs = rw (c .shape-of .ensures) (c .before .before .pre .0)
 
 cast-put-head : tie.Need-cast-put-head
 cast-put-head c = search needs
 
 put-head-requires : tie.Need-put-head-requires
-unfolding sizeOf
-put-head-requires c κs = (omega (arith, c .before .before .before .before .pre .1), c .before .before .blocks2 .ensures .0)
+unfolding imageSize
+put-head-requires c κs = let s = c .before .before .before .before in
+    (omega (arith, s .pre .1), c .before .block-count .ensures .0 ∙ ap blockCount (c .before .before .shape-of .ensures))
 
 put-table-requires : tie.Need-put-table-requires
-unfolding sizeOf
-put-table-requires c κs = (c .before .before .before .before .before .before .before .before .pre .0, c .before .before .before .before .before .before .blocks2 .ensures .0, omega (arith, c .before .before .before .before .before .before .before .before .pre .1, c .before .before .before .before .before .before .blocks2 .ensures .0, c .before .before .before .put-head .kept .0))
+unfolding imageSize
+put-table-requires c κs = let s = c .before .before .before .before .before .before .before .before in
+    let p = ap bodiesPlace (c .before .before .before .before .before .before .shape-of .ensures) in
+    (rw (c .before .before .before .before .before .before .shape-of .ensures) (s .pre .0), omega (arith, s .pre .1, p, c .before .before .before .put-head .kept .0))
 
-mul-zeros : tie.Need-mul-zeros
-mul-zeros c = search needs
+bodies-place-requires : tie.Need-bodies-place-requires
+bodies-place-requires c κs = let s = c .before .before .before .before .before .before .before .before .before .before .before .before in rw (c .before .before .before .before .before .before .before .before .before .before .shape-of .ensures) (s .pre .0)
 
-add-zeros : tie.Need-add-zeros
-add-zeros c = search needs
+body-bytes-requires : tie.Need-body-bytes-requires
+body-bytes-requires c κs = let s = c .before .before .before .before .before .before .before .before .before .before .before .before .before in rw (c .before .before .before .before .before .before .before .before .before .before .before .shape-of .ensures) (s .pre .0 .some, s .pre .0 .few)
 
 zeros-requires : tie.Need-zeros-requires
-unfolding sizeOf
-zeros-requires c κs = omega (arith, c .before .before .before .before .before .before .before .before .before .before .before .before .pre .1, c .before .before .before .before .before .before .before .before .before .before .blocks2 .ensures .0, c .before .before .before .before .before .before .before .before .before .body .ensures .0, c .before .before .before .before .before .before .before .put-head .kept .0, c .before .before .before .put-table .kept .0)
+unfolding imageSize
+zeros-requires c κs = let s = c .before .before .before .before .before .before .before .before .before .before .before .before .before .before in
+    let e = c .before .before .before .before .before .before .before .before .before .before .before .before .shape-of .ensures in
+    let p = c .before .bodies-place .ensures ∙ ap bodiesPlace e in
+    let t = c .body-bytes .ensures .0 ∙ ap (λ (z : Shape). bodyBytes (z .total)) e in
+    omega (arith, s .pre .1, p, t, c .before .before .before .before .before .before .before .before .before .put-head .kept .0, c .before .before .before .before .before .put-table .kept .0)
 
 same-length : tie.Need-same-length
 same-length c = search needs
 
 returns : tie.Need-returns
-unfolding freshOf
-returns c =
-    let s = c .before .before .before .before .before .before .before .before .before .before .before .before .before .before .before in
+unfolding freshBytes
+returns c = let s = c .before .before .before .before .before .before .before .before .before .before .before .before .before .before .before .before .before in
     let a = s .args in
-    let k = c .before .before .before .before .before .before .before .before .before .before .before .before .before .blocks2 in
-    let t = c .before .before .before .before .before .before .before .before .before .before .before .before .body in
-    let n : length (a .cs) ≡ 16 = search needs in
-    let h : 56 ≡ 0 + length (headOf noMark (a .total) (a .rate) (a .block) (a .cs) (a .gain)) = omega (arith, head-length noMark (a .total) (a .rate) (a .block) (a .cs) (a .gain) refl n) in
-    let l : 56 + 16 * k .result ≡ 56 + length (tableOf bare (a .total) (a .block) 0 (k .result)) = omega (arith, table-length bare (λ i. refl) (a .total) (a .block) 0 (k .result)) in
-    runs3 (a .image .now) (c .before .before .before .before .before .before .before .before .before .before .put-head .last .0) (c .before .before .before .before .before .before .put-table .last .0) (c .before .before .zeros .last .0)
-    (headOf noMark (a .total) (a .rate) (a .block) (a .cs) (a .gain)) (tableOf bare (a .total) (a .block) 0 (k .result)) (replicate (t .result) 0) 0 56 (56 + 16 * k .result)
-    (c .before .before .before .before .before .before .before .before .before .before .put-head .ensures) (c .before .before .before .before .before .before .put-table .ensures) (c .before .before .zeros .ensures) h l
-    ∙ ap₂ (λ (x y : ℕ). sets (a .image .now) 0 (headOf noMark (a .total) (a .rate) (a .block) (a .cs) (a .gain) ++ (tableOf bare (a .total) (a .block) 0 x ++ replicate y 0))) (k .ensures .0) (t .ensures .0)
+    let g = a .g in
+    let e = c .before .before .before .before .before .before .before .before .before .before .before .before .before .before .before .shape-of .ensures in
+    let p = c .before .before .before .before .bodies-place in
+    let b = c .before .before .before .body-bytes in
+    let head = c .before .before .before .before .before .before .before .before .before .before .before .before .put-head in
+    let table = c .before .before .before .before .before .before .before .before .put-table in
+    let zero = c .before .before .zeros in
+    let n : length (g .coefficients) ≡ 16 = search needs in
+    let k = blockCount (startShape g) in
+    let bytes : Shape → List ℕ = λ z. tableBytes bare z 0 (blockCount z) in
+    let h : 56 ≡ 0 + length (headBytes noMark g) = omega (arith, head-length noMark g refl n) in
+    let l : p .result ≡ 56 + length (bytes (startShape g)) = omega (arith, p .ensures ∙ ap bodiesPlace e, table-length bare (λ i. refl) (startShape g) 0 k) in
+    runs3 (a .image .now) (head .last .0) (table .last .0) (zero .last .0) (headBytes noMark g) (bytes (startShape g)) (replicate (b .result) 0) 0 56 (p .result)
+    (head .ensures) (table .ensures ∙ ap (λ (z : Shape). sets (head .last .0) 56 (bytes z)) e) (zero .ensures) h l
+    ∙ ap (λ (y : ℕ). sets (a .image .now) 0 (headBytes noMark g ++ (bytes (startShape g) ++ replicate y 0))) (b .ensures .0 ∙ ap (λ (z : Shape). bodyBytes (z .total)) e)
 
 pub put-fresh-spec : {M : Type 1} → statement M
 put-fresh-spec =
     tie.close
     (tie.spec
-    blocks-requires
-    body-requires
+    shape-of-requires
+    block-count-requires
     cast-put-head
     put-head-requires
     put-table-requires
-    mul-zeros
-    add-zeros
+    bodies-place-requires
+    body-bytes-requires
     zeros-requires
     same-length
     returns)

@@ -1,15 +1,14 @@
 -- `put_head` meets its contract. Assumes nothing.
+use borrow.Author.Needs.{needs}
 use mathlib.Core.Path.{_≡_, refl, ap, _∙_}
-use mathlib.Core.List.{List, _++_}
-use Prim.Native.Nat.{ℕ, _+_, _*_}
+use mathlib.Core.List.{_++_}
+use Prim.Native.Nat.{ℕ, _+_}
 use native.Mathlib.Omega.{arith}
 use lib.ListN.{length, replicate}
 use lib.Seq.{sets}
 use Rattle.layout.specs.Fields.{be16, be32, noMark}
-use Rattle.clip.specs.Image.{coefficientBytes, headOf}
-use Rattle.layout.specs.Sizes.{blocksOf}
+use Rattle.clip.specs.Image.{coefficientBytes, headBytes}
 use Rattle.clip.proofs.FieldRuns.{runs4, coefficient-length}
-use borrow.Author.Needs.{needs}
 use Rattle.clip.proofs.contents.put_head.Statement.{statement}
 use Rattle.clip.proofs.contents.put_head.Tie as tie
 
@@ -29,16 +28,21 @@ same-length : tie.Need-same-length
 same-length c = search needs
 
 returns : tie.Need-returns
-unfolding headOf
-returns c =
-    let s = c .before .before .before .before .before .before .before .before .before .before .before .before .before .before .before .before .before in
+unfolding headBytes
+returns c = let s = c .before .before .before .before .before .before .before .before .before .before .before .before .before .before .before .before .before .before in
     let a = s .args in
-    let n : length (a .cs) ≡ 16 = search needs in
-    let len : 48 ≡ 16 + length (coefficientBytes (a .cs)) = omega (arith, coefficient-length (a .cs), n) in
-    runs4 (a .image .now) (c .before .before .before .before .before .before .before .before .before .before .before .before .before .before .zeros .last .0) (c .before .before .before .before .before .before .before .before .before .before .put-numbers .last .0) (c .before .before .before .before .before .before .put-coefficients .last .0) (c .before .before .put-rest .last .0)
-    noMark (be32 (a .total) ++ (be32 (a .rate) ++ be32 (a .block))) (coefficientBytes (a .cs)) (be16 (a .gain) ++ (replicate 2 0 ++ be32 (a .kk))) 0 4 16 48
-    (c .before .before .before .before .before .before .before .before .before .before .before .before .before .before .zeros .ensures) (c .before .before .before .before .before .before .before .before .before .before .put-numbers .ensures) (c .before .before .before .before .before .before .put-coefficients .ensures) (c .before .before .put-rest .ensures) refl refl len
-    ∙ ap (λ (k : ℕ). sets (a .image .now) 0 (noMark ++ ((be32 (a .total) ++ (be32 (a .rate) ++ be32 (a .block))) ++ (coefficientBytes (a .cs) ++ (be16 (a .gain) ++ (replicate 2 0 ++ be32 k)))))) (s .pre .1)
+    let g = a .g in
+    let z = c .before .before .before .before .before .before .before .before .before .before .before .before .before .before .zeros in
+    let n = c .before .before .before .before .before .before .before .before .before .before .put-numbers in
+    let k = c .before .before .before .before .before .before .put-coefficients in
+    let r = c .before .before .put-rest in
+    let cs = g .coefficients in
+    let m : length cs ≡ 16 = search needs in
+    let len : 48 ≡ 16 + length (coefficientBytes cs) = omega (arith, coefficient-length cs, m) in
+    runs4 (a .image .now) (z .last .0) (n .last .0) (k .last .0) (r .last .0)
+    noMark (be32 (g .total) ++ (be32 (g .rate) ++ be32 (g .block))) (coefficientBytes cs) (be16 (g .gain) ++ (replicate 2 0 ++ be32 (a .blocks))) 0 4 16 48
+    (z .ensures) (n .ensures) (k .ensures) (r .ensures) refl refl len
+    ∙ ap (λ (b : ℕ). sets (a .image .now) 0 (noMark ++ ((be32 (g .total) ++ (be32 (g .rate) ++ be32 (g .block))) ++ (coefficientBytes cs ++ (be16 (g .gain) ++ (replicate 2 0 ++ be32 b)))))) (s .pre .1)
 
 pub put-head-spec : {M : Type 1} → statement M
 put-head-spec =

@@ -6,7 +6,7 @@ use Prim.Native.Nat.{ℕ}
 use lib.ListN.{take}
 use Rattle.frame.specs.declared.EncodedFrame.{EncodedFrame}
 use Rattle.frame.specs.Frame.{historyAfter}
-use Rattle.clip.specs.Encoding.{storeOf}
+use Rattle.clip.specs.Encoding.{encoderShape, store}
 use Rattle.frame.proofs.LawsFrame.{limits-bounded}
 use Rattle.clip.proofs.Storing.{full-bytes}
 use borrow.Author.Needs.{needs}
@@ -29,9 +29,12 @@ returns : tie.Need-returns
 returns c =
     let a = c .before .before .before .before .before .before .before .before .before .args in
     let t = c .before .before .before .before .before .before .before .encode-frame .ensures in
-    let o = c .before .before .store .ensures in (
-      (c .before .before .before .before .history-after .ensures ∙ ap (λ (f : EncodedFrame). historyAfter (a .history) (f .samples) 14) t, ap (λ (f : EncodedFrame). f .passes) t),
-      o ∙ ap (λ (f : EncodedFrame). storeOf (a .total) (a .block) (a .q) (take 8 (f .bytes)) (a .history) (now (a .image))) t ∙ ap (λ (b : List ℕ). storeOf (a .total) (a .block) (a .q) b (a .history) (now (a .image))) (full-bytes (a .history) (a .frame) (a .coefficients)),
+    let stored : List ℕ → List ℕ = λ b. store (a .shape) (a .q) b (a .history) (now (a .image)) in (
+      c .before .before .before .before .history-after .ensures ∙ ap (λ (f : EncodedFrame). historyAfter (a .history) (f .samples) 14) t,
+      (
+        ap (λ (f : EncodedFrame). f .passes) t,
+        c .before .before .store .ensures ∙ ap (λ (f : EncodedFrame). stored (take 8 (f .bytes))) t ∙ ap stored (full-bytes (a .history) (a .frame) (a .coefficients)),
+      ),
     )
 
 pub encode-full-spec : {M : Type 1} → statement M

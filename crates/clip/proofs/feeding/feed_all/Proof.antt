@@ -1,5 +1,5 @@
 -- `feed_all` meets its contract: after i turns the first i samples are fed. Assumes nothing.
-use mathlib.Core.Path.{_≡_, refl, sym, ap, _∙_, subst}
+use mathlib.Core.Path.{ap₂, _≡_, refl, sym, ap, _∙_, subst}
 use mathlib.Core.List.{List}
 use Prim.Native.Nat.{ℕ, _+_, _-_, _*_, _/_, _%_, _≤_, _<_}
 use native.Mathlib.Omega.{arith}
@@ -15,32 +15,30 @@ use mir.Val.{toZ, ofZ}
 use Rattle.frame.specs.declared.EncodedFrame.{EncodedFrame}
 use Rattle.frame.specs.Frame.{encodeFrame, historyAfter}
 use Rattle.clip.specs.declared.Encoder.{Encoder}
-use Rattle.clip.specs.Encoding.{both, storeOf, moved, pieceOf}
-use Rattle.clip.specs.Facts.{Room, Going}
+use Rattle.clip.specs.Encoding.{left, store, moved, feedAll}
+use Rattle.clip.specs.inner.Asked.{Room, Going}
+use Rattle.layout.specs.declared.Shape.{Shape}
 use Rattle.clip.proofs.Pieces.{turn}
 use Rattle.clip.proofs.Storing.{full-room, push-full, push-passes, push-part}
 use Rattle.clip.proofs.feeding.feed_all.Statement.{statement}
 use Rattle.clip.proofs.feeding.feed_all.Tie as tie
 
 abbrev Inv-loop : tie.InvT-loop
-Inv-loop e piece image₀ total block coefficients n₀ history₀ frame₀ passes₀ i₀ image n history frame passes i =
+Inv-loop e piece image₀ shape coefficients n₀ history₀ frame₀ passes₀ i₀ image n history frame passes i =
     (i ≤ length piece)
-    × (both (moved e n history frame passes (e .closed)) image ≡ pieceOf (both e image₀) (take i piece))
+    × (left (moved e n history frame passes (e .closed)) image ≡ feedAll (left e image₀) (take i piece))
     × Going (moved e n history frame passes (e .closed)) i (length piece) (length image₀)
     × (length image ≡ length image₀)
 
 abbrev μ-loop : tie.MeasureT-loop
-μ-loop e piece image₀ total block coefficients n₀ history₀ frame₀ passes₀ i₀ image n history frame passes i =
+μ-loop e piece image₀ shape coefficients n₀ history₀ frame₀ passes₀ i₀ image n history frame passes i =
     length piece - i
 
-cast-total : tie.Need-cast-total Inv-loop μ-loop
-cast-total c = search needs
-
-cast-block : tie.Need-cast-block Inv-loop μ-loop
-cast-block c = search needs
+encoder-shape-requires : tie.Need-encoder-shape-requires Inv-loop μ-loop
+encoder-shape-requires c κs = search needs
 
 loop-holds : tie.Need-loop-holds Inv-loop μ-loop
-loop-holds c = (omega arith, refl, c .before .before .before .before .before .before .pre, refl)
+loop-holds c = (omega arith, refl, c .before .before .before .before .before .pre, refl)
 
 cast-at : tie.Need-cast-at Inv-loop μ-loop
 cast-at c = omega arith
@@ -48,8 +46,12 @@ cast-at c = omega arith
 cast-q : tie.Need-cast-q Inv-loop μ-loop
 cast-q c = let g = c .before .loop .inv .2 in omega (arith, g .rest, g .limits .few)
 
+-- a piece is not too long to be counted
+piece-few : (l : tie.At-loop Inv-loop μ-loop) → length (now (l .before .before .before .before .before .before .args .piece)) ≤ 14680064
+piece-few l = let p = l .before .before .before .before .before .before .pre in omega (arith, p .rest, p .limits .few)
+
 mul-frame : tie.Need-mul-frame Inv-loop μ-loop
-mul-frame c = let p = c .before .before .before .before .before .before .before .before .pre in omega (arith, p .rest, p .limits .few)
+mul-frame c = omega (arith, piece-few (c .before))
 
 shared-slice-copy-out-frame : tie.Need-shared-slice-copy-out-frame Inv-loop μ-loop
 shared-slice-copy-out-frame c = c .loop-test .taken
@@ -64,30 +66,30 @@ add-n : tie.Need-add-n Inv-loop μ-loop
 add-n c = let g = c .before .before .loop .inv .2 in omega (arith, g .rest, g .limits .few, c .before .loop-test .taken)
 
 add-i : tie.Need-add-i Inv-loop μ-loop
-add-i c = let p = c .before .before .before .before .before .before .before .before .before .pre in omega (arith, p .rest, p .limits .few, c .before .loop-test .taken)
+add-i c = omega (arith, piece-few (c .before .before), c .before .loop-test .taken)
 
 loop-less : tie.Need-loop-less Inv-loop μ-loop
-loop-less c = falls (length (now (c .before .before .before .before .before .before .before .before .before .before .args .piece))) (c .before .before .before .loop .i) (c .before .before .loop-test .taken)
+loop-less c = let l = c .before .before .before in falls (length (now (l .before .before .before .before .before .before .args .piece))) (l .loop .i) (c .before .before .loop-test .taken)
 
 -- the state at the loop's head
 abbrev state : tie.At-loop Inv-loop μ-loop → Encoder
-state l = let a = l .before .before .before .before .before .before .before .args in moved (a .e) (l .loop .n) (l .loop .history) (l .loop .frame) (l .loop .passes) (a .e .closed)
+state l = let a = l .before .before .before .before .before .before .args in moved (a .e) (l .loop .n) (l .loop .history) (l .loop .frame) (l .loop .passes) (a .e .closed)
 
 -- the sample that is taken, and that it fits its type
 abbrev sample : tie.After-frame2 Inv-loop μ-loop → ℤ
-sample c = getD (now (c .before .before .before .before .before .before .before .before .before .args .piece)) (c .before .before .loop .i) (pos 0)
+sample c = let l = c .before .before in getD (now (l .before .before .before .before .before .before .args .piece)) (l .loop .i) (pos 0)
 
 same : (c : tie.After-frame2 Inv-loop μ-loop) → toZ w16 (ofZ w16 (sample c)) ≡ sample c
 same c = toZ-ofZ (record { sfits = c .frame2 .given })
 
 loop-again : tie.Need-loop-again Inv-loop μ-loop
 loop-again c =
-    let a = c .before .before .before .before .before .before .before .before .before .before .args in
     let l = c .before .before .before in
+    let a = l .before .before .before .before .before .before .args in
     let m = state l in
     let r = l .loop in
-    turn (both (a .e) (now (a .image))) (now (a .piece)) (r .i) m (r .image) _ _ (c .before .before .loop-test .taken) (r .inv .1) (r .inv .2) (r .inv .3)
-    (ap (λ (z : ℤ). both (moved (a .e) (r .n + 1) (r .history) (set (r .frame) (r .n % 14) z) (r .passes) (a .e .closed)) (r .image)) (same (c .before))
+    turn (left (a .e) (now (a .image))) (now (a .piece)) (r .i) m (r .image) _ _ (c .before .before .loop-test .taken) (r .inv .1) (r .inv .2) (r .inv .3)
+    (ap (λ (z : ℤ). left (moved (a .e) (r .n + 1) (r .history) (set (r .frame) (r .n % 14) z) (r .passes) (a .e .closed)) (r .image)) (same (c .before))
     ∙ push-part m (sample (c .before)) (r .image) (λ q. omega (arith, c .if1 .taken, q)))
 
 -- the frame is full
@@ -98,42 +100,47 @@ encode-full-requires : tie.Need-encode-full-requires Inv-loop μ-loop
 encode-full-requires c κs =
     let l = c .before .before .before .before in
     let r = l .loop in
-    (subst (λ (k : ℕ). Room (state l .total) (state l .block) (r .n / 14) 8 k) (sym (r .inv .3)) (full-room (state l) (r .i) _ _ (r .inv .2) (c .before .before .before .loop-test .taken) (full (c .before))), r .inv .2 .within)
+    let room = full-room (state l) (r .i) _ _ (r .inv .2) (c .before .before .before .loop-test .taken) (full (c .before)) in
+    (subst (λ (k : ℕ). Room (l .before .before .before .before .encoder-shape .result) (r .n / 14) 8 k) (sym (r .inv .3)) (rw (l .before .before .before .before .encoder-shape .ensures) room), r .inv .2 .within)
 
 add-passes : tie.Need-add-passes Inv-loop μ-loop
 add-passes c =
-    let l = c .before .before .before .before .before .before .before .before .before in
-    let e = c .before .before .before .before .encode-full .ensures .0 .1 ∙ ap (λ (z : ℤ). encodeFrame (l .loop .history) (set (l .loop .frame) (l .loop .n % 14) z) (state l .coefficients) .passes) (same (c .before .before .before .before .before .before .before)) in
-    let few = push-passes (state l) (sample (c .before .before .before .before .before .before .before)) (l .loop .image) _ _ _ _ (l .loop .inv .2) (c .before .before .before .before .before .before .before .before .loop-test .taken) e in
+    let f = c .before .before .before .before .before .before .before in
+    let l = f .before .before in
+    let e = c .before .before .before .before .encode-full .ensures .1 .0 ∙ ap (λ (z : ℤ). encodeFrame (l .loop .history) (set (l .loop .frame) (l .loop .n % 14) z) (state l .coefficients) .passes) (same f) in
+    let few = push-passes (state l) (sample f) (l .loop .image) _ _ _ _ (l .loop .inv .2) (f .before .loop-test .taken) e in
     omega (arith, few)
 
 loop-less-2 : tie.Need-loop-less-2 Inv-loop μ-loop
-loop-less-2 c = falls (length (now (c .before .before .before .before .before .before .before .before .before .before .before .before .before .before .before .before .args .piece))) (c .before .before .before .before .before .before .before .before .before .loop .i) (c .before .before .before .before .before .before .before .before .loop-test .taken)
+loop-less-2 c =
+    let f = c .before .before .before .before .before .before .before in
+    let l = f .before .before in
+    falls (length (now (l .before .before .before .before .before .before .args .piece))) (l .loop .i) (f .before .loop-test .taken)
 
 loop-again-2 : tie.Need-loop-again-2 Inv-loop μ-loop
 loop-again-2 c =
-    let a = c .before .before .before .before .before .before .before .before .before .before .before .before .before .before .before .before .args in
-    let l = c .before .before .before .before .before .before .before .before .before in
+    let f = c .before .before .before .before .before .before .before in
+    let l = f .before .before in
+    let a = l .before .before .before .before .before .before .args in
     let m = state l in
     let r = l .loop in
-    let x = sample (c .before .before .before .before .before .before .before) in
-    let f = c .before .before .before .before .encode-full in
+    let k = c .before .before .before .before .encode-full in
     let frame : ℤ → EncodedFrame = λ z. encodeFrame (r .history) (set (r .frame) (r .n % 14) z) (a .e .coefficients) in
-    let e = same (c .before .before .before .before .before .before .before) in
-    turn (both (a .e) (now (a .image))) (now (a .piece)) (r .i) m (r .image) _ _ (c .before .before .before .before .before .before .before .before .loop-test .taken) (r .inv .1) (r .inv .2) (r .inv .3)
-    (push-full m x (r .image) _ _ _ (full (c .before .before .before .before .before .before))
-    (f .ensures .0 .0 ∙ ap (λ (z : ℤ). historyAfter (r .history) (frame z .samples) 14) e)
-    (f .ensures .0 .1 ∙ ap (λ (z : ℤ). frame z .passes) e)
-    (f .ensures .1 ∙ ap (λ (z : ℤ). storeOf (a .e .total) (a .e .block) (r .n / 14) (frame z .bytes) (r .history) (r .image)) e))
+    let e = same f in
+    turn (left (a .e) (now (a .image))) (now (a .piece)) (r .i) m (r .image) _ _ (f .before .loop-test .taken) (r .inv .1) (r .inv .2) (r .inv .3)
+    (push-full m (sample f) (r .image) _ _ _ (full (c .before .before .before .before .before .before))
+    (k .ensures .0 ∙ ap (λ (z : ℤ). historyAfter (r .history) (frame z .samples) 14) e)
+    (k .ensures .1 .0 ∙ ap (λ (z : ℤ). frame z .passes) e)
+    (k .ensures .1 .1 ∙ ap₂ (λ (s : Shape) (z : ℤ). store s (r .n / 14) (frame z .bytes) (r .history) (r .image)) (l .before .before .before .before .encoder-shape .ensures) e))
 
 same-length : tie.Need-same-length Inv-loop μ-loop
 same-length c = c .before .loop .inv .3
 
 returns : tie.Need-returns Inv-loop μ-loop
 returns c =
-    let a = c .before .before .before .before .before .before .before .before .args in
+    let a = c .before .before .before .before .before .before .before .args in
     let e : c .before .loop .i ≡ length (now (a .piece)) = omega arith in
-    c .before .loop .inv .1 ∙ ap (λ (l : List ℤ). pieceOf (both (a .e) (now (a .image))) l) (ap (λ (k : ℕ). take k (now (a .piece))) e ∙ take-length (now (a .piece)))
+    c .before .loop .inv .1 ∙ ap (λ (l : List ℤ). feedAll (left (a .e) (now (a .image))) l) (ap (λ (k : ℕ). take k (now (a .piece))) e ∙ take-length (now (a .piece)))
 
 pub feed-all-spec : {M : Type 1} → statement M
 feed-all-spec =
@@ -141,8 +148,7 @@ feed-all-spec =
     (tie.spec
     Inv-loop
     μ-loop
-    cast-total
-    cast-block
+    encoder-shape-requires
     loop-holds
     cast-at
     cast-q

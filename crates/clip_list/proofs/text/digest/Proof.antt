@@ -23,9 +23,6 @@ shared-slice-read-wide c = search needs
 wide-requires : tie.Need-wide-requires Inv-loop μ-loop
 wide-requires c κs = search needs
 
-cast-sum : tie.Need-cast-sum Inv-loop μ-loop
-cast-sum c = search needs
-
 add-sum : tie.Need-add-sum Inv-loop μ-loop
 add-sum c = search needs
 
@@ -54,7 +51,6 @@ digest-spec =
     mul-sum
     shared-slice-read-wide
     wide-requires
-    cast-sum
     add-sum
     add-sum-2
     add-i

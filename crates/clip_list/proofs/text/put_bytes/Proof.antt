@@ -20,9 +20,6 @@ shared-slice-read-wide c = search needs
 wide-requires : tie.Need-wide-requires Inv-loop μ-loop
 wide-requires c κs = search needs
 
-cast-put : tie.Need-cast-put Inv-loop μ-loop
-cast-put c = search needs
-
 put-requires : tie.Need-put-requires Inv-loop μ-loop
 put-requires c κs = search needs
 
@@ -47,7 +44,6 @@ put-bytes-spec =
     loop-holds
     shared-slice-read-wide
     wide-requires
-    cast-put
     put-requires
     add-i
     loop-less

@@ -14,14 +14,14 @@ abbrev μ-loop : tie.MeasureT-loop
 loop-holds : tie.Need-loop-holds Inv-loop μ-loop
 loop-holds c = search needs
 
-mul-bits : tie.Need-mul-bits Inv-loop μ-loop
-mul-bits c = search needs
+mul-bits16 : tie.Need-mul-bits16 Inv-loop μ-loop
+mul-bits16 c = search needs
 
-shared-slice-copy-out-bits : tie.Need-shared-slice-copy-out-bits Inv-loop μ-loop
-shared-slice-copy-out-bits c = search needs
+shared-slice-copy-out-bits16 : tie.Need-shared-slice-copy-out-bits16 Inv-loop μ-loop
+shared-slice-copy-out-bits16 c = search needs
 
-bits-requires : tie.Need-bits-requires Inv-loop μ-loop
-bits-requires c κs = search needs
+bits16-requires : tie.Need-bits16-requires Inv-loop μ-loop
+bits16-requires c κs = search needs
 
 cast-put : tie.Need-cast-put Inv-loop μ-loop
 cast-put c = search needs
@@ -51,9 +51,9 @@ put-samples-spec =
     Inv-loop
     μ-loop
     loop-holds
-    mul-bits
-    shared-slice-copy-out-bits
-    bits-requires
+    mul-bits16
+    shared-slice-copy-out-bits16
+    bits16-requires
     cast-put
     put-requires
     add-i

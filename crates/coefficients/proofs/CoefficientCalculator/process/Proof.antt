@@ -1,9 +1,9 @@
 -- `process` meets its contract. Assumes nothing.
-use mathlib.Core.Path.{_≡_, refl, sym, ap, _∙_}
+use mathlib.Core.Path.{sym, ap, _∙_}
 use borrow.Author.Needs.{needs}
-use Rattle.coefficients.specs.Measure.{ProcessOut, Measuring, processOf, processOut}
-use Rattle.coefficients.specs.declared.Answer.the-variants.{Accepted}
-use Rattle.coefficients.proofs.Measures.{process-room}
+use Rattle.coefficients.specs.Measure.{outcome, process, processEffect}
+use Rattle.whole.specs.Outcome.{accepted}
+use Rattle.coefficients.proofs.AcceptedCalls.{process-measurable}
 use Rattle.coefficients.proofs.CoefficientCalculator.process.Statement.{statement}
 use Rattle.coefficients.proofs.CoefficientCalculator.process.Tie as tie
 
@@ -11,7 +11,7 @@ enum-told : tie.Need-enum-told
 enum-told c = search needs
 
 push-all-requires : tie.Need-push-all-requires
-push-all-requires c κs = process-room _ _ _ _ (sym (c .before .before .before .process-answer .ensures) ∙ c .before .enum-told .given .1)
+push-all-requires c κs = process-measurable _ _ _ _ (sym (c .before .before .before .process-answer .ensures) ∙ ap outcome (c .before .enum-told .given .1))
 
 enum-known-answer : tie.Need-enum-known-answer
 enum-known-answer c = search needs
@@ -20,13 +20,13 @@ same-length : tie.Need-same-length
 same-length c = search needs
 
 returns : tie.Need-returns
-unfolding processOf
+unfolding process
 returns c =
     let t = c .before .before .before .before in
-    rw (← t .before .before .process-answer .ensures, t .enum-told .given .1) (ap (processOut Accepted) (c .before .before .push-all .ensures))
+    rw (← t .before .before .process-answer .ensures, t .enum-told .given .1) (ap (processEffect (accepted tt)) (c .before .before .push-all .ensures))
 
 returns-2 : tie.Need-returns-2
-unfolding processOf
+unfolding process
 returns-2 c = rw (← c .before .before .before .process-answer .ensures, c .before .answer .given .1)
 
 pub process-spec : {M : Type 1} → statement M

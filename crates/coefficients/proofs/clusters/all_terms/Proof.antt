@@ -1,20 +1,20 @@
 -- `all_terms` meets its contract. Assumes nothing.
 use mathlib.Core.Path.{_≡_, refl}
-use Prim.Native.Nat.{ℕ, _≤_, _-_}
+use Prim.Native.Nat.{_≤_, _-_}
 use native.Mathlib.Omega.{arith}
-use Rattle.coefficients.specs.Hoisted.{noTerms, termsOf}
-use Rattle.coefficients.proofs.Hoists.{terms-more}
+use Rattle.coefficients.specs.inner.SharedTerms.{noTerms, allTerms}
+use Rattle.coefficients.proofs.SharedTerms.{terms-more}
 use Rattle.coefficients.proofs.clusters.all_terms.Statement.{statement}
 use Rattle.coefficients.proofs.clusters.all_terms.Tie as tie
 
 abbrev Inv-loop : tie.InvT-loop
-Inv-loop m vs ts₀ i₀ ts i = (i ≤ m) × (ts ≡ termsOf vs i)
+Inv-loop m vs ts₀ i₀ ts i = (i ≤ m) × (ts ≡ allTerms vs i)
 
 abbrev μ-loop : tie.MeasureT-loop
 μ-loop m vs ts₀ i₀ ts i = m - i
 
 loop-holds : tie.Need-loop-holds Inv-loop μ-loop
-unfolding termsOf noTerms
+unfolding allTerms noTerms
 loop-holds c = (omega arith, refl)
 
 mul-vector-terms : tie.Need-mul-vector-terms Inv-loop μ-loop

@@ -1,5 +1,5 @@
 -- `filter_round` meets its contract. Assumes nothing.
-use Rattle.coefficients.specs.Clusters.{round}
+use Rattle.coefficients.specs.Clusters.{filterRound}
 use borrow.Author.Needs.{needs}
 use Rattle.coefficients.proofs.clusters.filter_round.Statement.{statement}
 use Rattle.coefficients.proofs.clusters.filter_round.Tie as tie
@@ -11,7 +11,7 @@ renewed-requires : tie.Need-renewed-requires
 renewed-requires c κs = search needs
 
 returns : tie.Need-returns
-unfolding round
+unfolding filterRound
 returns c = rw (← c .before .gather .ensures) (c .renewed .ensures)
 
 pub filter-round-spec : {M : Type 1} → statement M

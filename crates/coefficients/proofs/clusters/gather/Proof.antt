@@ -1,22 +1,22 @@
 -- `gather` meets its contract. Assumes nothing.
-use mathlib.Core.Path.{_≡_, refl, sym, ap, _∙_}
+use mathlib.Core.Path.{_≡_, sym, ap, _∙_}
 use mathlib.Core.List.{List}
 use Prim.Native.Nat.{ℕ, _≤_, _-_}
 use native.Mathlib.Omega.{arith}
 use borrow.Author.Needs.{needs}
 use lib.ListN.{getD}
 use Rattle.coefficients.specs.Store.{foldl, records}
-use Rattle.coefficients.specs.Clusters.{tally, empty, none, joined}
-use Rattle.coefficients.specs.Hoisted.{termsOf}
+use Rattle.coefficients.specs.Clusters.{gather, empty, none, addToNearest}
+use Rattle.coefficients.specs.inner.SharedTerms.{allTerms}
 use Rattle.coefficients.specs.declared.merging.VectorTerms.{VectorTerms}
-use Rattle.coefficients.proofs.Hoists.{joinedOf, joined-is, joined-terms}
-use Rattle.coefficients.proofs.Folds.{foldl-none, foldl-records, foldl-same}
-use Rattle.coefficients.proofs.Picks.{counts-le, zeros-le}
+use Rattle.coefficients.proofs.SharedTerms.{addToNearestByTerms, added-is, added-terms}
+use Rattle.coefficients.proofs.StoredRecords.{foldl-none, foldl-records, foldl-same}
+use Rattle.coefficients.proofs.ChosenVector.{counts-le, zeros-le}
 use Rattle.coefficients.proofs.clusters.gather.Statement.{statement}
 use Rattle.coefficients.proofs.clusters.gather.Tie as tie
 
 abbrev Inv-loop : tie.InvT-loop
-Inv-loop m s n t₀ ts small k₀ t k = (k ≤ n) × (t ≡ foldl (joinedOf ts m) empty (records s k)) × ((i : ℕ) → getD (t .counts) i 0 ≤ k)
+Inv-loop m s n t₀ ts small k₀ t k = (k ≤ n) × (t ≡ foldl (addToNearestByTerms ts m) empty (records s k)) × ((i : ℕ) → getD (t .counts) i 0 ≤ k)
 
 abbrev μ-loop : tie.MeasureT-loop
 μ-loop m s n t₀ ts small k₀ t k = n - k
@@ -29,7 +29,7 @@ all-small-requires c κs = search needs
 
 loop-holds : tie.Need-loop-holds Inv-loop μ-loop
 unfolding empty none
-loop-holds c = (omega arith, sym (foldl-none (joinedOf _ _) empty _), (λ i. zeros-le 8 i 0))
+loop-holds c = (omega arith, sym (foldl-none (addToNearestByTerms _ _) empty _), (λ i. zeros-le 8 i 0))
 
 read-record-requires : tie.Need-read-record-requires Inv-loop μ-loop
 read-record-requires c κs = omega arith
@@ -76,20 +76,23 @@ loop-again c =
     let q = c .before .before .before .before .record-terms in
     let r = c .before .before .before .before .before .read-record in
     let h = c .before .before .before .chosen in
-    let e = joined-is (l .before .before .all-terms .result) (l .before .before .before .before .args .m) (l .loop .t) (r .result) (q .result) (h .result) (c .plus3 .result) (q .ensures) (h .ensures .value) (c .plus3 .ensures) in
+    let ts = l .before .before .all-terms .result in
+    let m = l .before .before .before .before .args .m in
+    let e = added-is ts m (l .loop .t) (r .result) (q .result) (h .result) (c .plus3 .result) (q .ensures) (h .ensures .value) (c .plus3 .ensures) in
     (omega arith, rw (foldl-records, ← l .loop .inv .1, ← r .ensures) e, counts-le (l .loop .t .counts) (h .result) (l .loop .k) (l .loop .inv .2))
 
 returns : tie.Need-returns Inv-loop μ-loop
-unfolding tally
+unfolding gather
 returns c =
     let l = c .before in
     let a = l .before .before .before .before in
     let rs = records (a .args .s .now) (a .args .n) in
     let e : l .loop .k ≡ a .args .n = omega arith in
-    let t : l .loop .t ≡ foldl (joinedOf (l .before .before .all-terms .result) (a .args .m)) empty rs = rw e at (l .loop .inv .1) in
+    let t : l .loop .t ≡ foldl (addToNearestByTerms (l .before .before .all-terms .result) (a .args .m)) empty rs = rw e at (l .loop .inv .1) in
     t
-    ∙ ap (λ (ts : List VectorTerms). foldl (joinedOf ts (a .args .m)) empty rs) (l .before .before .all-terms .ensures)
-    ∙ foldl-same (joinedOf (termsOf (a .args .vs) (a .args .m)) (a .args .m)) (joined (a .args .vs) (a .args .m)) empty rs (λ u r. joined-terms (a .args .vs) (a .args .m) u r (a .pre .0))
+    ∙ ap (λ (ts : List VectorTerms). foldl (addToNearestByTerms ts (a .args .m)) empty rs) (l .before .before .all-terms .ensures)
+    ∙ foldl-same (addToNearestByTerms (allTerms (a .args .vs) (a .args .m)) (a .args .m)) (addToNearest (a .args .vs) (a .args .m)) empty rs
+    (λ u r. added-terms (a .args .vs) (a .args .m) u r (a .pre .0))
 
 pub gather-spec : {M : Type 1} → statement M
 gather-spec =

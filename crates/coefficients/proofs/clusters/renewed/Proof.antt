@@ -1,10 +1,9 @@
 -- `renewed` meets its contract. Assumes nothing.
-use mathlib.Core.Path.{_≡_, refl, sym}
-use Prim.Native.Nat.{ℕ, _≤_, _-_}
+use mathlib.Core.Path.{_≡_, refl}
+use Prim.Native.Nat.{_≤_, _-_}
 use native.Mathlib.Omega.{arith}
-use native.Mathlib.Numerals.{add-one}
 use Rattle.coefficients.specs.Clusters.{renewed}
-use Rattle.coefficients.proofs.Picks.{renewed-more}
+use Rattle.coefficients.proofs.RenewedVectors.{renewed-more}
 use Rattle.coefficients.proofs.clusters.renewed.Statement.{statement}
 use Rattle.coefficients.proofs.clusters.renewed.Tie as tie
 
@@ -36,8 +35,8 @@ mean-requires c κs = tt
 merge-finish-record-requires : tie.Need-merge-finish-record-requires Inv-loop μ-loop
 merge-finish-record-requires c κs = tt
 
-led-requires : tie.Need-led-requires Inv-loop μ-loop
-led-requires c κs = tt
+with-one-requires : tie.Need-with-one-requires Inv-loop μ-loop
+with-one-requires c κs = tt
 
 mul-ws : tie.Need-mul-ws Inv-loop μ-loop
 mul-ws c = omega arith
@@ -54,7 +53,7 @@ loop-less c = omega arith
 loop-again : tie.Need-loop-again Inv-loop μ-loop
 loop-again c =
     let l = c .before .before .before .before .before .before in
-    (omega arith, simp (renewed-more, ← l .loop .inv .1, ← c .before .before .mean .ensures, ← c .before .merge-finish-record .ensures, ← c .led .ensures))
+    (omega arith, simp (renewed-more, ← l .loop .inv .1, ← c .before .before .mean .ensures, ← c .before .merge-finish-record .ensures, ← c .with-one .ensures))
 
 returns : tie.Need-returns Inv-loop μ-loop
 returns c =
@@ -75,7 +74,7 @@ renewed-spec =
     element-copy-out-c
     mean-requires
     merge-finish-record-requires
-    led-requires
+    with-one-requires
     mul-ws
     array-set-from-ws
     add-i

@@ -7,8 +7,8 @@ use Rattle.coefficients.proofs.clusters.vectors.Tie as tie
 first-vector-requires : tie.Need-first-vector-requires
 first-vector-requires c κs = search needs
 
-led-requires : tie.Need-led-requires
-led-requires c κs = search needs
+with-one-requires : tie.Need-with-one-requires
+with-one-requires c κs = search needs
 
 array-set-from-vs : tie.Need-array-set-from-vs
 array-set-from-vs c = search needs
@@ -27,7 +27,7 @@ unfolding vectors none
 returns c =
     simp (
       ← c .before .before .before .before .first-vector .ensures,
-      ← c .before .before .before .led .ensures,
+      ← c .before .before .before .with-one .ensures,
       ← c .before .before .grown .ensures,
       ← c .before .grown2 .ensures,
       ← c .grown3 .ensures,
@@ -38,7 +38,7 @@ vectors-spec =
     tie.close
     (tie.spec
     first-vector-requires
-    led-requires
+    with-one-requires
     array-set-from-vs
     grown-requires
     grown-requires-2

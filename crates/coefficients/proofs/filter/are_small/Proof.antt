@@ -1,5 +1,5 @@
 -- `are_small` meets its contract. Assumes nothing.
-use Rattle.coefficients.proofs.Filters.{never, unless}
+use Rattle.coefficients.proofs.PlainContrasts.{never, unless}
 use Rattle.coefficients.proofs.filter.are_small.Statement.{statement}
 use Rattle.coefficients.proofs.filter.are_small.Tie as tie
 

@@ -1,5 +1,5 @@
 -- `closer` meets its contract. Assumes nothing.
-use Rattle.coefficients.specs.Filtered.{closer}
+use Rattle.coefficients.specs.inner.PlainContrasts.{closer}
 use Rattle.coefficients.proofs.filter.closer.Statement.{statement}
 use Rattle.coefficients.proofs.filter.closer.Tie as tie
 

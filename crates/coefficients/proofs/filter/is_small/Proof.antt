@@ -1,7 +1,7 @@
 -- `is_small` meets its contract. Assumes nothing.
 use mathlib.Core.Path.{_∙_, sym}
 use borrow.Author.Needs.{needs}
-use Rattle.coefficients.proofs.Filters.{never}
+use Rattle.coefficients.proofs.PlainContrasts.{never}
 use Rattle.coefficients.proofs.filter.is_small.Statement.{statement}
 use Rattle.coefficients.proofs.filter.is_small.Tie as tie
 

@@ -3,20 +3,20 @@ use mathlib.Core.Path.{_≡_, refl}
 use Prim.Native.Nat.{_≤_, _-_}
 use native.Mathlib.Omega.{arith}
 use lib.ListN.{getD}
-use Rattle.coefficients.specs.Filtered.{leadOf, plainContrast}
-use Rattle.coefficients.specs.Hoisted.{blankTerms}
-use Rattle.coefficients.proofs.Filters.{lead-more}
+use Rattle.coefficients.specs.inner.PlainContrasts.{leading, plainContrast}
+use Rattle.coefficients.specs.inner.SharedTerms.{blankTerms}
+use Rattle.coefficients.proofs.PlainContrasts.{lead-more}
 use Rattle.coefficients.proofs.filter.leading.Statement.{statement}
 use Rattle.coefficients.proofs.filter.leading.Tie as tie
 
 abbrev Inv-loop : tie.InvT-loop
-Inv-loop n s ts l₀ i₀ l i = (i ≤ n) × (l ≡ leadOf ts s i)
+Inv-loop n s ts l₀ i₀ l i = (i ≤ n) × (l ≡ leading ts s i)
 
 abbrev μ-loop : tie.MeasureT-loop
 μ-loop n s ts l₀ i₀ l i = n - i
 
 loop-holds : tie.Need-loop-holds Inv-loop μ-loop
-unfolding leadOf
+unfolding leading
 loop-holds c = (omega arith, refl)
 
 mul-plain-contrast : tie.Need-mul-plain-contrast Inv-loop μ-loop

@@ -1,5 +1,5 @@
 -- `lower` meets its contract. Assumes nothing.
-use Rattle.coefficients.specs.Filtered.{lower}
+use Rattle.coefficients.specs.inner.PlainContrasts.{lower}
 use Rattle.coefficients.proofs.filter.lower.Statement.{statement}
 use Rattle.coefficients.proofs.filter.lower.Tie as tie
 

@@ -1,6 +1,6 @@
 -- `plain_contrast` meets its contract. Assumes nothing.
 use mathlib.Core.Path.{refl}
-use Rattle.coefficients.specs.Filtered.{plainContrast}
+use Rattle.coefficients.specs.inner.PlainContrasts.{plainContrast}
 use Rattle.coefficients.proofs.filter.plain_contrast.Statement.{statement}
 use Rattle.coefficients.proofs.filter.plain_contrast.Tie as tie
 

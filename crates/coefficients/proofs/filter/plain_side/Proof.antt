@@ -1,6 +1,6 @@
 -- `plain_side` meets its contract. Assumes nothing.
 use mathlib.Core.Path.{refl}
-use Rattle.coefficients.specs.Filtered.{plainSide}
+use Rattle.coefficients.specs.inner.PlainContrasts.{plainSide}
 use Rattle.coefficients.proofs.filter.plain_side.Statement.{statement}
 use Rattle.coefficients.proofs.filter.plain_side.Tie as tie
 

@@ -1,12 +1,11 @@
 -- `as_i16` meets its contract. Assumes nothing.
 use mathlib.Core.Path.{_∙_}
-use native.Mathlib.Omega.{arith}
-use lib.Ieee.{ofBits, neg, toSigned}
+use lib.Ieee.{ofBits, neg}
 use lib.Ieee.Casts.{toSigned-in}
 use mir.Syntax.{w16, w64}
 use mir.Val.{SFits}
 use mir.Facts.{toZ-ofZ, sfits-widen}
-use Rattle.coefficients.proofs.Ends.{yes, no, range, agree, above, under, neither}
+use Rattle.coefficients.proofs.CastToSixteenBits.{yes, no, range, agree, above, under, neither}
 use Rattle.coefficients.proofs.finishing.as_i16.Statement.{statement}
 use Rattle.coefficients.proofs.finishing.as_i16.Tie as tie
 

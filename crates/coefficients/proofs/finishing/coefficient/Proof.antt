@@ -1,6 +1,6 @@
 -- `coefficient` meets its contract. Assumes nothing.
 use mir.Syntax.{w16}
-use Rattle.coefficients.proofs.Samples.{back}
+use Rattle.coefficients.proofs.SampleSizes.{back}
 use Rattle.coefficients.specs.Finish.{coefficient}
 use Rattle.coefficients.proofs.finishing.coefficient.Statement.{statement}
 use Rattle.coefficients.proofs.finishing.coefficient.Tie as tie

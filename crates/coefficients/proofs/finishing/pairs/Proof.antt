@@ -4,7 +4,7 @@ use Prim.Native.Nat.{_≤_, _-_}
 use native.Mathlib.Omega.{arith}
 use native.Mathlib.Numerals.{add-one}
 use mir.Syntax.{w16}
-use Rattle.coefficients.proofs.Samples.{back}
+use Rattle.coefficients.proofs.SampleSizes.{back}
 use Rattle.coefficients.specs.Finish.{pairs}
 use Rattle.coefficients.proofs.finishing.pairs.Statement.{statement}
 use Rattle.coefficients.proofs.finishing.pairs.Tie as tie
@@ -59,7 +59,9 @@ loop-again : tie.Need-loop-again Inv-loop μ-loop
 unfolding pairs
 loop-again c =
     let l = c .before .before .before .before in
-    (omega arith, simp (add-one, back w16 (c .before .coefficient .result) (c .before .coefficient .ok), back w16 (c .coefficient2 .result) (c .coefficient2 .ok), ← l .loop .inv .1, ← c .before .coefficient .ensures, ← c .coefficient2 .ensures))
+    let x = c .before .coefficient in
+    let y = c .coefficient2 in
+    (omega arith, simp (add-one, back w16 (x .result) (x .ok), back w16 (y .result) (y .ok), ← l .loop .inv .1, ← x .ensures, ← y .ensures))
 
 returns : tie.Need-returns Inv-loop μ-loop
 returns c =

@@ -1,5 +1,5 @@
 -- `analyse` meets its contract. Assumes nothing.
-use Rattle.coefficients.specs.Finish.{analyse}
+use Rattle.coefficients.specs.FrameRecord.{analyse}
 use Rattle.coefficients.proofs.framing.analyse.Statement.{statement}
 use Rattle.coefficients.proofs.framing.analyse.Tie as tie
 

@@ -1,5 +1,5 @@
 -- `merged` meets its contract. Assumes nothing.
-use Rattle.coefficients.specs.Finish.{merged}
+use Rattle.coefficients.specs.FrameRecord.{merged}
 use Rattle.coefficients.proofs.framing.merged.Statement.{statement}
 use Rattle.coefficients.proofs.framing.merged.Tie as tie
 

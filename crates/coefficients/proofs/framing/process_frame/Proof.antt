@@ -1,6 +1,6 @@
 -- `process_frame` meets its contract. Assumes nothing.
 use mathlib.Core.Path.{refl}
-use Rattle.coefficients.specs.Finish.{stored, counted}
+use Rattle.coefficients.specs.FrameRecord.{stored, counted}
 use borrow.Author.Needs.{needs}
 use Rattle.coefficients.proofs.framing.process_frame.Statement.{statement}
 use Rattle.coefficients.proofs.framing.process_frame.Tie as tie
@@ -27,11 +27,11 @@ returns : tie.Need-returns
 unfolding stored counted
 returns c =
     let a = c .before .before .before .before .before .before .before in
-    rw (← a .analyse .ensures, c .before .before .before .before .before .x .given .1) (refl, c .before .before .write-record .ensures)
+    rw (← a .analyse .ensures, c .before .before .before .before .before .x .given .1) (record { count = refl; store = c .before .before .write-record .ensures })
 
 returns-2 : tie.Need-returns-2
 unfolding stored counted
-returns-2 c = rw (← c .before .before .analyse .ensures, c .enum-told .given .1) (refl, refl)
+returns-2 c = rw (← c .before .before .analyse .ensures, c .enum-told .given .1) (record { count = refl; store = refl })
 
 pub process-frame-spec : {M : Type 1} → statement M
 process-frame-spec =

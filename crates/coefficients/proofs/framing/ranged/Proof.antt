@@ -1,5 +1,5 @@
 -- `ranged` meets its contract. Assumes nothing.
-use Rattle.coefficients.specs.Finish.{ranged}
+use Rattle.coefficients.specs.FrameRecord.{ranged}
 use Rattle.coefficients.proofs.framing.ranged.Statement.{statement}
 use Rattle.coefficients.proofs.framing.ranged.Tie as tie
 

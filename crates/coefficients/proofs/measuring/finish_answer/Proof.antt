@@ -1,11 +1,9 @@
 -- `finish_answer` meets its contract. Assumes nothing.
 use mathlib.Core.Path.{_≡_, sym, _∙_}
 use mathlib.Core.Bool.{true}
-use Prim.Native.Nat.{_≤_}
-use native.Mathlib.Omega.{arith}
 use borrow.Author.Tests.{lt-ltb, le-ltb, not-false}
-use Rattle.coefficients.specs.Measure.{finishAnswer, validOf, neededOf}
-use Rattle.coefficients.proofs.Measures.{valid-samples}
+use Rattle.coefficients.specs.Measure.{finishAnswer, valid, needed}
+use Rattle.coefficients.proofs.AcceptedCalls.{valid-samples}
 use Rattle.coefficients.proofs.measuring.finish_answer.Statement.{statement}
 use Rattle.coefficients.proofs.measuring.finish_answer.Tie as tie
 
@@ -13,7 +11,7 @@ returns : tie.Need-returns
 unfolding finishAnswer
 returns c = simp (← c .before .valid .ensures, c .if1 .taken)
 
-sound : (c : tie.Else1) → validOf (c .before .before .args .n) (c .before .before .args .r) ≡ true
+sound : (c : tie.Else1) → valid (c .before .before .args .n) (c .before .before .args .r) ≡ true
 sound c = sym (c .before .valid .ensures) ∙ not-false _ (c .if1 .left)
 
 needed-requires : tie.Need-needed-requires

@@ -1,11 +1,10 @@
 -- `padded_record` meets its contract. Assumes nothing.
-use mathlib.Core.Path.{_≡_, refl, sym, ap, _∙_}
 use borrow.Author.Needs.{needs}
 use borrow.Author.Tests.{eq-eqb, ne-eqb}
 use native.Mathlib.Omega.{arith}
 use lib.ListN.{length}
-use Rattle.coefficients.specs.Measure.{closedCount, closedStore}
-use Rattle.coefficients.proofs.Measures.{room-padded}
+use Rattle.coefficients.specs.Measure.{paddedCount, paddedStore}
+use Rattle.coefficients.proofs.AcceptedCalls.{measurable-padded}
 use Rattle.coefficients.proofs.measuring.padded_record.Statement.{statement}
 use Rattle.coefficients.proofs.measuring.padded_record.Tie as tie
 
@@ -16,8 +15,8 @@ cast-k : tie.Need-cast-k
 cast-k c = search needs
 
 returns : tie.Need-returns
-unfolding closedCount closedStore
-returns c = (simp (eq-eqb _ _ (c .if1 .taken)), simp (eq-eqb _ _ (c .if1 .taken)))
+unfolding paddedCount paddedStore
+returns c = record { count = simp (eq-eqb _ _ (c .if1 .taken)); store = simp (eq-eqb _ _ (c .if1 .taken)) }
 
 padded-requires : tie.Need-padded-requires
 padded-requires c κs = omega arith
@@ -26,18 +25,21 @@ process-frame-requires : tie.Need-process-frame-requires
 process-frame-requires c κs =
     let b = c .before .before .before .before in
     let a = b .before .before .before .before in
-    room-padded (a .args .c .samples) (a .args .c .records) (length (a .args .s .now)) (a .pre) (b .if1 .left)
+    measurable-padded (a .args .c .samples) (a .args .c .records) (length (a .args .s .now)) (a .pre) (b .if1 .left)
 
 same-length : tie.Need-same-length
 same-length c = search needs
 
 returns-2 : tie.Need-returns-2
-unfolding closedCount closedStore
+unfolding paddedCount paddedStore
 returns-2 c =
     let f = c .before .before .process-frame in
     let b = c .before .before .before .before .before .before .before in
     let g = c .before .before .before .before .before .padded .ensures in
-    (simp (ne-eqb _ _ (b .if1 .left), ← g, ← f .ensures .0), simp (ne-eqb _ _ (b .if1 .left), ← g, ← f .ensures .1))
+    record {
+      count = simp (ne-eqb _ _ (b .if1 .left), ← g, ← f .ensures .count);
+      store = simp (ne-eqb _ _ (b .if1 .left), ← g, ← f .ensures .store);
+    }
 
 pub padded-record-spec : {M : Type 1} → statement M
 padded-record-spec =

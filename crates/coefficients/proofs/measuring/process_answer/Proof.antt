@@ -4,9 +4,9 @@ use mathlib.Core.Bool.{true}
 use Prim.Native.Nat.{_+_, _≤_}
 use native.Mathlib.Omega.{arith}
 use borrow.Author.Tests.{lt-ltb, le-ltb, not-false}
-use Rattle.coefficients.specs.Measure.{processAnswer, validOf}
+use Rattle.coefficients.specs.Measure.{processAnswer, valid}
 use Rattle.whole.specs.Frames.{most}
-use Rattle.coefficients.proofs.Measures.{valid-samples}
+use Rattle.coefficients.proofs.AcceptedCalls.{valid-samples}
 use Rattle.coefficients.proofs.measuring.process_answer.Statement.{statement}
 use Rattle.coefficients.proofs.measuring.process_answer.Tie as tie
 
@@ -14,7 +14,7 @@ returns : tie.Need-returns
 unfolding processAnswer
 returns c = simp (← c .before .valid .ensures, c .if1 .taken)
 
-sound : (c : tie.Else1) → validOf (c .before .before .args .n) (c .before .before .args .r) ≡ true
+sound : (c : tie.Else1) → valid (c .before .before .args .n) (c .before .before .args .r) ≡ true
 sound c = sym (c .before .valid .ensures) ∙ not-false _ (c .if1 .left)
 
 sub-if2 : tie.Need-sub-if2

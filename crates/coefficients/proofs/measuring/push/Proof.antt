@@ -1,8 +1,7 @@
 -- `push` meets its contract. Assumes nothing.
-use mathlib.Core.Path.{_≡_, _∙_}
 use borrow.Author.Needs.{needs}
 use mir.Facts.{toZ-ofZ}
-use Rattle.coefficients.proofs.Measures.{pushed-full, pushed-part}
+use Rattle.coefficients.proofs.OneSample.{push-full, push-part}
 use Rattle.coefficients.proofs.measuring.push.Statement.{statement}
 use Rattle.coefficients.proofs.measuring.push.Tie as tie
 
@@ -29,17 +28,16 @@ returns c =
     let f = c .before .before .before .before .process-frame in
     let b = c .before .before .before .before .before .before .before in
     let a = b .before .before in
-    pushed-full (a .args .n) (a .args .r) (f .result) (a .args .h .now) (c .shift .last .0) (a .args .s .now) (f .last .1 .0) (a .args .x) _
+    push-full (a .args .n) (a .args .r) (f .result) (a .args .h .now) (c .shift .last .0) (a .args .s .now) (f .last .1 .0) (a .args .x) _
     (toZ-ofZ (a .fits .x))
     (b .if1 .taken)
-    (f .ensures .0)
-    (f .ensures .1)
+    (f .ensures)
     (c .shift .ensures)
 
 returns-2 : tie.Need-returns-2
 returns-2 c =
     let a = c .before .before in
-    pushed-part (a .args .n) (a .args .r) (a .args .h .now) (a .args .s .now) (a .args .x) _ (toZ-ofZ (a .fits .x)) (c .if1 .left)
+    push-part (a .args .n) (a .args .r) (a .args .h .now) (a .args .s .now) (a .args .x) _ (toZ-ofZ (a .fits .x)) (c .if1 .left)
 
 pub push-spec : {M : Type 1} → statement M
 push-spec =

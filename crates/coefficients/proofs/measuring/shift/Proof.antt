@@ -1,14 +1,13 @@
 -- `shift` meets its contract: after i turns the first i samples are copied. Assumes nothing.
-use mathlib.Core.Path.{_≡_, refl, _∙_}
+use mathlib.Core.Path.{_≡_, refl}
 use mathlib.Core.List.{List}
 use Prim.Native.Nat.{ℕ, _+_, _-_, _≤_}
-use native.Mathlib.Nat.{le-antisymm}
 use native.Mathlib.Numerals.{add-one}
 use native.Mathlib.Omega.{arith}
 use lib.IntN.{ℤ, pos}
 use lib.ListN.{getD, set}
 use mir.Facts.{toZ-ofZ}
-use Rattle.coefficients.specs.Measure.{copied, shifted}
+use Rattle.coefficients.specs.Measure.{copied, shift}
 use Rattle.coefficients.proofs.measuring.shift.Statement.{statement}
 use Rattle.coefficients.proofs.measuring.shift.Tie as tie
 
@@ -53,7 +52,7 @@ loop-again c =
     (omega arith, step (l .before .args .h .now) (l .loop .h) (l .loop .i) _ (l .loop .inv .1) (toZ-ofZ (record { sfits = c .x .given })))
 
 returns : tie.Need-returns Inv-loop μ-loop
-unfolding shifted
+unfolding shift
 returns c = let i : c .before .loop .i ≡ 14 = omega arith in rw i at (c .before .loop .inv .1)
 
 pub shift-spec : {M : Type 1} → statement M

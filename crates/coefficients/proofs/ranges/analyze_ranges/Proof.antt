@@ -16,11 +16,12 @@ returns c =
 returns-2 : tie.Need-returns-2
 unfolding analyzeRanges
 returns-2 c =
+    let d = c .before .before .before .before in
     simp (
-      ← c .before .before .before .before .before .before .before .abs .ensures,
-      ← c .before .before .before .before .before .before .abs2 .ensures,
-      ← c .before .before .before .before .before .max .ensures,
-      c .before .before .before .before .if1 .left,
+      ← d .before .before .before .abs .ensures,
+      ← d .before .before .abs2 .ensures,
+      ← d .before .max .ensures,
+      d .if1 .left,
       ← c .before .before .before .abs3 .ensures,
       ← c .before .before .abs4 .ensures,
       ← c .before .max2 .ensures,
@@ -30,11 +31,12 @@ returns-2 c =
 returns-3 : tie.Need-returns-3
 unfolding analyzeRanges
 returns-3 c =
+    let d = c .before .before .before .before .before in
     simp (
-      ← c .before .before .before .before .before .before .before .before .abs .ensures,
-      ← c .before .before .before .before .before .before .before .abs2 .ensures,
-      ← c .before .before .before .before .before .before .max .ensures,
-      c .before .before .before .before .before .if1 .left,
+      ← d .before .before .before .abs .ensures,
+      ← d .before .before .abs2 .ensures,
+      ← d .before .max .ensures,
+      d .if1 .left,
       ← c .before .before .before .before .abs3 .ensures,
       ← c .before .before .before .abs4 .ensures,
       ← c .before .before .max2 .ensures,

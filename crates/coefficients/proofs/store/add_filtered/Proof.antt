@@ -1,6 +1,6 @@
 -- `add_filtered` meets its contract. Assumes nothing.
 use Rattle.coefficients.specs.Store.{addFiltered}
-use Rattle.coefficients.proofs.Hoists.{filter-terms}
+use Rattle.coefficients.proofs.SharedTerms.{filter-terms}
 use Rattle.coefficients.proofs.store.add_filtered.Statement.{statement}
 use Rattle.coefficients.proofs.store.add_filtered.Tie as tie
 

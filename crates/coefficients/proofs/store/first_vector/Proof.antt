@@ -3,8 +3,8 @@ use native.Mathlib.Omega.{arith}
 use borrow.Author.Needs.{needs}
 use lib.IntN.{pos}
 use Rattle.coefficients.specs.Store.{firstVector}
-use Rattle.coefficients.proofs.Samples.{in-float}
-use Rattle.coefficients.proofs.Folds.{records-length}
+use Rattle.coefficients.proofs.SampleSizes.{in-float}
+use Rattle.coefficients.proofs.StoredRecords.{records-length}
 use Rattle.coefficients.proofs.store.first_vector.Statement.{statement}
 use Rattle.coefficients.proofs.store.first_vector.Tie as tie
 

@@ -1,6 +1,6 @@
 -- `read_record` meets its contract. Assumes nothing.
 use mathlib.Core.Path.{refl}
-use Rattle.coefficients.specs.Store.{recordAt}
+use Rattle.coefficients.specs.Store.{readRecord}
 use borrow.Author.Needs.{needs}
 use Rattle.coefficients.proofs.store.read_record.Statement.{statement}
 use Rattle.coefficients.proofs.store.read_record.Tie as tie
@@ -24,7 +24,7 @@ shared-slice-read-t10 : tie.Need-shared-slice-read-t10
 shared-slice-read-t10 c = search needs
 
 returns : tie.Need-returns
-unfolding recordAt
+unfolding readRecord
 returns c = refl
 
 pub read-record-spec : {M : Type 1} → statement M

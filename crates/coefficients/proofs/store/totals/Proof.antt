@@ -1,10 +1,10 @@
 -- `totals` meets its contract. Assumes nothing.
-use mathlib.Core.Path.{_≡_, ap, sym, _∙_}
+use mathlib.Core.Path.{_≡_, sym}
 use Prim.Native.Nat.{_≤_, _-_}
 use native.Mathlib.Omega.{arith}
 use Rattle.coefficients.specs.Store as Store
 use Rattle.coefficients.specs.Store.{records, addFiltered, start}
-use Rattle.coefficients.proofs.Folds.{foldl-none, foldl-records}
+use Rattle.coefficients.proofs.StoredRecords.{foldl-none, foldl-records}
 use Rattle.coefficients.proofs.store.totals.Statement.{statement}
 use Rattle.coefficients.proofs.store.totals.Tie as tie
 

@@ -1,6 +1,6 @@
 -- `write_record` meets its contract. Assumes nothing.
 use mathlib.Core.Path.{refl}
-use Rattle.coefficients.specs.Store.{putRecord}
+use Rattle.coefficients.specs.Store.{writeRecord}
 use borrow.Author.Needs.{needs}
 use Rattle.coefficients.proofs.store.write_record.Statement.{statement}
 use Rattle.coefficients.proofs.store.write_record.Tie as tie
@@ -27,7 +27,7 @@ same-length : tie.Need-same-length
 same-length c = search needs
 
 returns : tie.Need-returns
-unfolding putRecord
+unfolding writeRecord
 returns c = refl
 
 pub write-record-spec : {M : Type 1} → statement M

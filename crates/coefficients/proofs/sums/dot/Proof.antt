@@ -2,14 +2,14 @@
 use mathlib.Core.Path.{_≡_, refl, ap, _∙_}
 use mathlib.Core.List.{List}
 use native.Mathlib.Numerals.{add-one}
-use Rattle.coefficients.proofs.Samples.{sfits-abs}
+use Rattle.whole.proofs.Values.{sfits-abs}
 use Prim.Native.Nat.{ℕ, _≤_, _-_, _*_, _+_}
 use native.Mathlib.Omega.{arith}
-use borrow.Author.Needs.{needs, sfits-of}
+use borrow.Author.Needs.{sfits-of}
 use lib.IntN.{ℤ, natAbs, pos, _*ℤ_, _+ℤ_}
 use lib.ListN.{getD}
 use mir.Syntax.{w16, w64}
-use mir.Val.{toZ, ofZ, SFits}
+use mir.Val.{toZ, SFits}
 use mir.Facts.{toZ-ofZ}
 use Rattle.coefficients.specs.Sums.{dot}
 use Rattle.coefficients.proofs.sums.dot.Statement.{statement}
@@ -56,7 +56,7 @@ element-copy-out-product-2 c = omega arith
 plus-requires : tie.Need-plus-requires Inv-loop μ-loop
 plus-requires c κs =
     let l = c .before .before .before .before in
-    rw (toZ-ofZ (sfits-abs (c .product .result) (omega (arith, c .product .ensures .small))))
+    rw (toZ-ofZ {w = w64} {z = c .product .result} (sfits-abs (c .product .ensures .small) tt))
     (omega (arith, l .loop .inv .0, l .loop .inv .2), omega (arith, c .product .ensures .small))
 
 add-z : tie.Need-add-z Inv-loop μ-loop
@@ -75,11 +75,11 @@ loop-again c =
     let fx : SFits w16 x = sfits-of (c .before .before .before .product-arg .given) in
     let fy : SFits w16 y = sfits-of (c .before .before .product-arg2 .given) in
     let v : c .before .product .result ≡ x *ℤ y = rw (toZ-ofZ fx, toZ-ofZ fy) at (c .before .product .ensures .value) in
-    let pb = toZ-ofZ (sfits-abs (c .before .product .result) (omega (arith, c .before .product .ensures .small))) in
-    let p : c .plus .result ≡ toZ w64 (l .loop .acc) +ℤ c .before .product .result = rw pb at (c .plus .ensures .0) in
-    let small : natAbs (c .plus .result) ≤ natAbs (toZ w64 (l .loop .acc)) + natAbs (c .before .product .result) = rw pb at (c .plus .ensures .1) in
+    let pb = toZ-ofZ {w = w64} {z = c .before .product .result} (sfits-abs (c .before .product .ensures .small) tt) in
+    let p : c .plus .result ≡ toZ w64 (l .loop .acc) +ℤ c .before .product .result = rw pb at (c .plus .ensures .value) in
+    let small : natAbs (c .plus .result) ≤ natAbs (toZ w64 (l .loop .acc)) + natAbs (c .before .product .result) = rw pb at (c .plus .ensures .small) in
     let bound : natAbs (c .plus .result) ≤ (z + 1) * 1073741824 = omega (arith, small, c .before .product .ensures .small) in
-    rw (toZ-ofZ (sfits-abs (c .plus .result) (omega (arith, bound, l .loop .inv .0))))
+    rw (toZ-ofZ {w = w64} {z = c .plus .result} (sfits-abs {n = 15032385536} (omega (arith, bound, l .loop .inv .0)) tt))
     (omega arith, dot-step h _ _ z _ _ _ (l .loop .inv .1) v p, bound)
 
 returns : tie.Need-returns Inv-loop μ-loop
@@ -91,4 +91,21 @@ returns c =
 pub dot-spec : {M : Type 1} → statement M
 dot-spec =
     tie.close
-    (tie.spec Inv-loop μ-loop loop-holds add-product sub-product mul-product element-copy-out-product add-product-2 sub-product-2 mul-product-2 element-copy-out-product-2 (λ _ _. tt) plus-requires add-z loop-less loop-again returns)
+    (tie.spec
+    Inv-loop
+    μ-loop
+    loop-holds
+    add-product
+    sub-product
+    mul-product
+    element-copy-out-product
+    add-product-2
+    sub-product-2
+    mul-product-2
+    element-copy-out-product-2
+    (λ _ _. tt)
+    plus-requires
+    add-z
+    loop-less
+    loop-again
+    returns)

@@ -1,7 +1,7 @@
 -- `float_of` meets its contract. Assumes nothing.
 use borrow.Author.Needs.{needs}
 use mir.Facts.{toZ-ofZ}
-use Rattle.coefficients.proofs.Samples.{in-float}
+use Rattle.coefficients.proofs.SampleSizes.{in-float}
 use Rattle.coefficients.proofs.sums.float_of.Statement.{statement}
 use Rattle.coefficients.proofs.sums.float_of.Tie as tie
 

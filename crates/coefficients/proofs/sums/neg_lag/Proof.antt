@@ -1,11 +1,10 @@
 -- `neg_lag` meets its contract. Assumes nothing.
-use borrow.Author.Needs.{needs, sfits-of}
+use borrow.Author.Needs.{needs}
 use native.Mathlib.Omega.{arith}
 use mir.Syntax.{w64}
-use mir.Val.{SFits}
 use mir.Facts.{toZ-ofZ}
 use Rattle.coefficients.specs.Sums.{negLag}
-use Rattle.coefficients.proofs.Samples.{sfits-abs}
+use Rattle.whole.proofs.Values.{sfits-abs}
 use Rattle.coefficients.proofs.sums.neg_lag.Statement.{statement}
 use Rattle.coefficients.proofs.sums.neg_lag.Tie as tie
 
@@ -13,7 +12,7 @@ dot-requires : tie.Need-dot-requires
 dot-requires c κs = search needs
 
 negated-requires : tie.Need-negated-requires
-negated-requires c κs = rw (toZ-ofZ (sfits-abs (c .dot .result) (omega (arith, c .dot .ensures .small)))) (omega (arith, c .dot .ensures .small))
+negated-requires c κs = rw (toZ-ofZ {w = w64} {z = c .dot .result} (sfits-abs (c .dot .ensures .small) tt)) (omega (arith, c .dot .ensures .small))
 
 float-of-requires : tie.Need-float-of-requires
 float-of-requires c κs = search needs
@@ -23,8 +22,8 @@ unfolding negLag
 returns c =
     let d = c .before .before .dot in
     let n = c .before .negated in
-    let e = rw (toZ-ofZ (sfits-abs (d .result) (omega (arith, d .ensures .small)))) at (n .ensures .0) in
-    let f = rw (toZ-ofZ (sfits-abs (n .result) (omega (arith, n .ensures .1)))) at (c .float-of .ensures) in
+    let e = rw (toZ-ofZ {w = w64} {z = d .result} (sfits-abs (d .ensures .small) tt)) at (n .ensures .value) in
+    let f = rw (toZ-ofZ {w = w64} {z = n .result} (sfits-abs (n .ensures .small) tt)) at (c .float-of .ensures) in
     rw (← d .ensures .value, ← e) f
 
 pub neg-lag-spec : {M : Type 1} → statement M

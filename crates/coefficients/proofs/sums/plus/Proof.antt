@@ -5,12 +5,12 @@ use lib.IntN.{ℤ, _+ℤ_}
 use mir.Syntax.{w64}
 use mir.Val.{SFits}
 use mir.Facts.{toZ-ofZ}
-use Rattle.coefficients.proofs.Samples.{abs-sum, sfits-abs}
+use Rattle.whole.proofs.Values.{abs-add, sfits-abs}
 use Rattle.coefficients.proofs.sums.plus.Statement.{statement}
 use Rattle.coefficients.proofs.sums.plus.Tie as tie
 
 sum-fits : (c : tie.Start) → SFits w64 (c .args .acc +ℤ c .args .x)
-sum-fits c = sfits-abs _ (omega (arith, abs-sum (c .args .acc) (c .args .x)))
+sum-fits c = sfits-abs {n = 2199023255552} (omega (arith, abs-add (c .args .acc) (c .args .x))) tt
 
 add-result : tie.Need-add-result
 add-result c = rw (toZ-ofZ (c .fits .acc), toZ-ofZ (c .fits .x)) (sum-fits c)
@@ -18,7 +18,7 @@ add-result c = rw (toZ-ofZ (c .fits .acc), toZ-ofZ (c .fits .x)) (sum-fits c)
 returns : tie.Need-returns
 returns c =
     rw (toZ-ofZ (c .fits .acc), toZ-ofZ (c .fits .x), toZ-ofZ (sum-fits c))
-    (refl, abs-sum (c .args .acc) (c .args .x))
+    (record { value = refl; small = abs-add (c .args .acc) (c .args .x) })
 
 pub plus-spec : {M : Type 1} → statement M
 plus-spec = tie.close (tie.spec add-result returns)

@@ -1,6 +1,7 @@
 -- `doilycairn_block_body` meets its contract. Assumes nothing.
-use mathlib.Core.Path.{sym, _∙_}
+use mathlib.Core.Path.{ap, sym, _∙_}
 use Rattle.image.proofs.LawsBody.{block-accepted}
+use Rattle.image.specs.Opening.{outcome}
 use Rattle.doilycairn.proofs.Seen.{body-found, body-refused}
 use borrow.Author.Needs.{needs}
 use Rattle.doilycairn.proofs.reading.doilycairn_block_body.Statement.{statement}
@@ -13,7 +14,7 @@ enum-told : tie.Need-enum-told
 enum-told c = search needs
 
 body-at-requires : tie.Need-body-at-requires
-body-at-requires c κs = block-accepted _ _ (sym (c .before .before .block-answer .ensures) ∙ c .enum-told .given .1)
+body-at-requires c κs = block-accepted _ _ (sym (c .before .before .block-answer .ensures) ∙ ap outcome (c .enum-told .given .1))
 
 enum-known-answer : tie.Need-enum-known-answer
 enum-known-answer c = search needs
@@ -25,10 +26,10 @@ code-requires : tie.Need-code-requires
 code-requires c κs = search needs
 
 returns : tie.Need-returns
-returns c = body-found _ _ (c .body-at .ensures) (sym (c .before .before .before .block-answer .ensures) ∙ c .before .enum-told .given .1)
+returns c = body-found _ _ (c .body-at .ensures) (sym (c .before .before .before .block-answer .ensures) ∙ ap outcome (c .before .enum-told .given .1))
 
 returns-2 : tie.Need-returns-2
-returns-2 c = body-refused _ _ _ (c .code .ensures) (c .before .new .ensures) (sym (c .before .before .before .before .before .block-answer .ensures) ∙ c .before .before .before .answer .given .1)
+returns-2 c = body-refused _ _ _ (c .code .ensures) (c .before .new .ensures) (sym (c .before .before .before .before .before .block-answer .ensures) ∙ ap outcome (c .before .before .before .answer .given .1))
 
 pub doilycairn-block-body-spec : {M : Type 1} → statement M
 doilycairn-block-body-spec =

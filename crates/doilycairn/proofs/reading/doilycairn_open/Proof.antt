@@ -13,7 +13,7 @@ code-of-requires c κs = search needs
 
 returns : tie.Need-returns
 unfolding openInC
-returns c = open-seen _ (c .code-of .ensures) (c .before .before .«open» .ensures)
+returns c = open-seen _ _ (c .code-of .ensures) (c .before .before .«open» .ensures)
 
 pub doilycairn-open-spec : {M : Type 1} → statement M
 doilycairn-open-spec = tie.close (tie.spec open-requires code-of-requires returns)

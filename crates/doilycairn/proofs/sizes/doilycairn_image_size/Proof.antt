@@ -1,8 +1,12 @@
 -- `doilycairn_image_size` meets its contract. Assumes nothing.
-use borrow.Author.Tests.{lt-leb, le-leb}
-use Rattle.layout.specs.Sizes.{cutDown}
-use Rattle.doilycairn.specs.Sizes.{imageSize}
 use borrow.Author.Needs.{needs}
+use mathlib.Core.Path.{_≡_, ap, _∙_}
+use Prim.Native.Nat.{ℕ}
+use native.Mathlib.Omega.{arith}
+use borrow.Author.Tests.{lt-leb, le-leb}
+use Rattle.layout.specs.Sizes as Layout
+use Rattle.layout.specs.Limits.{Limits}
+use Rattle.doilycairn.specs.Sizes.{imageSize}
 use Rattle.doilycairn.proofs.sizes.doilycairn_image_size.Statement.{statement}
 use Rattle.doilycairn.proofs.sizes.doilycairn_image_size.Tie as tie
 
@@ -22,20 +26,38 @@ returns-4 : tie.Need-returns-4
 unfolding imageSize
 returns-4 c = simp (le-leb _ _ (c .before .before .before .if1 .left), le-leb _ _ (c .before .before .if2 .left), le-leb _ _ (c .before .if3 .left), lt-leb _ _ (c .if4 .taken))
 
-mul-size : tie.Need-mul-size
-mul-size c = search needs
+cut-down-requires : tie.Need-cut-down-requires
+cut-down-requires c κs = search needs
 
-cast-size : tie.Need-cast-size
-cast-size c = search needs
+cast-t7 : tie.Need-cast-t7
+cast-t7 c = search needs
 
-size-requires : tie.Need-size-requires
-size-requires c κs = search needs
+image-size-requires : tie.Need-image-size-requires
+unfolding Layout.cutDown
+image-size-requires c κs = let e = c .cut-down .ensures in
+    record {
+      some = omega (arith, c .before .before .before .before .if1 .left);
+      few = omega (arith, c .before .before .before .if2 .left);
+      wide = omega (arith, c .before .before .if3 .left, e);
+      narrow = omega (arith, c .before .if4 .left, e);
+      eights = omega (arith, e);
+      further = omega arith;
+    }
 
 returns-5 : tie.Need-returns-5
-unfolding imageSize cutDown
-returns-5 c = simp (le-leb _ _ (c .before .before .before .before .if1 .left), le-leb _ _ (c .before .before .before .if2 .left), le-leb _ _ (c .before .before .if3 .left), le-leb _ _ (c .before .if4 .left), c .size .ensures)
+unfolding imageSize
+returns-5 c = let s = c .image-size .ensures ∙ ap (λ (b : ℕ). Layout.imageSize (Layout.shape (c .before .before .before .before .before .before .args .total) b)) (c .before .cut-down .ensures) in
+    simp (le-leb _ _ (c .before .before .before .before .before .if1 .left), le-leb _ _ (c .before .before .before .before .if2 .left), le-leb _ _ (c .before .before .before .if3 .left), le-leb _ _ (c .before .before .if4 .left), s)
 
 pub doilycairn-image-size-spec : {M : Type 1} → statement M
 doilycairn-image-size-spec =
     tie.close
-    (tie.spec returns returns-2 returns-3 returns-4 mul-size cast-size size-requires returns-5)
+    (tie.spec
+    returns
+    returns-2
+    returns-3
+    returns-4
+    cut-down-requires
+    cast-t7
+    image-size-requires
+    returns-5)

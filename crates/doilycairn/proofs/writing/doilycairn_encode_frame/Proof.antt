@@ -13,7 +13,7 @@ frame-code-requires c κs = search needs
 
 returns : tie.Need-returns
 unfolding frameInC
-returns c = frame-seen _ (c .frame-code .ensures) (c .before .before .before .encode-one-frame .ensures)
+returns c = let done = c .before .before .before .encode-one-frame in frame-seen (done .result) (c .frame-code .ensures) (done .ensures)
 
 pub doilycairn-encode-frame-spec : {M : Type 1} → statement M
 doilycairn-encode-frame-spec =

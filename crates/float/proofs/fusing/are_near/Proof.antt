@@ -1,30 +1,46 @@
 -- `are_near` meets its contract. Assumes nothing.
-use mathlib.Core.Path.{_≡_, sym, subst}
-use Prim.Native.Nat.{ℕ, _+_, _-_, _≤_, _<_}
+use mathlib.Core.Path.{_≡_, sym, _∙_}
+use mathlib.Core.Bool.{true}
+use Prim.Native.Nat.{_+_}
 use borrow.Author.Needs.{needs}
-use borrow.Author.Tests.{ltb-true, not-false}
-use native.Mathlib.Omega.{arith}
-use lib.Dec.{T}
+use borrow.Author.Tests.{lt-ltb, le-ltb, not-true, not-false}
+use Rattle.float.specs.inner.Operands.{isNormal, areNear}
 use Rattle.float.proofs.fusing.are_near.Statement.{statement}
 use Rattle.float.proofs.fusing.are_near.Tie as tie
+
+-- what the tests say
+x-normal : (c : tie.Else1) → isNormal (c .before .before .args .x) ≡ true
+x-normal c = let n = c .before .is-normal in sym (n .ensures) ∙ not-false (n .result) (c .if1 .left)
+
+y-normal : (c : tie.Else2) → isNormal (c .before .before .before .before .args .y) ≡ true
+y-normal c = let n = c .before .is-normal2 in sym (n .ensures) ∙ not-false (n .result) (c .if2 .left)
+
+z-normal : (c : tie.Else3) → let k = c .before .before .before .before in isNormal (k .before .before .args .z) ≡ true
+z-normal c = let n = c .before .is-normal3 in sym (n .ensures) ∙ not-false (n .result) (c .if3 .left)
 
 is-normal-requires : tie.Need-is-normal-requires
 is-normal-requires c κs = search needs
 
 returns : tie.Need-returns
-returns c e = absurd (subst T (sym e) tt)
+unfolding areNear
+returns c = let n = c .before .is-normal in rw (sym (n .ensures) ∙ not-true (n .result) (c .if1 .taken))
 
 is-normal-requires-2 : tie.Need-is-normal-requires-2
 is-normal-requires-2 c κs = search needs
 
 returns-2 : tie.Need-returns-2
-returns-2 c e = absurd (subst T (sym e) tt)
+unfolding areNear
+returns-2 c = let n = c .before .is-normal2 in rw (x-normal (c .before .before), sym (n .ensures) ∙ not-true (n .result) (c .if2 .taken))
 
 is-normal-requires-3 : tie.Need-is-normal-requires-3
 is-normal-requires-3 c κs = search needs
 
 returns-3 : tie.Need-returns-3
-returns-3 c e = absurd (subst T (sym e) tt)
+unfolding areNear
+returns-3 c =
+    let n = c .before .is-normal3 in
+    let k = c .before .before in
+    rw (x-normal (k .before .before), y-normal k, sym (n .ensures) ∙ not-true (n .result) (c .if3 .taken))
 
 field-requires : tie.Need-field-requires
 field-requires c κs = search needs
@@ -42,27 +58,40 @@ add-q : tie.Need-add-q
 add-q c = search needs
 
 returns-4 : tie.Need-returns-4
-returns-4 c e = absurd (subst T (sym e) tt)
-
-returns-5 : tie.Need-returns-5
-returns-5 c e =
+unfolding areNear
+returns-4 c =
     let x = c .before .before .before .field in
     let y = c .before .before .field2 in
     let z = c .before .field3 in
-    let k = bounds (x .result) (y .result) (z .result) (x .ensures) (y .ensures) (z .ensures) (c .if4 .left) (ltb-true (x .result + y .result - (z .result + 1002)) 64 e) in
-    let n1 = c .before .before .before .before .before .before .before .before .before .is-normal in
-    let n2 = c .before .before .before .before .before .before .before .is-normal2 in
-    let n3 = c .before .before .before .before .before .is-normal3 in
-    record {
-      first = n1 .ensures (not-false (n1 .result) (c .before .before .before .before .before .before .before .before .if1 .left));
-      second = n2 .ensures (not-false (n2 .result) (c .before .before .before .before .before .before .if2 .left));
-      third = n3 .ensures (not-false (n3 .result) (c .before .before .before .before .if3 .left));
-      least = k .0;
-      most = k .1;
-    }
-  where
-    bounds : (x y z : ℕ) {u v w : ℕ} → x ≡ u → y ≡ v → z ≡ w → z + 1002 ≤ x + y → x + y - (z + 1002) < 64 → (w + 1002 ≤ u + v) × (u + v < w + 1066)
-    bounds x y z e f g h k = (omega arith, omega arith)
+    let k = c .before .before .before .before in
+    rw (
+      x-normal (k .before .before .before .before),
+      y-normal (k .before .before),
+      z-normal k,
+      ← x .ensures,
+      ← y .ensures,
+      ← z .ensures,
+      lt-ltb (x .result + y .result) (z .result + 1002)
+          (c .if4 .taken),
+    )
+
+returns-5 : tie.Need-returns-5
+unfolding areNear
+returns-5 c =
+    let x = c .before .before .before .field in
+    let y = c .before .before .field2 in
+    let z = c .before .field3 in
+    let k = c .before .before .before .before in
+    rw (
+      x-normal (k .before .before .before .before),
+      y-normal (k .before .before),
+      z-normal k,
+      ← x .ensures,
+      ← y .ensures,
+      ← z .ensures,
+      le-ltb (x .result + y .result) (z .result + 1002)
+          (c .if4 .left),
+    )
 
 pub are-near-spec : {M : Type 1} → statement M
 are-near-spec =

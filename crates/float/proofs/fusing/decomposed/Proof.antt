@@ -1,12 +1,11 @@
 -- `decomposed` meets its contract. Assumes nothing.
-use mathlib.Core.Path.{_≡_}
-use Prim.Native.Nat.{ℕ, _%_, _^_}
+use Prim.Native.Nat.{_%_, _^_}
 use native.Mathlib.Nat.{mod-lt}
 use borrow.Author.Needs.{needs}
 use native.Mathlib.Omega.{arith}
 use lib.Pow.{pow-pos}
 use lib.Count.{leading-le}
-use Rattle.float.proofs.Apart.{t-pos, zeros-ge, zeros-le, parts-low, parts-high}
+use Rattle.float.proofs.Decomposition.{t-pos, zeros-ge, zeros-le, parts-low, parts-high}
 use Rattle.float.proofs.fusing.decomposed.Statement.{statement}
 use Rattle.float.proofs.fusing.decomposed.Tie as tie
 

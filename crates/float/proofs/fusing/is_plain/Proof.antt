@@ -1,7 +1,7 @@
 -- `is_plain` meets its contract. Assumes nothing.
-use mathlib.Core.Path.{_≡_, sym, ap, _∙_}
+use mathlib.Core.Path.{sym, ap, _∙_}
 use lib.Ieee.{Float, lt, ne}
-use Rattle.float.proofs.Special.{top-is, top-plain, bottom-is, zero-is, plain-yes, plain-over, plain-under}
+use Rattle.float.proofs.SpecialValues.{top-is, top-plain, bottom-is, zero-is, plain-yes, plain-over, plain-under}
 use Rattle.float.proofs.fusing.is_plain.Statement.{statement}
 use Rattle.float.proofs.fusing.is_plain.Tie as tie
 

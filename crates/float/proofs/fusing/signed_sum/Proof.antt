@@ -6,7 +6,7 @@ use borrow.Author.Tests.{eqb-true, eqb-false}
 use native.Mathlib.Omega.{arith}
 use lib.Pow.{pow-pos}
 use lib.Ieee.{binary64, toBits}
-use Rattle.float.proofs.Frame.{merged-bits, merged-none, same-stands, summing-none, none-bits}
+use Rattle.float.proofs.AlignedSums.{merged-bits, merged-none, same-aligned, signed-sum-none, none-bits}
 use Rattle.float.proofs.fusing.signed_sum.Statement.{statement}
 use Rattle.float.proofs.fusing.signed_sum.Tie as tie
 
@@ -39,14 +39,17 @@ returns : tie.Need-returns
 returns c x y f =
     let a = c .before .before .before in
     let m = c .before .before .merged in
-    let n = merged-none (P a) (C a) (a .pre .2) (a .args .np) (a .args .nc) (m .result .under) (W (c .before .before)) (m .ensures) (eqb-true (W (c .before .before)) 0 (sym (c .before .wide-is-zero .ensures) ∙ c .if1 .taken)) in
-    sym (ap (toBits binary64) (summing-none 1198 (a .args .np) (a .args .nc) x y (n .0) (same-stands x (P a) y (C a) (2 ^ a .args .e) (pow-pos (a .args .e)) f (n .1))) ∙ none-bits 1197)
+    let n =
+    merged-none (P a) (C a) (a .pre .2) (a .args .np) (a .args .nc) (m .result .under) (W (c .before .before)) (m .ensures)
+    (eqb-true (W (c .before .before)) 0 (sym (c .before .wide-is-zero .ensures) ∙ c .if1 .taken)) in
+    sym (ap (toBits binary64) (signed-sum-none 1198 (a .args .np) (a .args .nc) x y (n .0) (same-aligned x (P a) y (C a) (2 ^ a .args .e) (pow-pos (a .args .e)) f (n .1))) ∙ none-bits 1197)
 
 returns-2 : tie.Need-returns-2
 returns-2 c x y f =
     let a = c .before .before .before .before .before in
     let m = c .before .before .before .before .merged in
-    merged-bits x (P a) y (C a) (2 ^ a .args .e) (pow-pos (a .args .e)) f (a .args .np) (a .args .nc) (m .result .under) (W (c .before .before .before .before)) (c .normalised .result) (m .ensures) (left (c .before .before)) (c .normalised .ensures)
+    merged-bits x (P a) y (C a) (2 ^ a .args .e) (pow-pos (a .args .e)) f (a .args .np) (a .args .nc) (m .result .under) (W (c .before .before .before .before)) (c .normalised .result) (m .ensures)
+    (left (c .before .before)) (c .normalised .ensures)
 
 pub signed-sum-spec : {M : Type 1} → statement M
 signed-sum-spec =

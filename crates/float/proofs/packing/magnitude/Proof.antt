@@ -11,7 +11,7 @@ add-result : tie.Need-add-result
 add-result c = search needs
 
 returns : tie.Need-returns
-returns c = magnitude-under (c .before .args .k) (c .before .args .q) (c .if1 .taken) (c .before .pre)
+returns c = magnitude-under (c .before .args .k) (c .before .args .q) (c .if1 .taken)
 
 returns-2 : tie.Need-returns-2
 returns-2 c = magnitude-over (c .before .args .k) (c .before .args .q) (c .if1 .left)

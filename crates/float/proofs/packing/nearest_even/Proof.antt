@@ -1,11 +1,11 @@
 -- `nearest_even` meets its contract. Assumes nothing.
-use mathlib.Core.Path.{_≡_, sym, ap, _∙_, subst}
-use Prim.Native.Nat.{ℕ, _-_, _*_, _/_, _^_}
+use mathlib.Core.Path.{sym, ap, _∙_}
+use Prim.Native.Nat.{_-_, _^_}
 use borrow.Author.Needs.{needs}
 use native.Mathlib.Omega.{arith}
 use lib.Pow.{pow-pos}
 use lib.Ieee.Nearest.{closest}
-use Rattle.float.proofs.Halves.{near-lt, near-eq, near-gt, half, unshifted, room}
+use Rattle.float.proofs.NearestEven.{near-lt, near-eq, near-gt, half, unshifted, bound}
 use Rattle.float.proofs.packing.nearest_even.Statement.{statement}
 use Rattle.float.proofs.packing.nearest_even.Tie as tie
 
@@ -22,10 +22,10 @@ shl-if2 : tie.Need-shl-if2
 shl-if2 c = search needs
 
 add-result : tie.Need-add-result
-add-result c = let a = c .before .before in let l = room (a .args .w) (2 ^ (a .args .d - 1)) (pow-pos (a .args .d - 1)) (a .fits .w .fits) in omega arith
+add-result c = let a = c .before .before in let l = bound (a .args .w) (2 ^ (a .args .d - 1)) (pow-pos (a .args .d - 1)) (a .fits .w .fits) in omega arith
 
 add-result-2 : tie.Need-add-result-2
-add-result-2 c = let a = c .before .before in let l = room (a .args .w) (2 ^ (a .args .d - 1)) (pow-pos (a .args .d - 1)) (a .fits .w .fits) in omega arith
+add-result-2 c = let a = c .before .before in let l = bound (a .args .w) (2 ^ (a .args .d - 1)) (pow-pos (a .args .d - 1)) (a .fits .w .fits) in omega arith
 
 returns : tie.Need-returns
 returns c =

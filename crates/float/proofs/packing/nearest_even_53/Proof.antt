@@ -1,6 +1,6 @@
 -- `nearest_even_53` meets its contract. Assumes nothing.
 use borrow.Author.Needs.{needs}
-use Rattle.float.proofs.Halves.{near-53}
+use Rattle.float.proofs.NearestEven.{near-53}
 use Rattle.float.proofs.packing.nearest_even_53.Statement.{statement}
 use Rattle.float.proofs.packing.nearest_even_53.Tie as tie
 

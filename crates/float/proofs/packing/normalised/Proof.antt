@@ -1,13 +1,14 @@
 -- `normalised` meets its contract. Assumes nothing.
 use mathlib.Core.Path.{_≡_, sym, ap, _∙_, subst}
-use Prim.Native.Nat.{ℕ, _+_, _-_, _*_, _/_, _%_, _^_, _≤_, _<_}
-use native.Mathlib.Nat.{le-of-lt, le-of-eq, le-trans, mod-eq-of-lt}
+use Prim.Native.Nat.{ℕ, _+_, _-_, _*_, _^_, _≤_, _<_}
+use native.Mathlib.Nat.{mod-eq-of-lt}
 use borrow.Author.Needs.{needs}
 use native.Mathlib.Omega.{arith}
 use lib.Count.{leadingZeros, leading-le}
 use lib.Ieee.{binary64, toBits}
-use Rattle.float.specs.Jam.{Jam}
-use Rattle.float.proofs.Words.{zeros-lt, zeros-top, finish-high, finish-low, rounding-up}
+use Rattle.float.specs.inner.Sticky.{Sticky}
+use Rattle.float.proofs.Sticky.{sticky-least}
+use Rattle.float.proofs.TwoWordShifts.{leading-least, zeros-lt, zeros-top, finish-high, finish-low, rounded-up}
 use Rattle.float.proofs.packing.normalised.Statement.{statement}
 use Rattle.float.proofs.packing.normalised.Tie as tie
 
@@ -66,7 +67,11 @@ sub-rounded-2 c = let l = leading-le 64 (c .before .before .args .hi) in omega a
 rounded-requires-2 : tie.Need-rounded-requires-2
 rounded-requires-2 c κs =
     let a = c .before .before in
-    (le-trans (zeros-top (a .args .hi) (hi-pos a (c .before .if1 .left)) (a .fits .hi .fits) .0) (c .leading .ensures .1), omega arith)
+    let hi = a .args .hi in
+    let lo = a .args .lo in
+    let l = leadingZeros 64 hi in
+    let t = zeros-top hi (hi-pos a (c .before .if1 .left)) (a .fits .hi .fits) .0 in
+    (sticky-least (hi * 2 ^ 64 + lo) (c .leading .result) (2 ^ (64 - l)) (2 ^ 62) (c .leading .ensures) (leading-least hi lo l (leading-le 64 hi) t), omega arith)
 
 returns : tie.Need-returns
 returns c m s =
@@ -76,16 +81,16 @@ returns c m s =
     let z = c .before .if1 .taken in
     let t = zeros-top lo (lo-pos a z) (a .fits .lo .fits) in
     c .rounded .ensures (m * 2 ^ 64)
-    (subst (λ (w : ℕ). Jam (m * 2 ^ 64) w (2 ^ (a .args .e + 64 - l))) (sym (mod-eq-of-lt (t .1))) (finish-low m (a .args .hi) lo (a .args .e) l z (a .fits .lo .fits) (leading-le 64 lo) s))
-    ∙ ap (toBits binary64) (rounding-up 1198 (a .args .neg) m)
+    (subst (λ (w : ℕ). Sticky (m * 2 ^ 64) w (2 ^ (a .args .e + 64 - l))) (sym (mod-eq-of-lt (t .1))) (finish-low m (a .args .hi) lo (a .args .e) l z (a .fits .lo .fits) (leading-le 64 lo) s))
+    ∙ ap (toBits binary64) (rounded-up 1198 (a .args .neg) m)
 
 returns-2 : tie.Need-returns-2
 returns-2 c m s =
     let a = c .before .before .before in
     let hi = a .args .hi in
     let l = leadingZeros 64 hi in
-    c .rounded2 .ensures (m * 2 ^ 64) (finish-high m (hi * 2 ^ 64 + a .args .lo) (c .before .leading .result) (a .args .e) l (leading-le 64 hi) s (c .before .leading .ensures .0))
-    ∙ ap (toBits binary64) (rounding-up 1198 (a .args .neg) m)
+    c .rounded2 .ensures (m * 2 ^ 64) (finish-high m (hi * 2 ^ 64 + a .args .lo) (c .before .leading .result) (a .args .e) l (leading-le 64 hi) s (c .before .leading .ensures))
+    ∙ ap (toBits binary64) (rounded-up 1198 (a .args .neg) m)
 
 pub normalised-spec : {M : Type 1} → statement M
 normalised-spec =

@@ -1,11 +1,11 @@
 -- `rounded` meets its contract. Assumes nothing.
-use mathlib.Core.Path.{_≡_, refl, sym, ap, _∙_, subst}
-use mathlib.Core.Logic.{_⊎_, inl, inr}
+use mathlib.Core.Path.{refl, sym, ap, _∙_, subst}
+use mathlib.Core.Logic.{inl, inr}
 use Prim.Native.Nat.{ℕ, _-_, _^_, _≤_, zero-le}
 use borrow.Author.Needs.{needs}
 use native.Mathlib.Omega.{arith}
-use lib.Ieee.{Float, binary64, units, toBits}
-use Rattle.float.proofs.Ranges.{closest-le, closest-ge, at-normal, at-low, at-none}
+use lib.Ieee.{binary64, units, toBits}
+use Rattle.float.proofs.RoundedByExponent.{closest-le, closest-ge, at-normal, at-low, at-none}
 use Rattle.float.proofs.packing.rounded.Statement.{statement}
 use Rattle.float.proofs.packing.rounded.Tie as tie
 

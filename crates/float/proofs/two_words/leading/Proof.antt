@@ -1,10 +1,10 @@
 -- `leading` meets its contract. Assumes nothing.
 use mathlib.Core.Path.{sym, ap, _∙_, subst}
-use Prim.Native.Nat.{ℕ, _+_, _-_, _*_, _%_, _^_, _≤_, _<_}
+use Prim.Native.Nat.{ℕ, _+_, _-_, _*_, _%_, _^_, _<_}
 use native.Mathlib.Nat.{le-of-lt}
 use borrow.Author.Needs.{needs}
-use Rattle.float.specs.Jam.{Jam, jammed}
-use Rattle.float.proofs.Words.{below-top, leading-some, leading-fits, leading-ge}
+use Rattle.float.specs.inner.Sticky.{Sticky, sticky}
+use Rattle.float.proofs.TwoWordShifts.{below-top, leading-some, leading-fits}
 use Rattle.float.proofs.two_words.leading.Statement.{statement}
 use Rattle.float.proofs.two_words.leading.Tie as tie
 
@@ -21,7 +21,10 @@ add-sticky : tie.Need-add-sticky
 add-sticky c =
     let a = c .args in
     let l = a .l in
-    record { fits = subst (λ (z : ℕ). (a .hi * 2 ^ l) % 2 ^ 64 + z < 2 ^ 64) (sym (below-top (a .lo) l (c .pre .0))) (leading-fits (a .hi) (a .lo) l (le-of-lt (c .pre .0)) (c .fits .lo .fits) (c .pre .1)) }
+    record {
+      fits = subst (λ (z : ℕ). (a .hi * 2 ^ l) % 2 ^ 64 + z < 2 ^ 64) (sym (below-top (a .lo) l (c .pre .0)))
+          (leading-fits (a .hi) (a .lo) l (le-of-lt (c .pre .0)) (c .fits .lo .fits) (c .pre .1));
+    }
 
 shl-sticky-2 : tie.Need-shl-sticky-2
 shl-sticky-2 c = search needs
@@ -36,10 +39,8 @@ returns c =
     let lo = a .args .lo in
     let l = a .args .l in
     let rest = (lo * 2 ^ l) % 2 ^ 64 in
-    let e = c .sticky .ensures ∙ ap (λ (z : ℕ). jammed ((hi * 2 ^ l) % 2 ^ 64 + z) rest) (below-top lo l (a .pre .0)) in (
-      subst (λ (r : ℕ). Jam (hi * 2 ^ 64 + lo) r (2 ^ (64 - l))) (sym e) (leading-some hi lo l (le-of-lt (a .pre .0)) (a .fits .lo .fits) (a .pre .1)),
-      subst (λ (r : ℕ). hi * 2 ^ l ≤ r) (sym e) (leading-ge hi lo l (le-of-lt (a .pre .0)) (a .fits .lo .fits) (a .pre .1) rest),
-    )
+    let e = c .sticky .ensures ∙ ap (λ (z : ℕ). sticky ((hi * 2 ^ l) % 2 ^ 64 + z) rest) (below-top lo l (a .pre .0)) in
+    subst (λ (r : ℕ). Sticky (hi * 2 ^ 64 + lo) r (2 ^ (64 - l))) (sym e) (leading-some hi lo l (le-of-lt (a .pre .0)) (a .fits .lo .fits) (a .pre .1))
 
 pub leading-spec : {M : Type 1} → statement M
 leading-spec = tie.close (tie.spec shl-sticky sub-sticky shr-sticky add-sticky shl-sticky-2 sticky-requires returns)

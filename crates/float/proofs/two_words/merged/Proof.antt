@@ -3,7 +3,7 @@ use mathlib.Core.Path.{refl}
 use Prim.Native.Nat.{ℕ, _+_, _^_, _≤_, _<_}
 use native.Mathlib.Omega.{arith}
 use lib.Dec.{leb}
-use Rattle.float.proofs.Sums.{carry-le, flip-top, merge-law}
+use Rattle.float.proofs.TwoWordSums.{carry-le, flip-top, merge-law}
 use borrow.Author.Needs.{needs}
 use Rattle.float.proofs.two_words.merged.Statement.{statement}
 use Rattle.float.proofs.two_words.merged.Tie as tie
@@ -17,10 +17,12 @@ carried-requires c κs = search needs
 add-carried : tie.Need-add-carried
 add-carried c =
     let a = c .before .before .before in
-    record { fits = room (a .args .ah) (c .before .carried .result .hi) (a .pre .0) (carry-le (c .before .carried .result .hi) (c .before .carried .result .lo) (a .args .al) (c .before .before .flipped .result) (c .before .carried .ensures) (a .fits .al .fits) (c .before .before .flipped .ok)) }
+    let s = c .before .carried in
+    let x = c .before .before .flipped in
+    record { fits = bound (a .args .ah) (s .result .hi) (a .pre .0) (carry-le (s .result .hi) (s .result .lo) (a .args .al) (x .result) (s .ensures) (a .fits .al .fits) (x .ok)) }
   where
-    room : (a c : ℕ) → a < 2 ^ 62 → c ≤ 1 → a + c < 2 ^ 64
-    room a c h k = omega arith
+    bound : (a c : ℕ) → a < 2 ^ 62 → c ≤ 1 → a + c < 2 ^ 64
+    bound a c h k = omega arith
 
 flipped-requires-2 : tie.Need-flipped-requires-2
 flipped-requires-2 c κs = search needs
@@ -46,20 +48,33 @@ add-t11 c =
     let w = c .before .before .carried3 in
     let y = c .before .before .before .before .flipped3 in
     let o = c .before .before .before .missing in
-    record { fits = room (c .before .flipped4 .result) (w .result .hi) (flip-top (leb (2 ^ 63) t) t (c .before .flipped4 .result) refl (c .before .flipped4 .ensures)) (carry-le (w .result .hi) (w .result .lo) (y .result) (o .result) (w .ensures) (y .ok) (o .ok)) }
+    let z = c .before .flipped4 in
+    record {
+      fits = bound (z .result) (w .result .hi) (flip-top (leb (2 ^ 63) t) t (z .result) refl (z .ensures))
+          (carry-le (w .result .hi) (w .result .lo) (y .result) (o .result) (w .ensures) (y .ok) (o .ok));
+    }
   where
-    room : (a c : ℕ) → a < 2 ^ 63 → c ≤ 1 → a + c < 2 ^ 64
-    room a c h k = omega arith
+    bound : (a c : ℕ) → a < 2 ^ 63 → c ≤ 1 → a + c < 2 ^ 64
+    bound a c h k = omega arith
 
 returns : tie.Need-returns
 returns c =
-    let a = c .before .before .before .before .before .before .before .before .before .before .before in
-    let s = c .before .before .before .before .before .before .before .before .before .carried in
-    let t = c .before .before .before .before .before .before .carried2 in
+    let k = c .before .before .before .before .before in
+    let l = k .before .before .before in
+    let x = l .before .before .flipped in
+    let s = l .before .carried in
+    let y = k .before .before .flipped2 in
+    let t = k .before .carried2 in
+    let u = c .before .before .before .before .flipped3 in
+    let v = c .before .flipped4 in
+    let o = c .before .before .before .missing in
     let w = c .before .before .carried3 in
-    merge-law (a .args .ah) (a .args .al) (a .args .bh) (a .args .bl) (s .result .hi) (s .result .lo) (t .result .hi) (t .result .lo) (a .pre .0) (a .pre .1) (a .fits .al .fits) (a .fits .bl .fits) (c .before .before .before .before .before .before .before .before .struct-known .given .1 .0 .fits) (c .before .before .before .before .before .struct-known2 .given .1 .0 .fits)
-    (a .args .apart) (leb (2 ^ 63) (t .result .lo)) (c .before .before .before .before .before .before .before .before .before .before .flipped .result) (c .before .before .before .before .before .before .before .flipped2 .result) (c .before .before .before .before .flipped3 .result) (c .before .flipped4 .result) (c .before .before .before .missing .result) (w .result .hi) (w .result .lo)
-    (c .before .before .before .before .before .before .before .before .before .before .flipped .ensures) (c .before .before .before .before .before .before .before .flipped2 .ensures) (s .ensures) (t .ensures) refl (c .before .before .before .before .flipped3 .ensures) (c .before .flipped4 .ensures) (c .before .before .before .missing .ensures) (w .ensures)
+    let b = l .before .before .before in
+    let a = b .args in
+    merge-law (a .ah) (a .al) (a .bh) (a .bl) (s .result .hi) (s .result .lo) (t .result .hi) (t .result .lo)
+    (b .pre .0) (b .pre .1) (b .fits .al .fits) (b .fits .bl .fits) (l .struct-known .given .1 .0 .fits) (k .struct-known2 .given .1 .0 .fits)
+    (a .apart) (leb (2 ^ 63) (t .result .lo)) (x .result) (y .result) (u .result) (v .result) (o .result) (w .result .hi) (w .result .lo)
+    (x .ensures) (y .ensures) (s .ensures) (t .ensures) refl (u .ensures) (v .ensures) (o .ensures) (w .ensures)
 
 pub merged-spec : {M : Type 1} → statement M
 merged-spec =

@@ -1,6 +1,6 @@
 -- `shifted_right` meets its contract. Assumes nothing.
 use borrow.Author.Needs.{needs}
-use Rattle.float.proofs.Words.{shifted-law}
+use Rattle.float.proofs.TwoWordShifts.{shifted-law}
 use Rattle.float.proofs.two_words.shifted_right.Statement.{statement}
 use Rattle.float.proofs.two_words.shifted_right.Tie as tie
 

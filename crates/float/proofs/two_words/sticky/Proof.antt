@@ -1,6 +1,6 @@
 -- `sticky` meets its contract. Assumes nothing.
 use borrow.Author.Needs.{needs}
-use Rattle.float.proofs.Halves.{sticky-law}
+use Rattle.float.proofs.NearestEven.{sticky-law}
 use Rattle.float.proofs.two_words.sticky.Statement.{statement}
 use Rattle.float.proofs.two_words.sticky.Tie as tie
 

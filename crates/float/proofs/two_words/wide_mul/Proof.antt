@@ -5,7 +5,7 @@ use native.Mathlib.Nat.{le-add-right, mod-lt}
 use borrow.Author.Needs.{needs}
 use lib.Pow.{pow-pos, shr-lt}
 use mir.Facts.{fits-le}
-use Rattle.float.proofs.Columns.{mid, nxt, high, product-law, low-law, product-fits, middle-fits, next-fits, high-fits}
+use Rattle.float.proofs.TwoWordProducts.{mid, nxt, high, product-law, low-law, product-fits, middle-fits, next-fits, high-fits}
 use Rattle.float.proofs.two_words.wide_mul.Statement.{statement}
 use Rattle.float.proofs.two_words.wide_mul.Tie as tie
 

@@ -9,21 +9,19 @@ use mir.Val.{SFits}
 use mir.Facts.{toZ-ofZ}
 use Rattle.frame.specs.Estimate.{firstExponent}
 use Rattle.frame.specs.Choice.{c0At, c1At}
+use Rattle.frame.proofs.LawsOrder.{none-below}
 use Rattle.frame.proofs.LawsLanes.{filled-more}
 use Rattle.frame.proofs.choice.first_exponents.Statement.{statement}
 use Rattle.frame.proofs.choice.first_exponents.Tie as tie
 
 abbrev Inv-loop : tie.InvT-loop
-Inv-loop history samples coefs out₀ k₀ out k = (k ≤ 8) × (length out ≡ 8) × ((j : ℕ) → j < k → getD out j 0 ≡ firstExponent (c0At coefs j) (c1At coefs j) history samples)
+Inv-loop history samples coefficients out₀ k₀ out k = (k ≤ 8) × (length out ≡ 8) × ((j : ℕ) → j < k → getD out j 0 ≡ firstExponent (c0At coefficients j) (c1At coefficients j) history samples)
 
 abbrev μ-loop : tie.MeasureT-loop
-μ-loop history samples coefs out₀ k₀ out k = 8 - k
-
-never : (j : ℕ) → j < 0 → ⊥
-never j m = omega arith
+μ-loop history samples coefficients out₀ k₀ out k = 8 - k
 
 loop-holds : tie.Need-loop-holds Inv-loop μ-loop
-loop-holds c = (omega arith, refl, λ j m. absurd (never j m))
+loop-holds c = (omega arith, refl, λ j m. absurd (none-below j m))
 
 c0-fits : (c : tie.After-c0 Inv-loop μ-loop) → SFits w16 (c0At (c .before .before .before .args .t3) (c .before .before .loop .k))
 c0-fits c = record { sfits = c .c0 .given }
@@ -72,7 +70,8 @@ loop-again c =
     let inv = l .loop .inv in (
       omega arith,
       simp length-set (inv .1),
-      filled-more (λ (j : ℕ). firstExponent (c0At (s .t3) j) (c1At (s .t3) j) (s .history) (s .samples)) 0 (l .loop .out) (l .loop .k) _ (omega arith) (rw (toZ-ofZ (c0-fits (a .before)), toZ-ofZ (c1-fits a)) at (c .first-exponent .ensures)) (inv .2),
+      filled-more (λ (j : ℕ). firstExponent (c0At (s .t3) j) (c1At (s .t3) j) (s .history) (s .samples)) 0 (l .loop .out) (l .loop .k) _ (omega arith)
+          (rw (toZ-ofZ (c0-fits (a .before)), toZ-ofZ (c1-fits a)) at (c .first-exponent .ensures)) (inv .2),
     )
 
 returns : tie.Need-returns Inv-loop μ-loop

@@ -12,10 +12,10 @@ use Rattle.frame.specs.declared.lane.Lane.{Lane}
 use Rattle.frame.specs.Estimate.{firstExponent}
 use Rattle.frame.specs.Pass.{Bounded}
 use Rattle.frame.specs.Choice.{c0At, c1At}
-use Rattle.frame.specs.Lanes.{Unit, Ready, Empty, Shown, Tells, laneAt, laneStart, laneFrom, seenOf}
-use Rattle.frame.proofs.LawsArrays.{Fit, array-fits}
+use Rattle.frame.specs.inner.Lanes.{PowerOfTwo, Ready, Empty, Shown, Tells, laneAt, laneStart, laneFrom, figuresAt}
+use Rattle.frame.proofs.LawsArrays.{array-fits}
+use Rattle.frame.specs.Fits.{Fit, FitHistory}
 use Rattle.frame.proofs.LawsEstimate.{first-le}
-use Rattle.frame.proofs.LawsPass.{FitHistory}
 use Rattle.frame.proofs.LawsLanes.{shown-is, tells-is, from-same}
 use Rattle.frame.proofs.choice.lanes_at.Statement.{statement}
 use Rattle.frame.proofs.choice.lanes_at.Tie as tie
@@ -28,10 +28,10 @@ fit-samples s = array-fits 14 _ _ (s .good .1 .0)
 
 -- the exponent of pair k
 abbrev first : tie.Start → ℕ → ℕ
-first s k = firstExponent (c0At (s .args .coefs) k) (c1At (s .args .coefs) k) (s .args .history) (s .args .samples)
+first s k = firstExponent (c0At (s .args .coefficients) k) (c1At (s .args .coefficients) k) (s .args .history) (s .args .samples)
 
 first-small : (s : tie.Start) (k : ℕ) → first s k + s .args .more ≤ 12
-first-small s k = omega (arith, s .pre .1 .1, first-le (c0At (s .args .coefs) k) (c1At (s .args .coefs) k) (s .args .history) (s .args .samples))
+first-small s k = omega (arith, s .pre .1 .1, first-le (c0At (s .args .coefficients) k) (c1At (s .args .coefficients) k) (s .args .history) (s .args .samples))
 
 fresh-requires : tie.Need-fresh-requires
 fresh-requires c κs = search needs
@@ -56,7 +56,8 @@ run-lanes-requires c κs =
       λ k m. subst Empty (sym (c .before .before .fresh .ensures k m)) (record { s0-le = abs-sfits (f .newest-fits); s1-le = abs-sfits (f .older-fits); high-none = refl; low-none = refl }),
     )
 
-lane-is : (c : tie.After-run-lanes) (k : ℕ) → k < 8 → laneAt (c .run-lanes .result) k ≡ laneFrom (c0At (c .before .before .before .before .args .coefs) k) (c1At (c .before .before .before .before .args .coefs) k) (pos (2 ^ (first (c .before .before .before .before) k + c .before .before .before .before .args .more))) (laneStart (c .before .before .before .before .args .history)) (c .before .before .before .before .args .samples) 14
+lane-is : (c : tie.After-run-lanes) (k : ℕ) → k < 8 → let s = c .before .before .before .before in laneAt (c .run-lanes .result) k
+    ≡ laneFrom (c0At (s .args .coefficients) k) (c1At (s .args .coefficients) k) (pos (2 ^ (first s k + s .args .more))) (laneStart (s .args .history)) (s .args .samples) 14
 lane-is c k m =
     let u = c .before in
     let e = u .before .split .ensures k m in
@@ -66,8 +67,10 @@ returns : tie.Need-returns
 returns c =
     let s = c .before .before .before .before in
     record {
-      shown = λ k m. shown-is (c0At (s .args .coefs) k) (c1At (s .args .coefs) k) _ (s .pre .0 .pair k m) (first-small s k) (s .args .history) (s .args .samples) (fit-history s) (fit-samples s) _ (lane-is c k m);
-      tells = λ k m. tells-is (c0At (s .args .coefs) k) (c1At (s .args .coefs) k) _ (s .pre .0 .pair k m) (first-small s k) (s .args .history) (s .args .samples) (fit-history s) (fit-samples s) _ (lane-is c k m);
+      shown = λ k m. shown-is (c0At (s .args .coefficients) k) (c1At (s .args .coefficients) k) _ (s .pre .0 .pair k m) (first-small s k) (s .args .history) (s .args .samples)
+          (fit-history s) (fit-samples s) _ (lane-is c k m);
+      tells = λ k m. tells-is (c0At (s .args .coefficients) k) (c1At (s .args .coefficients) k) _ (s .pre .0 .pair k m) (first-small s k) (s .args .history) (s .args .samples)
+          (fit-history s) (fit-samples s) _ (lane-is c k m);
     }
 
 pub lanes-at-spec : {M : Type 1} → statement M

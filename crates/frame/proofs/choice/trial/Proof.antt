@@ -9,10 +9,10 @@ use lib.ListN.{getD}
 use mir.Syntax.{w16}
 use mir.Val.{SFits}
 use mir.Facts.{toZ-ofZ}
-use Rattle.frame.specs.declared.search.Seen.{Seen}
+use Rattle.frame.specs.declared.search.Figures.{Figures}
 use Rattle.frame.specs.Estimate.{firstExponent}
 use Rattle.frame.specs.Choice.{c0At, c1At, candidateAt}
-use Rattle.frame.specs.Lanes.{Tells, laneAt, seenOf, candidateOf}
+use Rattle.frame.specs.inner.Lanes.{Tells, laneAt, figuresAt, candidateOf}
 use Rattle.frame.proofs.LawsEstimate.{first-le}
 use Rattle.frame.proofs.LawsLanes.{tells-at}
 use Rattle.frame.proofs.choice.trial.Statement.{statement}
@@ -58,14 +58,14 @@ array-copy-out-c1 c = search needs
 array-read-p : tie.Need-array-read-p
 array-read-p c = search needs
 
-seen-requires : tie.Need-seen-requires
-seen-requires c κs = let s = c .before .before in (s .pre .1 .1 .1 .1, (omega (arith, first-small s), s .pre .1 .1 .0 .shown (s .args .k) (s .pre .1 .1 .1 .1)))
+figures-at-requires : tie.Need-figures-at-requires
+figures-at-requires c κs = let s = c .before .before in (s .pre .1 .1 .1 .1, (omega (arith, first-small s), s .pre .1 .1 .0 .shown (s .args .k) (s .pre .1 .1 .1 .1)))
 
-add-seen : tie.Need-add-seen
-add-seen c = omega (arith, first-small (c .before .before .before))
+add-figures-at : tie.Need-add-figures-at
+add-figures-at c = omega (arith, first-small (c .before .before .before))
 
-seen-requires-2 : tie.Need-seen-requires-2
-seen-requires-2 c κs = let s = c .before .before .before in (s .pre .1 .1 .1 .1, (omega (arith, first-small s), s .pre .1 .1 .1 .0 .shown (s .args .k) (s .pre .1 .1 .1 .1)))
+figures-at-requires-2 : tie.Need-figures-at-requires-2
+figures-at-requires-2 c κs = let s = c .before .before .before in (s .pre .1 .1 .1 .1, (omega (arith, first-small s), s .pre .1 .1 .1 .0 .shown (s .args .k) (s .pre .1 .1 .1 .1)))
 
 try-coefficients-requires : tie.Need-try-coefficients-requires
 try-coefficients-requires c κs =
@@ -77,8 +77,8 @@ try-coefficients-requires c κs =
       (
         first-is s,
         (
-          tells-at (laneAt (s .args .known) k) (first-is s ∙ sym (add-zero (first s))) (c .before .seen .ensures) (s .pre .1 .1 .0 .tells k m),
-          tells-at (laneAt (s .args .next) k) (ap (λ (p : ℕ). p + 1) (first-is s)) (c .seen2 .ensures) (s .pre .1 .1 .1 .0 .tells k m),
+          tells-at (laneAt (s .args .known) k) (first-is s ∙ sym (add-zero (first s))) (c .before .figures-at .ensures) (s .pre .1 .1 .0 .tells k m),
+          tells-at (laneAt (s .args .next) k) (ap (λ (p : ℕ). p + 1) (first-is s)) (c .figures-at2 .ensures) (s .pre .1 .1 .1 .0 .tells k m),
         ),
       ),
     )
@@ -99,8 +99,8 @@ trial-spec =
     mul-c1-2
     array-copy-out-c1
     array-read-p
-    seen-requires
-    add-seen
-    seen-requires-2
+    figures-at-requires
+    add-figures-at
+    figures-at-requires-2
     try-coefficients-requires
     returns)

@@ -1,3 +1,4 @@
+-- `is_small` meets its contract.
 use mathlib.Core.Path.{_≡_, refl, sym, ap, _∙_}
 use mir.Facts.{toZ-ofZ}
 use Rattle.frame.specs.Estimate.{isSmall}

@@ -7,7 +7,7 @@ use lib.ListN.{length, getD, drop}
 use mir.Syntax.{w16}
 use mir.Val.{SFits, toZ, ofZ}
 use mir.Facts.{toZ-ofZ}
-use Rattle.frame.specs.Estimate.{difference, isLowest, larger, look, estimate}
+use Rattle.frame.specs.Estimate.{difference, isLowest, largerMagnitude, look, largestDifference}
 use Rattle.frame.proofs.LawsEstimate.{look-more, look-low, look-end}
 use Rattle.frame.proofs.estimate.largest_difference.Statement.{statement}
 use Rattle.frame.proofs.estimate.largest_difference.Tie as tie
@@ -16,7 +16,8 @@ abbrev Inv-loop : tie.InvT-loop
 Inv-loop c0 c1 samples largest₀ previous₀ before₀ i₀ largest previous before i =
     (i ≤ 14)
     × SFits w16 (toZ w16 largest)
-    × (look (toZ w16 c0) (toZ w16 c1) samples (14 - i) i (toZ w16 largest) (toZ w16 previous) (toZ w16 before) ≡ look (toZ w16 c0) (toZ w16 c1) samples 14 0 (pos 0) (toZ w16 previous₀) (toZ w16 before₀))
+    × (look (toZ w16 c0) (toZ w16 c1) samples (14 - i) i (toZ w16 largest) (toZ w16 previous) (toZ w16 before)
+    ≡ look (toZ w16 c0) (toZ w16 c1) samples 14 0 (pos 0) (toZ w16 previous₀) (toZ w16 before₀))
 
 abbrev μ-loop : tie.MeasureT-loop
 μ-loop c0 c1 samples largest₀ previous₀ before₀ i₀ largest previous before i = 14 - i
@@ -30,22 +31,25 @@ mul-x c = omega arith
 array-copy-out-x : tie.Need-array-copy-out-x Inv-loop μ-loop
 array-copy-out-x c = omega arith
 
-differ-requires : tie.Need-differ-requires Inv-loop μ-loop
-differ-requires c κs = tt
+difference-requires : tie.Need-difference-requires Inv-loop μ-loop
+difference-requires c κs = tt
 
 x-fits : (c : tie.After-x Inv-loop μ-loop) → SFits w16 (getD (c .before .before .before .before .before .args .t4) (c .before .before .loop .i) (pos 0))
 x-fits c = record { sfits = c .x .given }
 
 -- the difference at the place reached, as the definition has it
-d-is : (c : tie.After-differ Inv-loop μ-loop) → c .differ .result ≡ difference (toZ w16 (ofZ w16 (c .before .before .before .before .before .before .args .c0))) (toZ w16 (ofZ w16 (c .before .before .before .before .before .before .args .c1))) (toZ w16 (c .before .before .before .loop .previous)) (toZ w16 (c .before .before .before .loop .before)) (getD (c .before .before .before .before .before .before .args .t4) (c .before .before .before .loop .i) (pos 0))
-d-is c = rw (toZ-ofZ (x-fits (c .before))) at (c .differ .ensures)
+d-is : (c : tie.After-difference Inv-loop μ-loop) → let s = c .before .before .before .before .before .before in let l = c .before .before .before in c .difference .result
+    ≡ difference (toZ w16 (ofZ w16 (s .args .c0))) (toZ w16 (ofZ w16 (s .args .c1))) (toZ w16 (l .loop .previous)) (toZ w16 (l .loop .before)) (getD (s .args .t4) (l .loop .i) (pos 0))
+d-is c = rw (toZ-ofZ (x-fits (c .before))) at (c .difference .ensures)
 
-d-fits : (c : tie.After-differ Inv-loop μ-loop) → SFits w16 (c .differ .result)
-d-fits c = record { sfits = c .differ .ok }
+d-fits : (c : tie.After-difference Inv-loop μ-loop) → SFits w16 (c .difference .result)
+d-fits c = record { sfits = c .difference .ok }
 
 -- what the definition gives, of the parameters' own values
-whole-is : (c : tie.After-struct-told2 Inv-loop μ-loop) → let s = c .before .before .args in look (toZ w16 (ofZ w16 (s .c0))) (toZ w16 (ofZ w16 (s .c1))) (s .t4) 14 0 (pos 0) (toZ w16 (ofZ w16 (s .history .newest))) (toZ w16 (ofZ w16 (s .history .older))) ≡ estimate (s .c0) (s .c1) (s .history) (s .t4)
-unfolding estimate
+whole-is : (c : tie.After-struct-told2 Inv-loop μ-loop) → let s = c .before .before .args in
+    look (toZ w16 (ofZ w16 (s .c0))) (toZ w16 (ofZ w16 (s .c1))) (s .t4) 14 0 (pos 0) (toZ w16 (ofZ w16 (s .history .newest)))
+    (toZ w16 (ofZ w16 (s .history .older))) ≡ largestDifference (s .c0) (s .c1) (s .history) (s .t4)
+unfolding largestDifference
 whole-is c =
     let f = c .before .before .fits in
     let h = c .before .before .args .history in
@@ -61,8 +65,8 @@ returns c =
     let t = rw (toZ-ofZ (d-fits a), d-is a) at (c .if1 .taken) in
     rw (toZ-ofZ (d-fits a), d-is a) (look-low _ _ _ _ _ _ _ _ (omega arith) (l .loop .inv .2) t ∙ whole-is (l .before))
 
-larger-of-requires : tie.Need-larger-of-requires Inv-loop μ-loop
-larger-of-requires c κs = tt
+larger-magnitude-requires : tie.Need-larger-magnitude-requires Inv-loop μ-loop
+larger-magnitude-requires c κs = tt
 
 add-i : tie.Need-add-i Inv-loop μ-loop
 add-i c = omega arith
@@ -76,9 +80,9 @@ loop-again c =
     let a = c .before .before in
     let l = a .before .before .before in
     let inv = l .loop .inv in
-    let r : SFits w16 (c .larger-of .result) = record { sfits = c .larger-of .ok } in
+    let r : SFits w16 (c .larger-magnitude .result) = record { sfits = c .larger-magnitude .ok } in
     let t = rw (toZ-ofZ (d-fits a), d-is a) at (c .before .if1 .left) in
-    let m = rw (toZ-ofZ (d-fits a), d-is a) at (c .larger-of .ensures) in (
+    let m = rw (toZ-ofZ (d-fits a), d-is a) at (c .larger-magnitude .ensures) in (
       omega arith,
       rw (toZ-ofZ r) r,
       rw (toZ-ofZ r, m, toZ-ofZ (x-fits (a .before))) (look-more _ _ _ _ _ _ _ _ (omega arith) (inv .2) t),
@@ -96,9 +100,9 @@ largest-difference-spec =
     loop-holds
     mul-x
     array-copy-out-x
-    differ-requires
+    difference-requires
     returns
-    larger-of-requires
+    larger-magnitude-requires
     add-i
     loop-less
     loop-again

@@ -1,6 +1,7 @@
+-- `weigh` meets its contract: no product overflows.
 use mir.Syntax.{w64}
 use Rattle.whole.proofs.Values.{Is, is-16, is-in, is-mul, chk-mul, is-add, chk-add, chk-cast}
-use Rattle.frame.specs.Estimate.{weighted}
+use Rattle.frame.specs.Estimate.{weigh}
 use Rattle.frame.proofs.estimate.weigh.Statement.{statement}
 use Rattle.frame.proofs.estimate.weigh.Tie as tie
 
@@ -26,7 +27,7 @@ add-result : tie.Need-add-result
 add-result c = let f = c .fits in chk-add (is-mul (is-16 (f .c0)) (is-16 (f .previous)) tt) (is-mul (is-16 (f .c1)) (is-16 (f .before)) tt) tt
 
 returns : tie.Need-returns
-unfolding weighted
+unfolding weigh
 returns c = let f = c .fits in is-add (is-mul (is-16 (f .c0)) (is-16 (f .previous)) tt) (is-mul (is-16 (f .c1)) (is-16 (f .before)) tt) tt .is
 
 pub weigh-spec : {M : Type 1} → statement M

@@ -1,7 +1,7 @@
 -- `is_big` meets its contract: beyond either end.
 use mathlib.Core.Path.{_≡_, refl}
 use mir.Facts.{toZ-ofZ}
-use Rattle.frame.specs.Lanes.{isBig}
+use Rattle.frame.specs.inner.Lanes.{isBig}
 use Rattle.frame.proofs.lane.is_big.Statement.{statement}
 use Rattle.frame.proofs.lane.is_big.Tie as tie
 

@@ -2,7 +2,7 @@
 use borrow.Author.Needs.{needs}
 use mathlib.Core.Path.{_≡_, sym, _∙_}
 use mir.Facts.{toZ-ofZ}
-use Rattle.frame.specs.Lanes.{isBig}
+use Rattle.frame.specs.inner.Lanes.{isBig}
 use Rattle.frame.proofs.lane.is_unsure.Statement.{statement}
 use Rattle.frame.proofs.lane.is_unsure.Tie as tie
 

@@ -6,7 +6,7 @@ use native.Mathlib.Nat.{mul-le-mul}
 use native.Mathlib.Omega.{arith}
 use lib.IntN.{ℤ, natAbs, _-ℤ_}
 use mir.Facts.{toZ-ofZ}
-use Rattle.frame.specs.Pass.{squareOf}
+use Rattle.frame.specs.Pass.{squaredDifference}
 use Rattle.frame.proofs.lane.square_32.Statement.{statement}
 use Rattle.frame.proofs.lane.square_32.Tie as tie
 
@@ -23,7 +23,7 @@ mul-result c =
     omega arith
 
 returns : tie.Need-returns
-unfolding squareOf
+unfolding squaredDifference
 returns c = rw (d-is c)
 
 pub square-32-spec : {M : Type 1} → statement M

@@ -9,13 +9,13 @@ use mir.Syntax.{w16, w32}
 use mir.Val.{SFits, toZ, ofZ}
 use mir.Facts.{toZ-ofZ}
 use Rattle.whole.specs.Whole.{clamp16, floored}
-use Rattle.whole.proofs.Laws.{clamp-fits}
+use Rattle.whole.proofs.Clamping.{clamp-fits}
 use Rattle.whole.proofs.Values.{Is, is-in, is-cast, chk-cast, is-lit, is-call, is-mul, chk-mul, is-add, chk-add, is-sub, chk-sub, is-shr, is-size, is-eq, sfits-abs}
-use Rattle.frame.specs.Estimate.{weighted, maxZ}
+use Rattle.frame.specs.Estimate.{weigh, maxZ}
 use Rattle.frame.specs.Quantise.{clamp4}
-use Rattle.frame.specs.Pass.{residual, squareOf}
-use Rattle.frame.specs.Lanes.{Room, finer, tracked, laneNext}
-use Rattle.frame.proofs.LawsLane.{weighted-le, finer-size, part-size, apart-16}
+use Rattle.frame.specs.Pass.{residual, squaredDifference}
+use Rattle.frame.specs.inner.Lanes.{LaneRoom, finer, track, stepLane}
+use Rattle.frame.proofs.LawsLane.{weigh-le, finer-size, part-size, apart-16}
 use Rattle.frame.proofs.lane.step_lane.Statement.{statement}
 use Rattle.frame.proofs.lane.step_lane.Tie as tie
 
@@ -27,7 +27,7 @@ s1-fits : (s : tie.Start) → SFits w32 (s .args .lane .s1)
 s1-fits s = sfits-abs (s .pre .1 .1 .s1-le) tt
 
 abbrev sum : tie.Start → ℤ
-sum s = weighted (s .args .c0) (s .args .c1) (s .args .lane .s0) (s .args .lane .s1)
+sum s = weigh (s .args .c0) (s .args .c1) (s .args .lane .s0) (s .args .lane .s1)
 
 abbrev whole : tie.Start → ℤ
 whole s = residual (s .args .c0) (s .args .c1) (s .args .lane .s0) (s .args .lane .s1) (s .args .x)
@@ -42,24 +42,29 @@ q-is : (c : tie.After-weigh-32) → Is w32 (ofZ w32 (c .weigh-32 .result)) (sum 
 q-is c =
     let s = c .before .before .before in
     let f = s .fits in
-    is-call (rw (toZ-ofZ (f .c0), toZ-ofZ (f .c1), toZ-ofZ (s0-fits s), toZ-ofZ (s1-fits s)) at (c .weigh-32 .ensures)) (weighted-le (s .args .c0) (s .args .c1) (s .args .lane .s0) (s .args .lane .s1) (s .pre .0) (s .pre .1 .1 .s0-le) (s .pre .1 .1 .s1-le)) tt
+    is-call (rw (toZ-ofZ (f .c0), toZ-ofZ (f .c1), toZ-ofZ (s0-fits s), toZ-ofZ (s1-fits s)) at (c .weigh-32 .ensures))
+    (weigh-le (s .args .c0) (s .args .c1) (s .args .lane .s0) (s .args .lane .s1) (s .pre .0) (s .pre .1 .1 .s0-le) (s .pre .1 .1 .s1-le)) tt
 
-d-is : (c : tie.After-weigh-32) → Is w32 (ofZ w32 (toZ w32 (ofZ w32 (pos 2048 *ℤ toZ w32 (ofZ w32 (toZ w16 (ofZ w16 (c .before .before .before .args .x)))))) -ℤ toZ w32 (ofZ w32 (c .weigh-32 .result)))) (whole (c .before .before .before)) 2080374784
+d-is : (c : tie.After-weigh-32) → let s = c .before .before .before in
+    Is w32 (ofZ w32 (toZ w32 (ofZ w32 (pos 2048 *ℤ toZ w32 (ofZ w32 (toZ w16 (ofZ w16 (s .args .x)))))) -ℤ toZ w32 (ofZ w32 (c .weigh-32 .result)))) (whole s) 2080374784
 unfolding residual
 d-is c = is-sub (is-mul (is-lit w32 2048 tt) (x-is (c .before .before .before)) tt) (q-is c) tt
 
-v-is : (c : tie.After-finer-of) → Is w32 (ofZ w32 (c .finer-of .result)) (finer (whole (c .before .before .before .before)) (c .before .before .before .before .args .u)) 2097152
+v-is : (c : tie.After-finer) → Is w32 (ofZ w32 (c .finer .result)) (finer (whole (c .before .before .before .before)) (c .before .before .before .before .args .u)) 2097152
 v-is c =
     let s = c .before .before .before .before in
     let d = d-is (c .before) in
-    is-call (c .finer-of .ensures ∙ ap₂ finer (d .is) (toZ-ofZ (s .fits .u))) (finer-size (whole s) (s .args .u) (s .pre .1 .0) (d .size)) tt
+    is-call (c .finer .ensures ∙ ap₂ finer (d .is) (toZ-ofZ (s .fits .u))) (finer-size (whole s) (s .args .u) (s .pre .1 .0) (d .size)) tt
 
-part : (c : tie.After-nibble-part) → Is w32 (ofZ w32 (c .nibble-part .result)) (clamp4 (floored (finer (whole (c .before .before .before .before .before)) (c .before .before .before .before .before .args .u)) (natAbs (c .before .before .before .before .before .args .u))) *ℤ c .before .before .before .before .before .args .u) 32768
+part : (c : tie.After-nibble-part) → let s = c .before .before .before .before .before in
+    Is w32 (ofZ w32 (c .nibble-part .result)) (clamp4 (floored (finer (whole s) (s .args .u)) (natAbs (s .args .u))) *ℤ s .args .u) 32768
 part c =
     let s = c .before .before .before .before .before in
-    is-call (c .nibble-part .ensures ∙ ap₂ (λ (a b : ℤ). clamp4 (floored a (natAbs b)) *ℤ b) (v-is (c .before) .is) (toZ-ofZ (s .fits .u))) (part-size (finer (whole s) (s .args .u)) (s .args .u) (s .pre .1 .0)) tt
+    is-call (c .nibble-part .ensures ∙ ap₂ (λ (a b : ℤ). clamp4 (floored a (natAbs b)) *ℤ b) (v-is (c .before) .is) (toZ-ofZ (s .fits .u)))
+    (part-size (finer (whole s) (s .args .u)) (s .args .u) (s .pre .1 .0)) tt
 
-base : (c : tie.After-weigh-32) → Is w32 (ofZ w32 (shrZ (toZ w32 (ofZ w32 (toZ w32 (ofZ w32 (c .weigh-32 .result)) +ℤ pos 1024))) 2048)) (floored (sum (c .before .before .before) +ℤ pos 1024) 2048) 2013266944
+base : (c : tie.After-weigh-32) → Is w32 (ofZ w32 (shrZ (toZ w32 (ofZ w32 (toZ w32 (ofZ w32 (c .weigh-32 .result)) +ℤ pos 1024))) 2048))
+    (floored (sum (c .before .before .before) +ℤ pos 1024) 2048) 2013266944
 base c = is-shr (is-add (q-is c) (is-lit w32 1024 tt) tt) 2048 tt
 
 sample : (c : tie.After-clamp-32) → c .clamp-32 .result ≡ made (c .before .before .before .before .before .before)
@@ -82,8 +87,8 @@ mul-d c = chk-mul (is-lit w32 2048 tt) (x-is (c .before .before .before)) tt
 sub-d : tie.Need-sub-d
 sub-d c = chk-sub (is-mul (is-lit w32 2048 tt) (x-is (c .before .before .before)) tt) (q-is c) tt
 
-finer-of-requires : tie.Need-finer-of-requires
-finer-of-requires c κs = let s = c .before .before .before in (is-size (d-is c), rw (toZ-ofZ (s .fits .u)) (s .pre .1 .0))
+finer-requires : tie.Need-finer-requires
+finer-requires c κs = let s = c .before .before .before in (is-size (d-is c), rw (toZ-ofZ (s .fits .u)) (s .pre .1 .0))
 
 add-clamp-32 : tie.Need-add-clamp-32
 add-clamp-32 c = chk-add (q-is (c .before)) (is-lit w32 1024 tt) tt
@@ -114,22 +119,23 @@ add-t18 c = search needs
 add-t20 : tie.Need-add-t20
 add-t20 c = search needs
 
-square-is : (c : tie.After-square-32) → c .square-32 .result ≡ squareOf (c .before .before .before .before .before .before .before .args .x) (made (c .before .before .before .before .before .before .before))
-square-is c = c .square-32 .ensures ∙ ap₂ squareOf (x-is (c .before .before .before .before .before .before .before) .is) (sample-is (c .before))
+square-is : (c : tie.After-square-32) → let s = c .before .before .before .before .before .before .before in c .square-32 .result ≡ squaredDifference (s .args .x) (made s)
+square-is c = c .square-32 .ensures ∙ ap₂ squaredDifference (x-is (c .before .before .before .before .before .before .before) .is) (sample-is (c .before))
 
-track-is : (c : tie.After-track) → c .track .result ≡ tracked (whole (c .before .before .before .before .before .before .before .before)) (finer (whole (c .before .before .before .before .before .before .before .before)) (c .before .before .before .before .before .before .before .before .args .u)) (c .before .before .before .before .before .before .before .before .args .u)
+track-is : (c : tie.After-track) → let s = c .before .before .before .before .before .before .before .before in c .track .result ≡ track (whole s) (finer (whole s) (s .args .u)) (s .args .u)
 track-is c =
     let f = c .before .before .before .before in
     rw (d-is (f .before) .is, v-is f .is, toZ-ofZ (f .before .before .before .before .fits .u)) at (c .track .ensures)
 
-top-is : (c : tie.After-larger-32) → toZ w32 (ofZ w32 (c .larger-32 .result)) ≡ maxZ (c .before .before .before .before .before .before .before .before .before .before .args .lane .top) (tracked (whole (c .before .before .before .before .before .before .before .before .before .before)) (finer (whole (c .before .before .before .before .before .before .before .before .before .before)) (c .before .before .before .before .before .before .before .before .before .before .args .u)) (c .before .before .before .before .before .before .before .before .before .before .args .u))
+top-is : (c : tie.After-larger-32) → let s = c .before .before .before .before .before .before .before .before .before .before in
+    toZ w32 (ofZ w32 (c .larger-32 .result)) ≡ maxZ (s .args .lane .top) (track (whole s) (finer (whole s) (s .args .u)) (s .args .u))
 top-is c =
     toZ-ofZ (record { sfits = c .larger-32 .ok })
     ∙ c .larger-32 .ensures
     ∙ ap₂ maxZ (toZ-ofZ (record { sfits = c .before .struct-told3 .given .1 .1 .0 .1 })) (toZ-ofZ (record { sfits = c .before .before .track .ok }) ∙ track-is (c .before .before))
 
 returns : tie.Need-returns
-unfolding laneNext
+unfolding stepLane
 returns c =
     let a = c .before .before .before in
     let s = a .before .before .before .before .before .before .before .before .before .before in
@@ -143,7 +149,7 @@ step-lane-spec =
     cast-wide
     mul-d
     sub-d
-    finer-of-requires
+    finer-requires
     add-clamp-32
     nibble-part-requires
     add-clamp-32-2

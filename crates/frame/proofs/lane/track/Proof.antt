@@ -11,7 +11,7 @@ use mir.Syntax.{w32}
 use mir.Val.{toZ, ofZ}
 use mir.Facts.{toZ-ofZ}
 use Rattle.whole.proofs.Values.{is-call}
-use Rattle.frame.specs.Lanes.{isBig, isNear, tracked}
+use Rattle.frame.specs.inner.Lanes.{isBig, isNear, track}
 use Rattle.frame.proofs.LawsLane.{fits-call, mag-below, mag-above, mag-le}
 use Rattle.frame.proofs.lane.track.Statement.{statement}
 use Rattle.frame.proofs.lane.track.Tie as tie
@@ -31,18 +31,18 @@ is-unsure-requires : tie.Need-is-unsure-requires
 is-unsure-requires c κs = rw (toZ-ofZ (c .fits .v), toZ-ofZ (c .fits .u)) (c .pre)
 
 returns : tie.Need-returns
-unfolding tracked
+unfolding track
 returns c = rw (sym (unsure-is (c .before)) ∙ c .if1 .taken)
 
 sub-result : tie.Need-sub-result
 sub-result c = fits-call (below c) (small c) tt
 
 returns-2 : tie.Need-returns-2
-unfolding tracked
+unfolding track
 returns-2 c = rw (sym (unsure-is (c .before .before)) ∙ c .before .if1 .left) (is-call {w = w32} (below c) (small c) tt .is)
 
 returns-3 : tie.Need-returns-3
-unfolding tracked
+unfolding track
 returns-3 c =
     let s = c .before .before .before in
     rw (sym (unsure-is (c .before .before)) ∙ c .before .if1 .left, toZ-ofZ (s .fits .v)) (mag-above (s .args .v) (rw (toZ-ofZ (s .fits .v)) at (c .if2 .left)))

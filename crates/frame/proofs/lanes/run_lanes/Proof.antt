@@ -11,8 +11,9 @@ use mir.Val.{SFits, toZ, ofZ}
 use mir.Facts.{toZ-ofZ}
 use Rattle.frame.specs.declared.lane.Lane.{Lane}
 use Rattle.frame.specs.declared.lanes.Lanes.{Lanes}
-use Rattle.frame.specs.Lanes.{Room, laneAt, laneAfter, laneFrom, laneNext}
-use Rattle.frame.proofs.LawsArrays.{Fit, array-fits}
+use Rattle.frame.specs.inner.Lanes.{LaneRoom, laneAt, laneAfter, laneFrom, stepLane}
+use Rattle.frame.proofs.LawsArrays.{array-fits}
+use Rattle.frame.specs.Fits.{Fit}
 use Rattle.frame.proofs.LawsLanes.{room-from, room-is, from-more}
 use Rattle.frame.proofs.lanes.run_lanes.Statement.{statement}
 use Rattle.frame.proofs.lanes.run_lanes.Tie as tie
@@ -43,7 +44,7 @@ step-lanes-requires : tie.Need-step-lanes-requires Inv-loop μ-loop
 step-lanes-requires c κs =
     let l = c .before .before in
     let s = l .before in
-    (s .pre .0, λ k m. subst Room (sym (l .loop .inv .1 k m)) (room-is (l .loop .i) _ (l .loop .inv .0) (room-from _ _ _ _ _ (l .loop .i) (l .loop .inv .0) (fit-samples s) (s .pre .1 k m))))
+    (s .pre .0, λ k m. subst LaneRoom (sym (l .loop .inv .1 k m)) (room-is (l .loop .i) _ (l .loop .inv .0) (room-from _ _ _ _ _ (l .loop .i) (l .loop .inv .0) (fit-samples s) (s .pre .1 k m))))
 
 add-i : tie.Need-add-i Inv-loop μ-loop
 add-i c = omega arith

@@ -8,26 +8,24 @@ use mir.Syntax.{w16, w32}
 use mir.Val.{SFits, toZ, ofZ}
 use Rattle.whole.proofs.Values.{is-in, is-cast, chk-cast}
 use Rattle.frame.specs.Choice.{c0At, c1At}
+use Rattle.frame.proofs.LawsOrder.{none-below}
 use Rattle.frame.proofs.LawsLanes.{filled-more}
 use Rattle.frame.proofs.lanes.split.Statement.{statement}
 use Rattle.frame.proofs.lanes.split.Tie as tie
 
 abbrev Inv-loop : tie.InvT-loop
-Inv-loop coefs c0₀ c1₀ k₀ c0 c1 k =
+Inv-loop coefficients c0₀ c1₀ k₀ c0 c1 k =
     (k ≤ 8)
     × (length c0 ≡ 8)
     × (length c1 ≡ 8)
-    × ((j : ℕ) → j < k → getD c0 j (pos 0) ≡ c0At coefs j)
-    × ((j : ℕ) → j < k → getD c1 j (pos 0) ≡ c1At coefs j)
+    × ((j : ℕ) → j < k → getD c0 j (pos 0) ≡ c0At coefficients j)
+    × ((j : ℕ) → j < k → getD c1 j (pos 0) ≡ c1At coefficients j)
 
 abbrev μ-loop : tie.MeasureT-loop
-μ-loop coefs c0₀ c1₀ k₀ c0 c1 k = 8 - k
-
-never : (j : ℕ) → j < 0 → ⊥
-never j m = omega arith
+μ-loop coefficients c0₀ c1₀ k₀ c0 c1 k = 8 - k
 
 loop-holds : tie.Need-loop-holds Inv-loop μ-loop
-loop-holds c = (omega arith, refl, refl, λ j m. absurd (never j m), λ j m. absurd (never j m))
+loop-holds c = (omega arith, refl, refl, λ j m. absurd (none-below j m), λ j m. absurd (none-below j m))
 
 a-fits : (c : tie.After-a Inv-loop μ-loop) → SFits w16 (c0At (c .before .before .before .args .t1) (c .before .before .loop .k))
 a-fits c = record { sfits = c .a .given }

@@ -7,6 +7,7 @@ use lib.IntN.{ℤ, pos}
 use lib.ListN.{length, getD, set, length-set}
 use mir.Syntax.{w32}
 use Rattle.whole.proofs.Values.{is-one-shl}
+use Rattle.frame.proofs.LawsOrder.{none-below}
 use Rattle.frame.proofs.LawsLanes.{filled-more}
 use Rattle.frame.proofs.lanes.units_of.Statement.{statement}
 use Rattle.frame.proofs.lanes.units_of.Tie as tie
@@ -17,11 +18,8 @@ Inv-loop more firsts u₀ k₀ u k = (k ≤ 8) × (length u ≡ 8) × ((j : ℕ)
 abbrev μ-loop : tie.MeasureT-loop
 μ-loop more firsts u₀ k₀ u k = 8 - k
 
-never : (j : ℕ) → j < 0 → ⊥
-never j m = omega arith
-
 loop-holds : tie.Need-loop-holds Inv-loop μ-loop
-loop-holds c = (omega arith, refl, λ j m. absurd (never j m))
+loop-holds c = (omega arith, refl, λ j m. absurd (none-below j m))
 
 -- the exponent of a turn is at most 12
 most : (c : tie.In-loop Inv-loop μ-loop) → getD (c .before .before .args .t1) (c .before .loop .k) 0 + c .before .before .args .more ≤ 12
@@ -58,7 +56,8 @@ loop-again c =
     let inv = l .loop .inv in (
       omega arith,
       simp length-set (inv .1),
-      filled-more (λ (j : ℕ). pos (2 ^ (getD (s .t1) j 0 + s .more))) (pos 0) (l .loop .u) (l .loop .k) _ (omega arith) (is-one-shl w32 (getD (s .t1) (l .loop .k) 0 + s .more) 12 (most c) tt .is) (inv .2),
+      filled-more (λ (j : ℕ). pos (2 ^ (getD (s .t1) j 0 + s .more))) (pos 0) (l .loop .u) (l .loop .k) _ (omega arith)
+          (is-one-shl w32 (getD (s .t1) (l .loop .k) 0 + s .more) 12 (most c) tt .is) (inv .2),
     )
 
 returns : tie.Need-returns Inv-loop μ-loop

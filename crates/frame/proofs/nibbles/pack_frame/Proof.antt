@@ -9,13 +9,14 @@ use lib.ListN.{length, getD, take, set, length-set}
 use mir.Syntax.{w8}
 use mir.Val.{SFits, toZ, ofZ}
 use mir.Facts.{toZ-ofZ}
-use Rattle.frame.specs.Frame.{low4, byteOf, packed, InNibble}
+use Rattle.frame.specs.Frame.{lowFour, byteOf, packFrame}
+use Rattle.frame.specs.inner.Nibbles.{InNibble}
 use Rattle.frame.proofs.LawsNibbles.{pack-more}
 use Rattle.frame.proofs.nibbles.pack_frame.Statement.{statement}
 use Rattle.frame.proofs.nibbles.pack_frame.Tie as tie
 
 abbrev Inv-loop : tie.InvT-loop
-Inv-loop header nibbles out₀ k₀ out k = (k ≤ 7) × (length out ≡ 8) × (take (k + 1) out ≡ packed header nibbles k)
+Inv-loop header nibbles out₀ k₀ out k = (k ≤ 7) × (length out ≡ 8) × (take (k + 1) out ≡ packFrame header nibbles k)
 
 abbrev μ-loop : tie.MeasureT-loop
 μ-loop header nibbles out₀ k₀ out k = 7 - k
@@ -24,7 +25,7 @@ array-write-out : tie.Need-array-write-out Inv-loop μ-loop
 array-write-out c = omega arith
 
 loop-holds : tie.Need-loop-holds Inv-loop μ-loop
-unfolding packed
+unfolding packFrame
 loop-holds c = (omega arith, refl, refl)
 
 mul-a : tie.Need-mul-a Inv-loop μ-loop

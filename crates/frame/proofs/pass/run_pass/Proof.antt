@@ -1,4 +1,4 @@
--- `run_pass` meets its contract. The invariant: what is held after i samples is what the definition has after i.
+-- `run_pass` meets its contract. The invariant: what is carried after i samples is what the definition has after i.
 use mathlib.Core.Path.{_≡_, refl, sym, ap, _∙_}
 use Prim.Native.Nat.{ℕ, _+_, _-_, _*_, _<_, _≤_}
 use native.Mathlib.Omega.{arith}
@@ -7,10 +7,10 @@ use lib.IntN.{ℤ, pos}
 use mir.Syntax.{w8, w16}
 use mir.Val.{SFits, toZ, ofZ}
 use mir.Facts.{toZ-ofZ}
-use Rattle.frame.specs.declared.History.{History}
+use Rattle.whole.specs.declared.History.{History}
 use Rattle.frame.specs.declared.pass.Pass.{Pass}
-use Rattle.frame.specs.Pass.{upto, passOf, squareOf, stepOf}
-use Rattle.frame.proofs.LawsPass.{run, run-more, run-done, square-le}
+use Rattle.frame.specs.Pass.{upto, runPass, squaredDifference, codeSample}
+use Rattle.frame.proofs.LawsPass.{carried, carried-more, carried-done, squared-le}
 use Rattle.frame.proofs.pass.run_pass.Statement.{statement}
 use Rattle.frame.proofs.pass.run_pass.Tie as tie
 
@@ -23,7 +23,7 @@ Inv-loop c0 c1 p samples nibbles₀ kept₀ overflow₀ distance₀ s0₀ s1₀ 
     × (length nibbles ≡ 14)
     × (length kept ≡ 14)
     × (distance ≤ i * 4294967296)
-    × (upto (toZ w16 c0) (toZ w16 c1) (history s0₀ s1₀) samples p i ≡ run (toZ w16 s0) (toZ w16 s1) (take i nibbles) (take i kept) overflow distance)
+    × (upto (toZ w16 c0) (toZ w16 c1) (history s0₀ s1₀) samples p i ≡ carried (toZ w16 s0) (toZ w16 s1) (take i nibbles) (take i kept) overflow distance)
 
 abbrev μ-loop : tie.MeasureT-loop
 μ-loop c0 c1 p samples nibbles₀ kept₀ overflow₀ distance₀ s0₀ s1₀ i₀ nibbles kept overflow distance s0 s1 i = 14 - i
@@ -55,8 +55,8 @@ array-set-from-kept c = omega arith
 max-of-requires : tie.Need-max-of-requires Inv-loop μ-loop
 max-of-requires c κs = tt
 
-square-requires : tie.Need-square-requires Inv-loop μ-loop
-square-requires c κs = tt
+squared-difference-requires : tie.Need-squared-difference-requires Inv-loop μ-loop
+squared-difference-requires c κs = tt
 
 -- what is known of the values of a turn
 x-fits : (c : tie.After-x Inv-loop μ-loop) → SFits w16 (getD (c .before .before .before .before .before .args .t4) (c .before .before .loop .i) (pos 0))
@@ -68,11 +68,13 @@ nibble-fits c = record { sfits = c .struct-told3 .given .0 .1 }
 sample-fits : (c : tie.After-struct-told3 Inv-loop μ-loop) → SFits w16 (c .before .code-sample .result .sample)
 sample-fits c = record { sfits = c .struct-told3 .given .1 .0 .1 }
 
-square-is : (c : tie.After-square Inv-loop μ-loop) → c .square .result ≡ squareOf (getD (c .before .before .before .before .before .before .before .before .before .before .args .t4) (c .before .before .before .before .before .before .before .loop .i) (pos 0)) (c .before .before .before .before .code-sample .result .sample)
-square-is c = rw (toZ-ofZ (x-fits (c .before .before .before .before .before)), toZ-ofZ (sample-fits (c .before .before .before))) at (c .square .ensures)
+square-is : (c : tie.After-squared-difference Inv-loop μ-loop) → let l = c .before .before .before .before .before .before .before in let s = l .before .before .before in
+    c .squared-difference .result
+    ≡ squaredDifference (getD (s .args .t4) (l .loop .i) (pos 0)) (c .before .before .before .before .code-sample .result .sample)
+square-is c = rw (toZ-ofZ (x-fits (c .before .before .before .before .before)), toZ-ofZ (sample-fits (c .before .before .before))) at (c .squared-difference .ensures)
 
-square-small : (c : tie.After-square Inv-loop μ-loop) → c .square .result ≤ 4294967296
-square-small c = omega (arith, square-is c, square-le (x-fits (c .before .before .before .before .before)) (sample-fits (c .before .before .before)))
+square-small : (c : tie.After-squared-difference Inv-loop μ-loop) → c .squared-difference .result ≤ 4294967296
+square-small c = omega (arith, square-is c, squared-le (x-fits (c .before .before .before .before .before)) (sample-fits (c .before .before .before)))
 
 add-distance : tie.Need-add-distance Inv-loop μ-loop
 add-distance c = omega (arith, square-small c)
@@ -94,11 +96,11 @@ loop-again c =
       simp length-set (inv .2),
       omega (arith, square-small c),
       rw (toZ-ofZ sf, toZ-ofZ nf, c .before .max-of .ensures, square-is c)
-          (run-more _ _ _ _ _ _ _ _ _ _ _ _ _ (omega arith) (omega arith) (inv .4) (rw (toZ-ofZ xf) at (c .before .before .before .before .code-sample .ensures))),
+          (carried-more _ _ _ _ _ _ _ _ _ _ _ _ _ (omega arith) (omega arith) (inv .4) (rw (toZ-ofZ xf) at (c .before .before .before .before .code-sample .ensures))),
     )
 
 -- the history that the loop began with is the parameter
-began : (c : tie.After-struct-told2 Inv-loop μ-loop) → history (ofZ w16 (c .before .before .args .history .newest)) (ofZ w16 (c .before .before .args .history .older)) ≡ c .before .before .args .history
+began : (c : tie.After-struct-told2 Inv-loop μ-loop) → let s = c .before .before in history (ofZ w16 (s .args .history .newest)) (ofZ w16 (s .args .history .older)) ≡ s .args .history
 began c =
     let h = c .before .before .args .history in
     let n : SFits w16 (h .newest) = record { sfits = c .struct-told2 .given .0 .1 } in
@@ -110,8 +112,8 @@ returns c =
     let inv = c .before .loop .inv in
     let s = c .before .before .before .before in
     let f = s .fits in
-    rw (toZ-ofZ (f .c0), toZ-ofZ (f .c1)) at (run-done _ _ _ _ _ _ _ _ _ _ _ _ (omega arith) (inv .1) (inv .2) (inv .4))
-    ∙ ap (λ (h : History). passOf (s .args .c0) (s .args .c1) h (s .args .t4) (s .args .p)) (began (c .before .before))
+    rw (toZ-ofZ (f .c0), toZ-ofZ (f .c1)) at (carried-done _ _ _ _ _ _ _ _ _ _ _ _ (omega arith) (inv .1) (inv .2) (inv .4))
+    ∙ ap (λ (h : History). runPass (s .args .c0) (s .args .c1) h (s .args .t4) (s .args .p)) (began (c .before .before))
 
 pub run-pass-spec : {M : Type 1} → statement M
 run-pass-spec =
@@ -127,7 +129,7 @@ run-pass-spec =
     mul-kept
     array-set-from-kept
     max-of-requires
-    square-requires
+    squared-difference-requires
     add-distance
     add-i
     loop-less

@@ -7,8 +7,8 @@ use lib.IntN.{ℤ, natAbs}
 use mir.Syntax.{w64}
 use mir.Val.{toZ, ofZ}
 use mir.Facts.{toZ-ofZ}
-use Rattle.frame.specs.Quantise.{round24, scale, nearestDown, signed, quantised}
-use Rattle.frame.proofs.LawsQuantise.{round24-le, signed-size, signed-twice, scale-pos}
+use Rattle.frame.specs.Quantise.{round24, scale, nearestDown, withSign, quantise}
+use Rattle.frame.proofs.LawsQuantise.{round24-le, sign-size, sign-twice, scale-pos}
 use Rattle.frame.proofs.quantise.quantise.Statement.{statement}
 use Rattle.frame.proofs.quantise.quantise.Tie as tie
 
@@ -16,25 +16,25 @@ rounded-requires : tie.Need-rounded-requires
 rounded-requires c κs = search needs
 
 -- what was rounded, as the next call reads it
-value : (c : tie.After-rounded) → toZ w64 (ofZ w64 (c .rounded .result)) ≡ signed (c .before .args .d) (round24 (natAbs (c .before .args .d)))
+value : (c : tie.After-rounded) → toZ w64 (ofZ w64 (c .rounded .result)) ≡ withSign (c .before .args .d) (round24 (natAbs (c .before .args .d)))
 value c = toZ-ofZ (record { sfits = c .rounded .ok }) ∙ rw (toZ-ofZ (c .before .fits .d)) at (c .rounded .ensures)
 
 nearest-requires : tie.Need-nearest-requires
 nearest-requires c κs =
     let d = c .before .args .d in (
-      omega (arith, ap natAbs (value c), signed-size d (round24 (natAbs d)), round24-le (natAbs d) (c .before .pre .0)),
+      omega (arith, ap natAbs (value c), sign-size d (round24 (natAbs d)), round24-le (natAbs d) (c .before .pre .0)),
       c .before .pre .1,
     )
 
 returns : tie.Need-returns
-unfolding quantised
+unfolding quantise
 returns c =
     let s = c .before .before in
     let d = s .args .d in
     let m = round24 (natAbs d) in
     let e = rw (value (c .before)) at (c .nearest .ensures) in
     rw (toZ-ofZ (record { sfits = c .nearest .ok }))
-    (e ∙ ap (λ (n : ℕ). signed (signed d m) (nearestDown n (scale (s .args .p)))) (signed-size d m) ∙ signed-twice d m (scale (s .args .p)) (scale-pos (s .args .p)))
+    (e ∙ ap (λ (n : ℕ). withSign (withSign d m) (nearestDown n (scale (s .args .p)))) (sign-size d m) ∙ sign-twice d m (scale (s .args .p)) (scale-pos (s .args .p)))
 
 pub quantise-spec : {M : Type 1} → statement M
 quantise-spec = tie.close (tie.spec rounded-requires nearest-requires returns)

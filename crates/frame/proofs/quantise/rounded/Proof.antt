@@ -5,8 +5,8 @@ use Prim.Native.Nat.{ℕ, _≤_, _<_}
 use native.Mathlib.Omega.{arith}
 use lib.IntN.{natAbs}
 use mir.Facts.{toZ-ofZ}
-use Rattle.frame.specs.Quantise.{round24, signed}
-use Rattle.frame.proofs.LawsQuantise.{round-same, round24-le, signed-abs}
+use Rattle.frame.specs.Quantise.{round24, withSign}
+use Rattle.frame.proofs.LawsQuantise.{round-same, round24-le, sign-abs}
 use Rattle.frame.proofs.quantise.rounded.Statement.{statement}
 use Rattle.frame.proofs.quantise.rounded.Tie as tie
 
@@ -20,7 +20,7 @@ magnitude-requires c κs = search needs
 returns : tie.Need-returns
 returns c =
     let s = c .before .before in
-    rw (toZ-ofZ (s .fits .d)) (sym (signed-abs (s .args .d)) ∙ ap (signed (s .args .d)) (round-same (natAbs (s .args .d)) (omega (arith, size (c .before)))))
+    rw (toZ-ofZ (s .fits .d)) (sym (sign-abs (s .args .d)) ∙ ap (withSign (s .args .d)) (round-same (natAbs (s .args .d)) (omega (arith, size (c .before)))))
 
 round-24-requires : tie.Need-round-24-requires
 round-24-requires c κs = omega (arith, size (c .before))
@@ -35,7 +35,7 @@ returns-2 : tie.Need-returns-2
 returns-2 c =
     let s = c .before .before .before .before in
     rw (toZ-ofZ (record { sfits = c .with-sign .ok }))
-    (c .with-sign .ensures ∙ rw (toZ-ofZ (s .fits .d)) (ap (signed (s .args .d)) (rounded (c .before))))
+    (c .with-sign .ensures ∙ rw (toZ-ofZ (s .fits .d)) (ap (withSign (s .args .d)) (rounded (c .before))))
 
 pub rounded-spec : {M : Type 1} → statement M
 rounded-spec =

@@ -1,10 +1,11 @@
+-- `with_sign` meets its contract.
 use borrow.Author.Needs.{needs}
 use mathlib.Core.Path.{_≡_, _∙_}
 use native.Mathlib.Omega.{arith}
 use mir.Syntax.{w64}
 use mir.Facts.{toZ-ofZ}
 use Rattle.whole.proofs.Values.{Is, is-nat, is-lit, is-sub, chk-sub}
-use Rattle.frame.proofs.LawsQuantise.{signed-neg, signed-pos}
+use Rattle.frame.proofs.LawsQuantise.{sign-neg, sign-pos}
 use Rattle.frame.proofs.quantise.with_sign.Statement.{statement}
 use Rattle.frame.proofs.quantise.with_sign.Tie as tie
 
@@ -17,7 +18,7 @@ sub-result c = chk-sub (is-lit w64 0 tt) (is-nat w64 (c .before .args .n) 429496
 returns : tie.Need-returns
 returns c =
     is-sub (is-lit w64 0 tt) (is-nat w64 (c .before .args .n) 4294967296 (c .before .pre) tt) tt .is
-    ∙ signed-neg (c .before .args .z) (c .before .args .n) (rw (toZ-ofZ (c .before .fits .z)) at (c .if1 .taken))
+    ∙ sign-neg (c .before .args .z) (c .before .args .n) (rw (toZ-ofZ (c .before .fits .z)) at (c .if1 .taken))
 
 cast-result-2 : tie.Need-cast-result-2
 cast-result-2 c = search needs
@@ -25,7 +26,7 @@ cast-result-2 c = search needs
 returns-2 : tie.Need-returns-2
 returns-2 c =
     is-nat w64 (c .before .args .n) 4294967296 (c .before .pre) tt .is
-    ∙ signed-pos (c .before .args .z) (c .before .args .n) (rw (toZ-ofZ (c .before .fits .z)) at (c .if1 .left))
+    ∙ sign-pos (c .before .args .z) (c .before .args .n) (rw (toZ-ofZ (c .before .fits .z)) at (c .if1 .left))
 
 pub with-sign-spec : {M : Type 1} → statement M
 with-sign-spec = tie.close (tie.spec cast-result sub-result returns cast-result-2 returns-2)

@@ -3,13 +3,13 @@ use mathlib.Core.Path.{_≡_, refl}
 use mathlib.Core.Logic.{⊎-elim}
 use Prim.Native.Nat.{ℕ, _+_, _≤_, min}
 use native.Mathlib.Omega.{arith}
-use Rattle.frame.specs.Search.{raised}
+use Rattle.frame.specs.Search.{raise}
 use Rattle.frame.proofs.LawsSearch.{Left, left-more, left-done}
 use Rattle.frame.proofs.search.raise.Statement.{statement}
 use Rattle.frame.proofs.search.raise.Tie as tie
 
 abbrev Inv-loop : tie.InvT-loop
-Inv-loop first overflow p₀ y₀ p y = (p ≤ 12) × Left (raised overflow first) y p
+Inv-loop first overflow p₀ y₀ p y = (p ≤ 12) × Left (raise overflow first) y p
 
 abbrev μ-loop : tie.MeasureT-loop
 μ-loop first overflow p₀ y₀ p y = y
@@ -18,7 +18,7 @@ add-y : tie.Need-add-y Inv-loop μ-loop
 add-y c = omega arith
 
 loop-holds : tie.Need-loop-holds Inv-loop μ-loop
-unfolding raised
+unfolding raise
 loop-holds c = (c .pre .0, (24, omega arith, refl))
 
 add-p : tie.Need-add-p Inv-loop μ-loop

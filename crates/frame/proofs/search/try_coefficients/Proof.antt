@@ -6,18 +6,19 @@ use lib.IntN.{ℤ}
 use mir.Syntax.{w16}
 use mir.Val.{SFits, toZ, ofZ}
 use mir.Facts.{toZ-ofZ}
-use Rattle.frame.specs.declared.History.{History}
+use Rattle.whole.specs.declared.History.{History}
 use Rattle.frame.specs.declared.pass.Pass.{Pass}
 use Rattle.frame.specs.declared.search.Coded.{Coded}
-use Rattle.frame.specs.declared.search.Seen.{Seen}
+use Rattle.frame.specs.declared.search.Figures.{Figures}
 use Rattle.frame.specs.declared.search.Candidate.{Candidate}
 use Rattle.frame.specs.Estimate.{firstExponent}
-use Rattle.frame.specs.Pass.{Bounded, passOf}
-use Rattle.frame.specs.Search.{raised, ends, finished, searchWithin, tryCoefficients}
-use Rattle.frame.specs.Lanes.{candidateOf}
-use Rattle.frame.proofs.LawsArrays.{Fit, array-fits}
+use Rattle.frame.specs.Pass.{Bounded, runPass}
+use Rattle.frame.specs.Search.{raise, isLast, finished, searchWithin, tryCoefficients}
+use Rattle.frame.specs.inner.Lanes.{candidateOf}
+use Rattle.frame.proofs.LawsArrays.{array-fits}
+use Rattle.frame.specs.Fits.{Fit, FitHistory}
 use Rattle.frame.proofs.LawsEstimate.{first-le}
-use Rattle.frame.proofs.LawsPass.{FitHistory, overflow-le}
+use Rattle.frame.proofs.LawsPass.{overflow-le}
 use Rattle.frame.proofs.LawsSearch.{not-twelve, goes-on, search-more, search-last}
 use Rattle.frame.proofs.search.try_coefficients.Statement.{statement}
 use Rattle.frame.proofs.search.try_coefficients.Tie as tie
@@ -42,7 +43,7 @@ abbrev a1 : tie.At-loop Inv-loop μ-loop → ℤ
 a1 l = toZ w16 (ofZ w16 (l .before .args .c1))
 
 abbrev passAt : tie.At-loop Inv-loop μ-loop → Pass
-passAt l = passOf (a0 l) (a1 l) (l .before .args .history) (l .before .args .samples) (l .loop .p)
+passAt l = runPass (a0 l) (a1 l) (l .before .args .history) (l .before .args .samples) (l .loop .p)
 
 bounded : (l : tie.At-loop Inv-loop μ-loop) → Bounded (a0 l) (a1 l)
 bounded l = let s = l .before in rw (toZ-ofZ (s .fits .c0), toZ-ofZ (s .fits .c1)) (s .pre .0)
@@ -60,16 +61,16 @@ loop-holds : tie.Need-loop-holds Inv-loop μ-loop
 unfolding tryCoefficients
 loop-holds c = (omega (arith, first-small c), omega arith, rw (toZ-ofZ (c .fits .c0), toZ-ofZ (c .fits .c1), c .pre .1 .0))
 
-look-requires : tie.Need-look-requires Inv-loop μ-loop
-look-requires c κs =
+known-figures-requires : tie.Need-known-figures-requires Inv-loop μ-loop
+known-figures-requires c κs =
     let s = c .before in
     rw (toZ-ofZ (s .fits .c0), toZ-ofZ (s .fits .c1)) (s .pre .0, ((c .loop .inv .0, first-small s), s .pre .1 .1))
 
 add-passes : tie.Need-add-passes Inv-loop μ-loop
 add-passes c = omega arith
 
-overflow-is : (c : tie.After-look Inv-loop μ-loop) → c .look .result .overflow ≡ passAt (c .before) .overflow
-overflow-is c = ap (λ (t : Seen). t .overflow) (c .look .ensures)
+overflow-is : (c : tie.After-known-figures Inv-loop μ-loop) → c .known-figures .result .overflow ≡ passAt (c .before) .overflow
+overflow-is c = ap (λ (t : Figures). t .overflow) (c .known-figures .ensures)
 
 raise-requires : tie.Need-raise-requires Inv-loop μ-loop
 raise-requires c κs = let l = c .before in (l .loop .inv .0, omega (arith, overflow-is c, overflow-le (a0 l) (a1 l) _ _ (bounded l) (fit-history l) (fit-samples l) (l .loop .p)))
@@ -77,17 +78,18 @@ raise-requires c κs = let l = c .before in (l .loop .inv .0, omega (arith, over
 is-last-requires : tie.Need-is-last-requires Inv-loop μ-loop
 is-last-requires c κs = tt
 
-raise-is : (c : tie.After-raise Inv-loop μ-loop) → c .raise .result ≡ raised (passAt (c .before .before) .overflow) (c .before .before .loop .p)
-raise-is c = c .raise .ensures ∙ ap (λ (o : ℕ). raised o (c .before .before .loop .p)) (overflow-is (c .before))
+raise-is : (c : tie.After-raise Inv-loop μ-loop) → c .raise .result ≡ raise (passAt (c .before .before) .overflow) (c .before .before .loop .p)
+raise-is c = c .raise .ensures ∙ ap (λ (o : ℕ). raise o (c .before .before .loop .p)) (overflow-is (c .before))
 
-test-is : (c : tie.After-is-last Inv-loop μ-loop) → c .is-last .result ≡ ends (c .before .raise .result) (passAt (c .before .before .before) .overflow)
-test-is c = c .is-last .ensures ∙ ap (λ (o : ℕ). ends (c .before .raise .result) o) (overflow-is (c .before .before))
+test-is : (c : tie.After-is-last Inv-loop μ-loop) → c .is-last .result ≡ isLast (c .before .raise .result) (passAt (c .before .before .before) .overflow)
+test-is c = c .is-last .ensures ∙ ap (λ (o : ℕ). isLast (c .before .raise .result) o) (overflow-is (c .before .before))
 
 -- where the search goes on, the exponent rises
 rises : (c : tie.Else1 Inv-loop μ-loop) → (c .before .before .before .before .loop .p ≤ c .before .before .raise .result) × (c .before .before .raise .result ≤ 11)
 rises c =
     let l = c .before .before .before .before in
-    goes-on (a0 l) (a1 l) _ _ (bounded l) (fit-history l) (fit-samples l) (l .loop .p) (c .before .before .raise .result) (l .loop .inv .0) (raise-is (c .before .before)) (not-twelve _ _ (sym (test-is (c .before)) ∙ c .if1 .left))
+    goes-on (a0 l) (a1 l) _ _ (bounded l) (fit-history l) (fit-samples l) (l .loop .p) (c .before .before .raise .result) (l .loop .inv .0) (raise-is (c .before .before))
+    (not-twelve _ _ (sym (test-is (c .before)) ∙ c .if1 .left))
 
 add-p : tie.Need-add-p Inv-loop μ-loop
 add-p c = omega (arith, rises c)
@@ -101,7 +103,8 @@ loop-again c =
     let r = rises c in (
       omega arith,
       omega arith,
-      search-more (a0 l) (a1 l) _ _ (l .loop .p) (l .loop .passes) (c .before .before .raise .result) _ (omega arith) (raise-is (c .before .before)) (l .loop .inv .2) (sym (test-is (c .before)) ∙ c .if1 .left),
+      search-more (a0 l) (a1 l) _ _ (l .loop .p) (l .loop .passes) (c .before .before .raise .result) _ (omega arith) (raise-is (c .before .before)) (l .loop .inv .2)
+          (sym (test-is (c .before)) ∙ c .if1 .left),
     )
 
 returns : tie.Need-returns Inv-loop μ-loop
@@ -113,7 +116,7 @@ returns c =
     let q = a .before .raise .result in
     let n = l .loop .passes + 1 in
     rw (toZ-ofZ (f .c0), toZ-ofZ (f .c1)) at
-    (ap (λ (t : Seen). trial (t .distance) q n) (a .before .before .look .ensures)
+    (ap (λ (t : Figures). trial (t .distance) q n) (a .before .before .known-figures .ensures)
     ∙ ap candidateOf (search-last (a0 l) (a1 l) _ _ (l .loop .p) (l .loop .passes) q _ (omega arith) (raise-is (a .before)) (l .loop .inv .2) (sym (test-is a) ∙ c .if1 .taken)))
 
 pub try-coefficients-spec : {M : Type 1} → statement M
@@ -123,7 +126,7 @@ try-coefficients-spec =
     Inv-loop
     μ-loop
     loop-holds
-    look-requires
+    known-figures-requires
     add-passes
     raise-requires
     is-last-requires

@@ -1,50 +1,47 @@
 -- `read_context` meets its contract. Assumes nothing.
 use denote.Ref.{now}
-use mathlib.Core.Path.{_≡_}
+use mathlib.Core.Path.{_≡_, _∙_}
 use native.Mathlib.Omega.{arith}
 use Rattle.image.specs.Reading.{headerIn, newestIn, olderIn}
 use Rattle.image.proofs.LawsBody.{found-within, context-made}
 use Rattle.image.proofs.bodies.read_context.Statement.{statement}
 use Rattle.image.proofs.bodies.read_context.Tie as tie
 
-mul-at : tie.Need-mul-at
-mul-at c = let w = found-within (now (c .before .args .image)) (c .before .args .k) (c .before .pre) in omega (arith, w .entry, w .small)
-
-add-at : tie.Need-add-at
-add-at c = let w = found-within (now (c .before .args .image)) (c .before .args .k) (c .before .pre) in omega (arith, w .entry, w .small)
+entry-place-requires : tie.Need-entry-place-requires
+entry-place-requires c κs = let w = found-within (now (c .before .args .image)) (c .before .args .k) (c .before .pre) in omega (arith, w .small)
 
 add-word-at : tie.Need-add-word-at
-add-word-at c = let w = found-within (now (c .before .args .image)) (c .before .args .k) (c .before .pre) in omega (arith, w .entry, w .small)
+add-word-at c = let w = found-within (now (c .before .before .args .image)) (c .before .before .args .k) (c .before .before .pre) in omega (arith, w .small, c .entry-place .ensures)
 
 word-at-requires : tie.Need-word-at-requires
-word-at-requires c κs = let w = found-within (now (c .before .args .image)) (c .before .args .k) (c .before .pre) in omega (arith, w .entry, w .small)
+word-at-requires c κs = let w = found-within (now (c .before .before .args .image)) (c .before .before .args .k) (c .before .before .pre) in omega (arith, w .entry, c .entry-place .ensures)
 
 add-signed-at : tie.Need-add-signed-at
-add-signed-at c = let w = found-within (now (c .before .before .args .image)) (c .before .before .args .k) (c .before .before .pre) in omega (arith, w .entry, w .small)
+add-signed-at c = let w = found-within (now (c .before .before .before .args .image)) (c .before .before .before .args .k) (c .before .before .before .pre) in omega (arith, w .small, c .before .entry-place .ensures)
 
 signed-at-requires : tie.Need-signed-at-requires
-signed-at-requires c κs = let w = found-within (now (c .before .before .args .image)) (c .before .before .args .k) (c .before .before .pre) in omega (arith, w .entry, w .small)
+signed-at-requires c κs = let w = found-within (now (c .before .before .before .args .image)) (c .before .before .before .args .k) (c .before .before .before .pre) in omega (arith, w .entry, c .before .entry-place .ensures)
 
 add-signed-at-2 : tie.Need-add-signed-at-2
-add-signed-at-2 c = let w = found-within (now (c .before .before .before .args .image)) (c .before .before .before .args .k) (c .before .before .before .pre) in omega (arith, w .entry, w .small)
+add-signed-at-2 c = let w = found-within (now (c .before .before .before .before .args .image)) (c .before .before .before .before .args .k) (c .before .before .before .before .pre) in omega (arith, w .small, c .before .before .entry-place .ensures)
 
 signed-at-requires-2 : tie.Need-signed-at-requires-2
-signed-at-requires-2 c κs = let w = found-within (now (c .before .before .before .args .image)) (c .before .before .before .args .k) (c .before .before .before .pre) in omega (arith, w .entry, w .small)
+signed-at-requires-2 c κs = let w = found-within (now (c .before .before .before .before .args .image)) (c .before .before .before .before .args .k) (c .before .before .before .before .pre) in omega (arith, w .entry, c .before .before .entry-place .ensures)
 
 returns : tie.Need-returns
 unfolding headerIn newestIn olderIn
-returns c =
-    let a = c .before .before .before .before .args in
+returns c = let a = c .before .before .before .before .before .args in
     let x = c .before .signed-at in
     let y = c .signed-at2 in
-    context-made (now (a .image)) (a .k) (c .before .before .word-at .result) (x .result) (y .result) (record { sfits = x .ok }) (record { sfits = y .ok }) (c .before .before .word-at .ensures) (x .ensures) (y .ensures)
+    let e = c .before .before .before .entry-place .ensures in
+    context-made (now (a .image)) (a .k) (c .before .before .word-at .result) (x .result) (y .result) (record { sfits = x .ok }) (record { sfits = y .ok })
+    (c .before .before .word-at .ensures ∙ rw e) (x .ensures ∙ rw e) (y .ensures ∙ rw e)
 
 pub read-context-spec : {M : Type 1} → statement M
 read-context-spec =
     tie.close
     (tie.spec
-    mul-at
-    add-at
+    entry-place-requires
     add-word-at
     word-at-requires
     add-signed-at

@@ -1,7 +1,8 @@
 -- `compare_answer` meets its contract. Assumes nothing.
-use mathlib.Core.Path.{_≡_, sym, _∙_}
+use mathlib.Core.Path.{ap, _≡_, sym, _∙_}
 use Rattle.image.specs.Sameness.{compareAnswer}
-use Rattle.image.proofs.Accepting.{opened}
+use Rattle.image.specs.Opening.{outcome}
+use Rattle.image.proofs.OpenImages.{opened}
 use borrow.Author.Needs.{needs}
 use Rattle.image.proofs.checks.compare_answer.Statement.{statement}
 use Rattle.image.proofs.checks.compare_answer.Tie as tie
@@ -13,7 +14,7 @@ enum-told : tie.Need-enum-told
 enum-told c = search needs
 
 read-coefficients-requires : tie.Need-read-coefficients-requires
-read-coefficients-requires c κs = opened _ (sym (c .before .before .open-answer .ensures) ∙ c .enum-told .given .1) .head .long
+read-coefficients-requires c κs = opened _ (sym (c .before .before .open-answer .ensures) ∙ ap outcome (c .enum-told .given .1)) .head .long
 
 lowest-pair-requires : tie.Need-lowest-pair-requires
 lowest-pair-requires c κs = search needs

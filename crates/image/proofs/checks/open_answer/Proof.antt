@@ -1,18 +1,25 @@
 -- `open_answer` meets its contract. Assumes nothing.
+use borrow.Author.Needs.{needs}
 use denote.Ref.{now}
 use mathlib.Core.Path.{_≡_, sym, ap₂, _∙_}
+use Prim.Native.Nat.{ℕ}
 use native.Mathlib.Omega.{arith}
 use borrow.Author.Tests.{not-true, not-false}
-use lib.ListN.{length}
-use borrow.Author.Needs.{needs}
-use Rattle.layout.specs.Limits.{Limits}
-use Rattle.layout.specs.Sizes.{sizeOf}
-use Rattle.image.specs.Facts.{Headed}
-use Rattle.image.specs.Opened.{openAnswer}
-use Rattle.image.specs.Reading.{totalIn, blockIn}
-use Rattle.image.proofs.Accepting.{head-says}
+use Rattle.layout.specs.Sizes.{shape}
+use Rattle.image.specs.Opening.{openAnswer}
+use Rattle.image.specs.Reading.{totalIn, blockIn, shapeIn}
+use Rattle.image.specs.inner.Asked.{Headed}
+use Rattle.image.proofs.OpenImages.{head-says}
 use Rattle.image.proofs.checks.open_answer.Statement.{statement}
 use Rattle.image.proofs.checks.open_answer.Tie as tie
+
+headed : (c : tie.Else1) → Headed (now (c .before .before .before .args .image))
+headed c = head-says _ (sym (c .before .head-ok .ensures) ∙ not-false _ (c .if1 .left))
+
+-- the shape that was read
+read : (c : tie.After-shape-of) → c .shape-of .result ≡ shapeIn (now (c .before .before .before .before .before .before .args .image))
+unfolding totalIn blockIn
+read c = c .shape-of .ensures ∙ ap₂ (λ (n b : ℕ). shape n b) (c .before .before .get32 .ensures) (c .before .get322 .ensures)
 
 head-ok-requires : tie.Need-head-ok-requires
 head-ok-requires c κs = search needs
@@ -21,56 +28,29 @@ returns : tie.Need-returns
 unfolding openAnswer
 returns c = simp (← c .before .head-ok .ensures, not-true (c .before .head-ok .result) (c .if1 .taken))
 
-headed : (c : tie.Else1) → Headed (now (c .before .before .before .args .image))
-headed c = head-says _ (sym (c .before .head-ok .ensures) ∙ not-false _ (c .if1 .left))
-
 get32-requires : tie.Need-get32-requires
 get32-requires c κs = omega (arith, headed c .long)
-
-cast-total : tie.Need-cast-total
-cast-total c = search needs
 
 get32-requires-2 : tie.Need-get32-requires-2
 get32-requires-2 c κs = omega (arith, headed (c .before) .long)
 
-cast-block : tie.Need-cast-block
-cast-block c = search needs
-
-blocks-requires : tie.Need-blocks-requires
-unfolding totalIn blockIn
-blocks-requires c κs = rw (c .before .get32 .ensures, c .get322 .ensures) (headed (c .before .before) .limits)
+shape-of-requires : tie.Need-shape-of-requires
+shape-of-requires c κs = search needs
 
 entries-ok-requires : tie.Need-entries-ok-requires
-unfolding totalIn blockIn
-entries-ok-requires c κs =
-    let h = headed (c .before .before .before) in
-    (rw (c .before .before .get32 .ensures, c .before .get322 .ensures) (h .limits), c .blocks2 .ensures .0, rw (c .before .before .get32 .ensures, c .before .get322 .ensures) (h .size))
+entries-ok-requires c κs = let h = headed (c .before .before .before) in rw (read c) (h .limits, h .size)
 
 returns-2 : tie.Need-returns-2
-unfolding openAnswer totalIn blockIn
-returns-2 c =
-    simp (
-      ← c .before .before .before .before .before .before .head-ok .ensures,
-      not-false (c .before .before .before .before .before .before .head-ok .result) (c .before .before .before .before .before .if1 .left),
-      ← c .before .before .before .before .get32 .ensures,
-      ← c .before .before .before .get322 .ensures,
-      ← c .before .before .blocks2 .ensures .0,
-      ← c .before .entries-ok .ensures,
-      not-true (c .before .entries-ok .result) (c .if2 .taken),
-    )
+unfolding openAnswer
+returns-2 c = let d = c .before .before .before .before .before .before in
+    let e = c .before .entries-ok in
+    simp (← d .head-ok .ensures, not-false (d .head-ok .result) (c .before .before .before .before .before .if1 .left), ← read (c .before .before), ← e .ensures, not-true (e .result) (c .if2 .taken))
 
 returns-3 : tie.Need-returns-3
-unfolding openAnswer totalIn blockIn
-returns-3 c =
-    simp (
-      ← c .before .before .before .before .before .before .head-ok .ensures,
-      not-false (c .before .before .before .before .before .before .head-ok .result) (c .before .before .before .before .before .if1 .left),
-      ← c .before .before .before .before .get32 .ensures,
-      ← c .before .before .before .get322 .ensures,
-      ← c .before .before .blocks2 .ensures .0,
-      ← c .before .entries-ok .ensures,
-      not-false (c .before .entries-ok .result) (c .if2 .left),
-    )
+unfolding openAnswer
+returns-3 c = let d = c .before .before .before .before .before .before in
+    let e = c .before .entries-ok in
+    simp (← d .head-ok .ensures, not-false (d .head-ok .result) (c .before .before .before .before .before .if1 .left), ← read (c .before .before), ← e .ensures, not-false (e .result) (c .if2 .left))
 
 pub open-answer-spec : {M : Type 1} → statement M
 open-answer-spec =
@@ -79,10 +59,8 @@ open-answer-spec =
     head-ok-requires
     returns
     get32-requires
-    cast-total
     get32-requires-2
-    cast-block
-    blocks-requires
+    shape-of-requires
     entries-ok-requires
     returns-2
     returns-3)

@@ -11,7 +11,7 @@ use lib.Seq.{sets}
 use Rattle.whole.specs.Frames.{framesOf}
 use Rattle.image.specs.declared.Head.{Head}
 use Rattle.image.specs.Reading.{totalIn, headIn}
-use Rattle.image.specs.Frames.{countOf, framesIn}
+use Rattle.image.specs.inner.ByFrames.{frameSamples, framesIn}
 use Rattle.image.proofs.Joined.{turnOf}
 use Rattle.image.proofs.LawsTurn.{next-context, next-samples, turn-equal, turn-differs, all-equal}
 use Rattle.image.proofs.comparing.equal_frames.Statement.{statement}
@@ -49,15 +49,15 @@ new-requires-2 c κs = tt
 inside : (c : tie.In-loop Inv-loop μ-loop) → c .before .loop .i < framesOf (totalIn (now (c .before .before .before .before .before .before .before .before .args .a)))
 inside c = omega (arith, c .loop-test .taken, all-frames (c .before))
 
-counted : (c : tie.After-count-of Inv-loop μ-loop) → c .count-of .result ≡ countOf (totalIn (now (c .before .before .before .before .before .before .before .before .before .args .a))) (c .before .before .loop .i)
-counted c = c .count-of .ensures .0 ∙ ap (λ (n : ℕ). countOf n (c .before .before .loop .i)) (total-read (c .before .before .before .before .before .before))
+counted : (c : tie.After-frame-samples Inv-loop μ-loop) → c .frame-samples .result ≡ frameSamples (totalIn (now (c .before .before .before .before .before .before .before .before .before .args .a))) (c .before .before .loop .i)
+counted c = c .frame-samples .ensures .0 ∙ ap (λ (n : ℕ). frameSamples n (c .before .before .loop .i)) (total-read (c .before .before .before .before .before .before))
 
 loop-holds : tie.Need-loop-holds Inv-loop μ-loop
 unfolding framesIn
 loop-holds c = (omega arith, c .before .new .ensures, c .new2 .ensures, refl)
 
-count-of-requires : tie.Need-count-of-requires Inv-loop μ-loop
-count-of-requires c κs = let a = c .before .before .before .before .before .before .before .before .pre in
+frame-samples-requires : tie.Need-frame-samples-requires Inv-loop μ-loop
+frame-samples-requires c κs = let a = c .before .before .before .before .before .before .before .before .pre in
     let e = total-read (c .before .before .before .before .before) in
     (omega (arith, a .opens .head .limits .some, e), omega (arith, a .opens .head .limits .few, e), omega (arith, c .loop-test .taken, c .before .before .before .before .frames .ensures .0))
 
@@ -72,11 +72,11 @@ next-frame-requires-2 c κs = let a = c .before .before .before .before .before 
       opens = a .pre .others;
       read = a .pre .other;
       frame = subst (λ (n : ℕ). c .before .before .before .loop .i < framesOf n) t (inside (c .before .before));
-      samples = counted (c .before) ∙ ap (λ (n : ℕ). countOf n (c .before .before .before .loop .i)) t;
+      samples = counted (c .before) ∙ ap (λ (n : ℕ). frameSamples n (c .before .before .before .loop .i)) t;
     }
 
 equal-part-requires : tie.Need-equal-part-requires Inv-loop μ-loop
-equal-part-requires c κs = c .before .before .before .before .count-of .ensures .1
+equal-part-requires c κs = c .before .before .before .before .frame-samples .ensures .1
 
 -- the samples that were read
 ones : (c : tie.After-next-frame2 Inv-loop μ-loop) → c .before .next-frame .result .samples ≡ sets (replicate 14 (pos 0)) 0 (turnOf (now (c .before .before .before .before .before .before .before .before .before .before .before .args .a)) (c .before .before .before .before .loop .i) .samples)
@@ -86,7 +86,7 @@ others : (c : tie.After-next-frame2 Inv-loop μ-loop) → c .next-frame2 .result
 others c = next-samples (now (c .before .before .before .before .before .before .before .before .before .before .before .args .b)) (c .before .before .before .before .loop .i) (c .before .before .before .before .loop .other) (c .before .before .before .before .loop .inv .2) (c .next-frame2 .result) (c .next-frame2 .ensures)
 
 returns : tie.Need-returns Inv-loop μ-loop
-returns c = turn-differs (now (c .before .before .before .before .before .before .before .before .before .before .before .before .before .before .before .args .a)) (now (c .before .before .before .before .before .before .before .before .before .before .before .before .before .before .before .args .b)) (c .before .before .before .before .before .before .before .before .before .before .before .before .before .before .before .pre .opens) (c .before .before .before .before .before .before .before .before .before .before .before .before .before .before .before .pre .others) (c .before .before .before .before .before .before .before .before .before .before .before .before .before .before .before .pre .total) (c .before .before .before .before .before .before .before .before .loop .i) (c .before .before .before .before .before .before .count-of .result) (inside (c .before .before .before .before .before .before .before)) (counted (c .before .before .before .before .before .before)) (c .before .before .before .before .before .before .before .before .loop .inv .3) (c .before .before .before .before .before .next-frame .result .samples) (c .before .before .before .before .next-frame2 .result .samples) (ones (c .before .before .before .before)) (others (c .before .before .before .before)) (sym (c .before .equal-part .ensures) ∙ not-true _ (c .if1 .taken))
+returns c = turn-differs (now (c .before .before .before .before .before .before .before .before .before .before .before .before .before .before .before .args .a)) (now (c .before .before .before .before .before .before .before .before .before .before .before .before .before .before .before .args .b)) (c .before .before .before .before .before .before .before .before .before .before .before .before .before .before .before .pre .opens) (c .before .before .before .before .before .before .before .before .before .before .before .before .before .before .before .pre .others) (c .before .before .before .before .before .before .before .before .before .before .before .before .before .before .before .pre .total) (c .before .before .before .before .before .before .before .before .loop .i) (c .before .before .before .before .before .before .frame-samples .result) (inside (c .before .before .before .before .before .before .before)) (counted (c .before .before .before .before .before .before)) (c .before .before .before .before .before .before .before .before .loop .inv .3) (c .before .before .before .before .before .next-frame .result .samples) (c .before .before .before .before .next-frame2 .result .samples) (ones (c .before .before .before .before)) (others (c .before .before .before .before)) (sym (c .before .equal-part .ensures) ∙ not-true _ (c .if1 .taken))
 
 add-i : tie.Need-add-i Inv-loop μ-loop
 add-i c = omega arith
@@ -100,7 +100,7 @@ loop-again c = let l = c .before .before .before .before .before .before .before
       omega arith,
       next-context (now (a .a)) (l .i) (l .one) (l .inv .1) (c .before .before .before .before .before .before .before .next-frame .result) (c .before .before .before .before .before .before .before .next-frame .ensures),
       next-context (now (a .b)) (l .i) (l .other) (l .inv .2) (c .before .before .before .before .before .before .next-frame2 .result) (c .before .before .before .before .before .before .next-frame2 .ensures),
-      turn-equal (now (c .before .before .before .before .before .before .before .before .before .before .before .before .before .before .before .before .before .args .a)) (now (c .before .before .before .before .before .before .before .before .before .before .before .before .before .before .before .before .before .args .b)) (c .before .before .before .before .before .before .before .before .before .before .before .before .before .before .before .before .before .pre .opens) (c .before .before .before .before .before .before .before .before .before .before .before .before .before .before .before .before .before .pre .others) (c .before .before .before .before .before .before .before .before .before .before .before .before .before .before .before .before .before .pre .total) (c .before .before .before .before .before .before .before .before .before .before .loop .i) (c .before .before .before .before .before .before .before .before .count-of .result) (inside (c .before .before .before .before .before .before .before .before .before)) (counted (c .before .before .before .before .before .before .before .before)) (c .before .before .before .before .before .before .before .before .before .before .loop .inv .3) (c .before .before .before .before .before .before .before .next-frame .result .samples) (c .before .before .before .before .before .before .next-frame2 .result .samples) (ones (c .before .before .before .before .before .before)) (others (c .before .before .before .before .before .before)) (sym (c .before .before .before .equal-part .ensures) ∙ not-false _ (c .before .before .if1 .left)),
+      turn-equal (now (c .before .before .before .before .before .before .before .before .before .before .before .before .before .before .before .before .before .args .a)) (now (c .before .before .before .before .before .before .before .before .before .before .before .before .before .before .before .before .before .args .b)) (c .before .before .before .before .before .before .before .before .before .before .before .before .before .before .before .before .before .pre .opens) (c .before .before .before .before .before .before .before .before .before .before .before .before .before .before .before .before .before .pre .others) (c .before .before .before .before .before .before .before .before .before .before .before .before .before .before .before .before .before .pre .total) (c .before .before .before .before .before .before .before .before .before .before .loop .i) (c .before .before .before .before .before .before .before .before .frame-samples .result) (inside (c .before .before .before .before .before .before .before .before .before)) (counted (c .before .before .before .before .before .before .before .before)) (c .before .before .before .before .before .before .before .before .before .before .loop .inv .3) (c .before .before .before .before .before .before .before .next-frame .result .samples) (c .before .before .before .before .before .before .next-frame2 .result .samples) (ones (c .before .before .before .before .before .before)) (others (c .before .before .before .before .before .before)) (sym (c .before .before .before .equal-part .ensures) ∙ not-false _ (c .before .before .if1 .left)),
     )
 
 returns-2 : tie.Need-returns-2 Inv-loop μ-loop
@@ -120,7 +120,7 @@ equal-frames-spec =
     new-requires
     new-requires-2
     loop-holds
-    count-of-requires
+    frame-samples-requires
     next-frame-requires
     next-frame-requires-2
     equal-part-requires

@@ -1,57 +1,60 @@
 -- `next_frame` meets its contract. Assumes nothing.
+use borrow.Author.Needs.{needs}
 use denote.Ref.{now}
-use mathlib.Core.Path.{_≡_, ap}
+use mathlib.Core.Path.{_≡_, ap, _∙_}
 use native.Mathlib.Omega.{arith}
+use Rattle.layout.specs.Limits.{Limits}
+use Rattle.layout.specs.Sizes.{shape, bodiesPlace}
 use Rattle.image.specs.declared.Head.{Head}
 use Rattle.image.specs.Reading.{headIn}
-use Rattle.image.specs.Frames.{frameIn, nextFrame}
-use Rattle.image.proofs.FramePlaces.{placed, place-made, turn-source}
-use borrow.Author.Needs.{needs}
+use Rattle.image.specs.inner.Asked.{Source}
+use Rattle.image.specs.inner.ByFrames.{framePlaceIn, nextFrame}
+use Rattle.image.proofs.FramePlaces.{Placed, placed, place-made, turn-source, turn-limits}
 use Rattle.image.proofs.comparing.next_frame.Statement.{statement}
 use Rattle.image.proofs.comparing.next_frame.Tie as tie
+
+-- the frame's source
+source : (c : tie.After-bodies-place) → let a = c .before .before .before .before .args in Source (now (a .image)) (a .head .block) (c .bodies-place .result) (a .i)
+source c = let s = c .before .before .before .before in turn-source (now (s .args .image)) _ _ _ _ (s .pre) (c .bodies-place .ensures ∙ ap bodiesPlace (c .before .shape-of .ensures))
 
 cast-block : tie.Need-cast-block
 cast-block c = search needs
 
-cast-kk : tie.Need-cast-kk
-cast-kk c = search needs
+shape-of-requires : tie.Need-shape-of-requires
+shape-of-requires c κs = search needs
+
+bodies-place-requires : tie.Need-bodies-place-requires
+bodies-place-requires c κs = let s = c .before .before .before in rw (c .shape-of .ensures) (turn-limits (now (s .args .image)) _ _ _ (s .pre))
 
 context-before-requires : tie.Need-context-before-requires
-context-before-requires c κs = turn-source (now (c .before .before .before .before .args .image)) _ _ _ (c .before .before .before .before .pre)
+context-before-requires c κs = source (c .before)
 
-mul-frame-at : tie.Need-mul-frame-at
-mul-frame-at c = search needs
+mul-played-frame : tie.Need-mul-played-frame
+mul-played-frame c = let p = placed _ _ _ _ (source (c .before .before)) in omega (arith, p .frames)
 
-add-frame-at : tie.Need-add-frame-at
-add-frame-at c = search needs
+add-played-frame : tie.Need-add-played-frame
+add-played-frame c = let p = placed _ _ _ _ (source (c .before .before)) in omega (arith, p .frames, p .blocks, p .further, source (c .before .before) .bodies)
 
-mul-frame-at-2 : tie.Need-mul-frame-at-2
-mul-frame-at-2 c = let p = placed (now (c .before .before .before .before .before .args .image)) _ _ _ (turn-source (now (c .before .before .before .before .before .args .image)) _ _ _ (c .before .before .before .before .before .pre)) in let e = (turn-source (now (c .before .before .before .before .before .args .image)) _ _ _ (c .before .before .before .before .before .pre)) .blocks in omega (arith, p .bytes, p .blocks, p .frames, e)
-
-add-frame-at-2 : tie.Need-add-frame-at-2
-add-frame-at-2 c = let p = placed (now (c .before .before .before .before .before .args .image)) _ _ _ (turn-source (now (c .before .before .before .before .before .args .image)) _ _ _ (c .before .before .before .before .before .pre)) in let e = (turn-source (now (c .before .before .before .before .before .args .image)) _ _ _ (c .before .before .before .before .before .pre)) .blocks in omega (arith, p .bytes, p .blocks, p .frames, e)
-
-frame-at-requires : tie.Need-frame-at-requires
-unfolding frameIn
-frame-at-requires c κs = let p = placed (now (c .before .before .before .before .before .args .image)) _ _ _ (turn-source (now (c .before .before .before .before .before .args .image)) _ _ _ (c .before .before .before .before .before .pre)) in
-    let e = (turn-source (now (c .before .before .before .before .before .args .image)) _ _ _ (c .before .before .before .before .before .pre)) .blocks in
-    let n = c .before .before .before .before .before .pre .samples in
-    (omega (arith, p .bytes, e, n), omega (arith, p .few, n))
+played-frame-requires : tie.Need-played-frame-requires
+unfolding framePlaceIn
+played-frame-requires c κs = let p = placed _ _ _ _ (source (c .before .before)) in
+    let n = c .before .before .before .before .before .before .pre .samples in
+    (omega (arith, p .bytes, source (c .before .before) .bodies, n), omega (arith, p .few, n))
 
 returns : tie.Need-returns
 unfolding nextFrame headIn
-returns c = rw (c .frame-at .ensures, c .before .context-before .ensures, c .before .before .before .before .before .before .pre .samples, place-made (now (c .before .before .before .before .before .before .args .image)) _ _ _ (turn-source (now (c .before .before .before .before .before .before .args .image)) _ _ _ (c .before .before .before .before .before .before .pre)), ap (λ (h : Head). h .coefficients) (c .before .before .before .before .before .before .pre .read))
+returns c = let s = c .before .before .before .before .before .before .before in
+    rw (c .played-frame .ensures, c .before .context-before .ensures, s .pre .samples, place-made (now (s .args .image)) _ _ _ (source (c .before .before .before)), ap (λ (h : Head). h .coefficients) (s .pre .read))
 
 pub next-frame-spec : {M : Type 1} → statement M
 next-frame-spec =
     tie.close
     (tie.spec
     cast-block
-    cast-kk
+    shape-of-requires
+    bodies-place-requires
     context-before-requires
-    mul-frame-at
-    add-frame-at
-    mul-frame-at-2
-    add-frame-at-2
-    frame-at-requires
+    mul-played-frame
+    add-played-frame
+    played-frame-requires
     returns)

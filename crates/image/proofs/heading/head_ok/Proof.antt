@@ -1,7 +1,7 @@
 -- `head_ok` meets its contract. Assumes nothing.
 use borrow.Author.Tests.{lt-leb, le-leb, not-true, not-false}
 use borrow.Author.Needs.{needs}
-use Rattle.image.specs.Opened.{headOk}
+use Rattle.image.specs.Opening.{headOk}
 use Rattle.image.specs.Reading.{totalIn, rateIn, blockIn, zeroIn, blocksIn}
 use Rattle.image.proofs.heading.head_ok.Statement.{statement}
 use Rattle.image.proofs.heading.head_ok.Tie as tie

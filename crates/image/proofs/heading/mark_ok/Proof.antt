@@ -1,7 +1,7 @@
 -- `mark_ok` meets its contract. Assumes nothing.
 use borrow.Author.Tests.{eq-eqb, ne-eqb}
 use borrow.Author.Needs.{needs}
-use Rattle.image.specs.Opened.{markOk}
+use Rattle.image.specs.Opening.{markOk}
 use Rattle.image.proofs.Marks.{mark-last}
 use Rattle.image.proofs.heading.mark_ok.Statement.{statement}
 use Rattle.image.proofs.heading.mark_ok.Tie as tie

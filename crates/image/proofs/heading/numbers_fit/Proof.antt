@@ -1,12 +1,16 @@
 -- `numbers_fit` meets its contract. Assumes nothing.
-use mathlib.Core.Path.{_≡_, sym, _∙_}
-use borrow.Author.Tests.{not-true, not-false, eq-eqb, ne-eqb}
 use borrow.Author.Needs.{needs}
+use mathlib.Core.Path.{_≡_, sym, ap, _∙_}
+use borrow.Author.Tests.{not-true, not-false, eq-eqb, ne-eqb}
 use Rattle.layout.specs.Limits.{Limits}
-use Rattle.layout.proofs.Numbers.{numbers-sound}
-use Rattle.image.specs.Opened.{numbersFit}
+use Rattle.layout.specs.Sizes.{shape, blockCount, imageSize}
+use Rattle.layout.proofs.LimitLaws.{numbers-sound}
+use Rattle.image.specs.Opening.{numbersFit}
 use Rattle.image.proofs.heading.numbers_fit.Statement.{statement}
 use Rattle.image.proofs.heading.numbers_fit.Tie as tie
+
+limits : (c : tie.After-shape-of) → Limits (c .shape-of .result)
+limits c = rw (c .shape-of .ensures) (numbers-sound _ _ _ _ (sym (c .before .before .numbers-ok .ensures) ∙ not-false _ (c .before .if1 .left)) .limits)
 
 numbers-ok-requires : tie.Need-numbers-ok-requires
 numbers-ok-requires c κs = search needs
@@ -15,47 +19,31 @@ returns : tie.Need-returns
 unfolding numbersFit
 returns c = simp (← c .before .numbers-ok .ensures, not-true (c .before .numbers-ok .result) (c .if1 .taken))
 
-limits : (c : tie.Else1) → Limits (c .before .before .args .total) (c .before .before .args .block)
-limits c = numbers-sound _ _ _ _ (sym (c .before .numbers-ok .ensures) ∙ not-false _ (c .if1 .left)) .limits
+shape-of-requires : tie.Need-shape-of-requires
+shape-of-requires c κs = search needs
 
-blocks-requires : tie.Need-blocks-requires
-blocks-requires c κs = limits c
+block-count-requires : tie.Need-block-count-requires
+block-count-requires c κs = limits c
 
 returns-2 : tie.Need-returns-2
 unfolding numbersFit
-returns-2 c =
-    simp (
-      ← c .before .before .before .numbers-ok .ensures,
-      not-false (c .before .before .before .numbers-ok .result) (c .before .before .if1 .left),
-      ← c .before .blocks2 .ensures .0,
-      ne-eqb _ _ (c .if2 .taken),
-    )
+returns-2 c = let k = c .before .block-count .ensures .0 ∙ ap blockCount (c .before .before .shape-of .ensures) in
+    simp (← c .before .before .before .before .numbers-ok .ensures, not-false (c .before .before .before .before .numbers-ok .result) (c .before .before .before .if1 .left), ← k, ne-eqb _ _ (c .if2 .taken))
 
 returns-3 : tie.Need-returns-3
 unfolding numbersFit
-returns-3 c =
-    simp (
-      ← c .before .before .before .before .numbers-ok .ensures,
-      not-false (c .before .before .before .before .numbers-ok .result) (c .before .before .before .if1 .left),
-      ← c .before .before .blocks2 .ensures .0,
-      eq-eqb _ _ (c .before .if2 .left),
-      ne-eqb _ _ (c .if3 .taken),
-    )
+returns-3 c = let k = c .before .before .block-count .ensures .0 ∙ ap blockCount (c .before .before .before .shape-of .ensures) in
+    simp (← c .before .before .before .before .before .numbers-ok .ensures, not-false (c .before .before .before .before .before .numbers-ok .result) (c .before .before .before .before .if1 .left), ← k, eq-eqb _ _ (c .before .if2 .left), ne-eqb _ _ (c .if3 .taken))
 
-size-requires : tie.Need-size-requires
-size-requires c κs = limits (c .before .before .before)
+image-size-requires : tie.Need-image-size-requires
+image-size-requires c κs = limits (c .before .before .before)
 
 returns-4 : tie.Need-returns-4
 unfolding numbersFit
-returns-4 c =
-    simp (
-      ← c .before .before .before .before .before .numbers-ok .ensures,
-      not-false (c .before .before .before .before .before .numbers-ok .result) (c .before .before .before .before .if1 .left),
-      ← c .before .before .before .blocks2 .ensures .0,
-      eq-eqb _ _ (c .before .before .if2 .left),
-      eq-eqb _ _ (c .before .if3 .left),
-      ← c .size .ensures,
-    )
+returns-4 c = let d = c .before .before .before in
+    let k = d .block-count .ensures .0 ∙ ap blockCount (d .before .shape-of .ensures) in
+    let s = c .image-size .ensures ∙ ap imageSize (d .before .shape-of .ensures) in
+    simp (← d .before .before .before .numbers-ok .ensures, not-false (d .before .before .before .numbers-ok .result) (d .before .before .if1 .left), ← k, eq-eqb _ _ (c .before .before .if2 .left), eq-eqb _ _ (c .before .if3 .left), ← s)
 
 pub numbers-fit-spec : {M : Type 1} → statement M
 numbers-fit-spec =
@@ -63,8 +51,9 @@ numbers-fit-spec =
     (tie.spec
     numbers-ok-requires
     returns
-    blocks-requires
+    shape-of-requires
+    block-count-requires
     returns-2
     returns-3
-    size-requires
+    image-size-requires
     returns-4)

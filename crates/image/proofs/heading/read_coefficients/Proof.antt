@@ -32,11 +32,11 @@ add-signed-at c = omega arith
 signed-at-requires : tie.Need-signed-at-requires Inv-loop μ-loop
 signed-at-requires c κs = omega arith
 
-mul-cs : tie.Need-mul-cs Inv-loop μ-loop
-mul-cs c = omega arith
+mul-coefficients : tie.Need-mul-coefficients Inv-loop μ-loop
+mul-coefficients c = omega arith
 
-array-set-from-cs : tie.Need-array-set-from-cs Inv-loop μ-loop
-array-set-from-cs c = omega arith
+array-set-from-coefficients : tie.Need-array-set-from-coefficients Inv-loop μ-loop
+array-set-from-coefficients c = omega arith
 
 add-i : tie.Need-add-i Inv-loop μ-loop
 add-i c = omega arith
@@ -49,7 +49,7 @@ loop-again c =
     let l = c .before .before in
     let a = l .before .before .args in
     let f : SFits w16 (c .signed-at .result) = record { sfits = c .signed-at .ok } in
-    (omega arith, coefficient-turn (now (a .image)) (replicate 16 (pos 0)) (l .loop .cs) (l .loop .i) _ (l .loop .inv .1) (toZ-ofZ f ∙ c .signed-at .ensures))
+    (omega arith, coefficient-turn (now (a .image)) (replicate 16 (pos 0)) (l .loop .coefficients) (l .loop .i) _ (l .loop .inv .1) (toZ-ofZ f ∙ c .signed-at .ensures))
 
 returns : tie.Need-returns Inv-loop μ-loop
 returns c =
@@ -66,8 +66,8 @@ read-coefficients-spec =
     mul-signed-at
     add-signed-at
     signed-at-requires
-    mul-cs
-    array-set-from-cs
+    mul-coefficients
+    array-set-from-coefficients
     add-i
     loop-less
     loop-again

@@ -7,7 +7,7 @@ use mathlib.Core.Path.{subst, sym, ap, _∙_}
 use mir.ValLaws.{toZ-ofZ, ofZ-fits}
 use mir.Val.{SFits, Fits, ofZ, toZ}
 use mir.Syntax.{w16, w32}
-use Rattle.whole.proofs.Sixteen.{sum, up, neg, inner, nonneg, fits32}
+use Rattle.whole.proofs.SixteenBits.{sum, up, neg, inner, nonneg, fits32}
 use Rattle.layout.proofs.fields.bits16.Statement.{statement}
 use Rattle.layout.proofs.fields.bits16.Tie as tie
 

@@ -1,5 +1,5 @@
 -- `signed16` meets its contract. Assumes nothing.
-use Rattle.layout.proofs.Bits.{less-fits, less-back}
+use Rattle.layout.proofs.SignedBits.{less-fits, less-back}
 use mir.ValLaws.{toZ-fits, toZ-ofZ}
 use mir.Val.{SFits, ofZ, toZ}
 use mir.Syntax.{w16}

@@ -1,0 +1,3 @@
+-- What only private functions cite.
+pub mod Frames
+pub mod Nibbles

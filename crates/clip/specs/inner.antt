@@ -1,0 +1,2 @@
+-- What only private functions cite: nothing here has to be believed.
+pub mod Asked

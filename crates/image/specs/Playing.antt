@@ -1,0 +1,61 @@
+-- Playing a block of an image. Definitions only.
+use mathlib.Core.Bool.{cond}
+use mathlib.Core.List.{List}
+use Prim.Native.Nat.{ℕ}
+use lib.Dec.{ltb}
+use lib.IntN.{ℤ}
+use lib.ListN.{length}
+use Rattle.whole.specs.Outcome.{Outcome, accepted, refused}
+use Rattle.block.specs.declared.FrameContext.{FrameContext}
+use Rattle.block.specs.Address.{addressToSample}
+use Rattle.block.specs.Context.{historyWith, contextWith, newContext}
+use Rattle.block.specs.Frame.{Lent, lent}
+use Rattle.block.specs.Play.{playInto}
+use Rattle.block.specs.Refusals.{lowestPair}
+use Rattle.image.specs.declared.bodies.Entry.{Entry}
+use Rattle.image.specs.declared.PlayAnswer.{PlayAnswer}
+use Rattle.image.specs.declared.PlayAnswer.the-variants.{Played, Refused}
+use Rattle.image.specs.Reading.{coefficientsIn, offsetIn, lengthIn, headerIn, newestIn, olderIn}
+use Rattle.image.specs.Opening.{code, andThen}
+use Rattle.image.specs.Bodies.{blockAnswer, bodyIn}
+
+-- the context of block k's entry
+unfoldable pub contextIn : List ℕ → ℕ → FrameContext
+contextIn l k = contextWith (headerIn l k) (historyWith (newestIn l k) (olderIn l k))
+
+-- what block k's entry says, its context put together
+abbrev pub readEntry : List ℕ → ℕ → Entry
+readEntry l k = record { offset = offsetIn l k; nibbles = lengthIn l k; context = contextIn l k }
+
+-- codes 13, 14: for so many samples and an output of some room
+unfoldable pub roomAnswer : List ℤ → ℕ → ℕ → Outcome Unit
+roomAnswer cs n room = cond (lowestPair cs) (refused 13) (cond (ltb room n) (refused 14) (accepted tt))
+
+-- codes 15, 16, 17, 13, 14
+unfoldable pub playAnswer : List ℕ → ℕ → ℕ → Outcome Unit
+unfolding roomAnswer
+playAnswer l k room = andThen (blockAnswer l k) (roomAnswer (coefficientsIn l) (addressToSample (lengthIn l k)) room)
+
+-- what an answer of playing says: the sample count, or the refusal's number
+abbrev pub playOutcome : PlayAnswer → Outcome ℕ
+playOutcome (Played n) = accepted n
+playOutcome (Refused r) = refused (code r)
+
+-- what playing answers and leaves: the context and the output
+pub record PlayEffect : Type 0 where
+  pub outcome : Outcome ℕ
+  pub context : FrameContext
+  pub out : List ℤ
+
+abbrev pub playEffect : Outcome ℕ → Lent → PlayEffect
+playEffect o l = record { outcome = o; context = l .context; out = l .out }
+
+-- the block's samples as section 4 plays its body with the entry's length and context; refused, no context and the output unaltered
+abbrev pub playBy : Outcome Unit → List ℕ → ℕ → List ℤ → PlayEffect
+playBy (accepted u) l k out =
+    playEffect (accepted (addressToSample (lengthIn l k))) (playInto (bodyIn l k) (coefficientsIn l) (lengthIn l k) (contextIn l k) out)
+playBy (refused n) l k out = playEffect (refused n) (lent newContext out)
+
+-- block k is played
+unfoldable pub play : List ℕ → ℕ → List ℤ → PlayEffect
+play l k out = playBy (playAnswer l k (length out)) l k out

@@ -1,0 +1,76 @@
+-- What an image that opens satisfies.
+use mathlib.Core.Bool.{true, false}
+use mathlib.Core.List.{List}
+use mathlib.Core.Path.{_≡_}
+use Prim.Native.Nat.{ℕ, _≤_, _<_}
+use lib.ListN.{length, getD}
+use Rattle.block.specs.Address.{addressToSample}
+use Rattle.block.specs.Refusals.{lowestPair}
+use Rattle.layout.specs.Limits.{Limits}
+use Rattle.layout.specs.declared.Shape.{Shape}
+use Rattle.layout.specs.Sizes.{blockCount, bodiesPlace, imageSize, blockOffset, blockLength}
+use Rattle.whole.specs.Frames.{framesOf}
+use Rattle.image.specs.declared.Head.{Head}
+use Rattle.image.specs.inner.ByFrames.{frameSamples}
+use Rattle.image.specs.Reading.{totalIn, rateIn, blockIn, shapeIn, zeroIn, blocksIn, coefficientsIn, headIn, offsetIn, lengthIn, headerIn, entryZeroIn}
+use Rattle.image.specs.Opening.{markOk}
+
+-- a head that 15 does not refuse
+pub record Headed (l : List ℕ) : Type 0 where
+  pub long : 56 ≤ length l
+  pub marked : markOk l ≡ true
+  pub limits : Limits (shapeIn l)
+  pub rate : 1 ≤ rateIn l
+  pub blocks : blocksIn l ≡ blockCount (shapeIn l)
+  pub zeros : zeroIn l ≡ 0
+  pub size : imageSize (shapeIn l) ≤ length l
+
+-- an entry that 16 does not refuse
+pub record EntryFits (l : List ℕ) (s : Shape) (j : ℕ) : Type 0 where
+  pub offset : offsetIn l j ≡ blockOffset s j
+  pub nibbles : lengthIn l j ≡ blockLength s j
+  pub zeros : entryZeroIn l j ≡ 0
+  pub header : headerIn l j ≡ getD l (blockOffset s j) 0
+
+pub record Opens (l : List ℕ) : Type 0 where
+  pub head : Headed l
+  pub entries : (j : ℕ) → j < blockCount (shapeIn l) → EntryFits l (shapeIn l) j
+
+-- the image opens and has a block k
+pub record Found (l : List ℕ) (k : ℕ) : Type 0 where
+  pub opens : Opens l
+  pub block : k < blockCount (shapeIn l)
+
+-- what playing block k was accepted with
+pub record Playable (l : List ℕ) (k room : ℕ) : Type 0 where
+  pub found : Found l k
+  pub pairs : lowestPair (coefficientsIn l) ≡ false
+  pub enough : addressToSample (lengthIn l k) ≤ room
+
+-- what playing the whole image was accepted with
+pub record AllPlayable (l : List ℕ) (room : ℕ) : Type 0 where
+  pub opens : Opens l
+  pub pairs : lowestPair (coefficientsIn l) ≡ false
+  pub enough : totalIn l ≤ room
+
+-- the image opens, B and where the bodies begin are as they were read, and there is a frame i
+pub record Source (l : List ℕ) (block at i : ℕ) : Type 0 where
+  pub opens : Opens l
+  pub size : block ≡ blockIn l
+  pub bodies : at ≡ bodiesPlace (shapeIn l)
+  pub frame : i < framesOf (totalIn l)
+
+-- frame i of an image that opens, with the head and the count that were read
+pub record Turn (l : List ℕ) (head : Head) (i count : ℕ) : Type 0 where
+  pub opens : Opens l
+  pub read : head ≡ headIn l
+  pub frame : i < framesOf (totalIn l)
+  pub samples : count ≡ frameSamples (totalIn l) i
+
+-- two images that open and have the same N, with the heads that were read
+pub record Pair (a b : List ℕ) (first second : Head) : Type 0 where
+  pub opens : Opens a
+  pub read : first ≡ headIn a
+  pub others : Opens b
+  pub other : second ≡ headIn b
+  pub total : totalIn a ≡ totalIn b

@@ -1,0 +1,59 @@
+-- `print_samples` is safe and ends. Assumes nothing.
+use Prim.Native.Nat.{_-_, _≤_}
+use lib.ListN.{length}
+use borrow.Author.Needs.{needs}
+use Rattle.replay.proofs.print_samples.Statement.{statement}
+use Rattle.replay.proofs.print_samples.Tie as tie
+
+abbrev Inv-loop : tie.InvT-loop
+Inv-loop samples i₀ i = i ≤ length samples
+
+abbrev μ-loop : tie.MeasureT-loop
+μ-loop samples i₀ i = length samples - i
+
+loop-holds : tie.Need-loop-holds Inv-loop μ-loop
+loop-holds c = search needs
+
+mul-bits16 : tie.Need-mul-bits16 Inv-loop μ-loop
+mul-bits16 c = search needs
+
+shared-slice-copy-out-bits16 : tie.Need-shared-slice-copy-out-bits16 Inv-loop μ-loop
+shared-slice-copy-out-bits16 c = search needs
+
+bits16-requires : tie.Need-bits16-requires Inv-loop μ-loop
+bits16-requires c κs = search needs
+
+cast-print-hex : tie.Need-cast-print-hex Inv-loop μ-loop
+cast-print-hex c = search needs
+
+print-hex-requires : tie.Need-print-hex-requires Inv-loop μ-loop
+print-hex-requires c κs = search needs
+
+add-i : tie.Need-add-i Inv-loop μ-loop
+add-i c = search needs
+
+loop-less : tie.Need-loop-less Inv-loop μ-loop
+loop-less c = search needs
+
+loop-again : tie.Need-loop-again Inv-loop μ-loop
+loop-again c = search needs
+
+returns : tie.Need-returns Inv-loop μ-loop
+returns c = search needs
+
+pub print-samples-spec : {M : Type 1} → statement M
+print-samples-spec =
+    tie.close
+    (tie.spec
+    Inv-loop
+    μ-loop
+    loop-holds
+    mul-bits16
+    shared-slice-copy-out-bits16
+    bits16-requires
+    cast-print-hex
+    print-hex-requires
+    add-i
+    loop-less
+    loop-again
+    returns)

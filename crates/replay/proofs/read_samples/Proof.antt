@@ -1,0 +1,64 @@
+-- `read_samples` is safe and ends. Assumes nothing.
+use Prim.Native.Nat.{_-_, _≤_}
+use mathlib.Core.Path.{_≡_}
+use lib.ListN.{length}
+use borrow.Author.Needs.{needs}
+use Rattle.replay.proofs.read_samples.Statement.{statement}
+use Rattle.replay.proofs.read_samples.Tie as tie
+
+abbrev Inv-loop : tie.InvT-loop
+Inv-loop line at samples₀ i₀ samples i = (i ≤ length samples₀) × (length samples ≡ length samples₀)
+
+abbrev μ-loop : tie.MeasureT-loop
+μ-loop line at samples₀ i₀ samples i = length samples₀ - i
+
+loop-holds : tie.Need-loop-holds Inv-loop μ-loop
+loop-holds c = search needs
+
+mul-sample : tie.Need-mul-sample Inv-loop μ-loop
+mul-sample c = search needs
+
+add-sample : tie.Need-add-sample Inv-loop μ-loop
+add-sample c = search needs
+
+sample-requires : tie.Need-sample-requires Inv-loop μ-loop
+sample-requires c κs = search needs
+
+mul-t9 : tie.Need-mul-t9 Inv-loop μ-loop
+mul-t9 c = search needs
+
+slice-set-from-samples : tie.Need-slice-set-from-samples Inv-loop μ-loop
+slice-set-from-samples c = search needs
+
+add-i : tie.Need-add-i Inv-loop μ-loop
+add-i c = search needs
+
+loop-less : tie.Need-loop-less Inv-loop μ-loop
+loop-less c = search needs
+
+loop-again : tie.Need-loop-again Inv-loop μ-loop
+loop-again c = search needs
+
+same-length : tie.Need-same-length Inv-loop μ-loop
+same-length c = search needs
+
+returns : tie.Need-returns Inv-loop μ-loop
+returns c = search needs
+
+pub read-samples-spec : {M : Type 1} → statement M
+read-samples-spec =
+    tie.close
+    (tie.spec
+    Inv-loop
+    μ-loop
+    loop-holds
+    mul-sample
+    add-sample
+    sample-requires
+    mul-t9
+    slice-set-from-samples
+    add-i
+    loop-less
+    loop-again
+    same-length
+    returns)

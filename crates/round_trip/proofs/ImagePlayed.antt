@@ -1,0 +1,118 @@
+-- What is heard of X's closed image: each block, all of them, and their nearness to X.
+use mathlib.Core.Path.{_≡_, refl, sym, ap, ap₂, _∙_}
+use mathlib.Core.Bool.{Bool, true, false, _&&_}
+use mathlib.Core.List.{List, _++_}
+use Prim.Native.Nat.{ℕ, zero, suc, _+_, _*_, _/_, _≤_, _<_}
+use native.Mathlib.Omega.{arith}
+use borrow.Author.Tests.{eqb-true, ne-eqb}
+use lib.Dec.{eqb}
+use lib.IntN.{ℤ, pos, negsuc}
+use lib.ListN.{length, getD, take, drop}
+use Rattle.frame.specs.Choice.{c0At, c1At, AllBounded}
+use Rattle.frame.specs.Pass.{Bounded}
+use Rattle.block.specs.Address.{addressToSample}
+use Rattle.block.specs.Frame.{Playing}
+use Rattle.block.specs.Play as Block
+use Rattle.block.specs.Refusals.{equal, lowestAmong, lowestPair}
+use Rattle.layout.specs.Sizes.{bodiesPlace, blockCount, blockLength}
+use Rattle.whole.specs.Frames.{framesOf}
+use Rattle.layout.specs.Sizes.{framePlace}
+use Rattle.clip.specs.Image.{startShape}
+use Rattle.clip.specs.declared.starting.Start.{Start}
+use Rattle.clip.specs.Runs.{encodedAt}
+use Rattle.clip.proofs.ImageByFrames.{Fine}
+use Rattle.round_trip.proofs.FieldsReadBack as read
+use Rattle.round_trip.proofs.FramesPlayed.{Audible}
+use Rattle.round_trip.proofs.BlocksOfX.{blockSound, blocksSound, soundOf, block-played, all-blocks, frame-place}
+use Rattle.whole.specs.Outcome.{accepted}
+use Rattle.image.specs.Reading.{coefficientsIn, offsetIn, lengthIn}
+use Rattle.image.specs.Bodies.{bodyIn}
+use Rattle.image.specs.inner.Asked.{Found, Playable, AllPlayable}
+use Rattle.image.specs.Playing.{PlayEffect, contextIn, play}
+use Rattle.image.specs.Sameness.{blockSamples, samplesFrom, samplesIn}
+use Rattle.image.specs.WholeImage.{playAll}
+use Rattle.image.proofs.Joined.{samples-snoc}
+use Rattle.image.proofs.LawsAll.{all-answered, all-output}
+use Rattle.image.proofs.LawsPlayed.{play-leaves, play-output, block-count}
+use Rattle.image.proofs.Parts.{part-at}
+use Rattle.round_trip.proofs.ImageOpens.{image, total-is, block-is, blocks-are, coefficients-are, entry-made, context-is, image-made}
+
+-- ---- coefficients with room in the arithmetic have no pair of -32768
+
+not-both : (c0 c1 : ℤ) → Bounded c0 c1 → equal c0 (negsuc 32767) && equal c1 (negsuc 32767) ≡ false
+not-both (pos m) c1 b = refl
+not-both (negsuc m) (pos n) b = go (eqb m 32767)
+  where
+    go : (t : Bool) → t && false ≡ false
+    go true = refl
+    go false = refl
+not-both (negsuc m) (negsuc n) b = go (eqb m 32767) refl
+  where
+    go : (t : Bool) → eqb m 32767 ≡ t → t && eqb n 32767 ≡ false
+    go true e = let p = eqb-true m 32767 e in ne-eqb n 32767 (λ q. omega (arith, b .sum))
+    go false e = refl
+
+none-lowest : (cs : List ℤ) → AllBounded cs → (k : ℕ) → k ≤ 8 → lowestAmong cs k ≡ false
+unfolding lowestAmong
+none-lowest cs b zero h = refl
+none-lowest cs b (suc k) h = rw (none-lowest cs b k (omega arith), not-both (c0At cs k) (c1At cs k) (b .pair k (omega arith)))
+
+-- ---- X's image
+
+module _ (g : Start) (F : Fine g) (xs : List ℤ) (rest : List ℕ) (A : Audible g xs) where
+  abbrev l : List ℕ
+  l = image g F xs rest
+
+  pub block-heard : (j : ℕ) → j < blockCount (startShape g) → blockSamples l j ≡ blockSound g xs j
+  unfolding blockSamples bodyIn
+  block-heard j few =
+      let e = entry-made g F xs rest j few in
+      let bytes = take ((lengthIn l j + 1) / 2) (drop (offsetIn l j) l) in
+      let at : (i : ℕ) → i < (blockLength (startShape g) j + 1) / 2 → getD bytes i 0 ≡ getD l (offsetIn l j + i) 0 = λ i h. part-at l (offsetIn l j) ((lengthIn l j + 1) / 2) i (omega (arith, e .nibbles)) in
+      let p = block-played g F xs rest j few bytes (λ i h. at i h ∙ ap (λ (o : ℕ). getD l (o + i) 0) (e .offset)) A in
+      ap₂ (λ (cs : List ℤ) (n : ℕ). Block.play bytes cs n (contextIn l j) .samples) (coefficients-are g F xs rest) (e .nibbles)
+      ∙ ap (λ (c : _). Block.play bytes (g .coefficients) (blockLength (startShape g) j) c .samples) (context-is g F xs rest j few A)
+      ∙ ap (λ (q : Playing). q .samples) p
+
+  blocks-heard : (k : ℕ) → k ≤ blockCount (startShape g) → samplesFrom l 0 k ≡ blocksSound g xs k
+  unfolding blocksSound samplesFrom
+  blocks-heard zero h = refl
+  blocks-heard (suc k) h =
+      samples-snoc l 0 k k (omega arith)
+      ∙ ap₂ (λ (a b : List ℤ). a ++ b) (blocks-heard k (omega arith)) (block-heard k (omega arith))
+
+  -- all that is heard is X's reconstruction
+  pub all-heard : samplesIn l ≡ soundOf g xs
+  unfolding samplesIn
+  all-heard = ap (samplesFrom l 0) (blocks-are g F xs rest) ∙ blocks-heard (blockCount (startShape g)) (omega arith) ∙ all-blocks g F xs
+
+  pairs-heard : lowestPair (coefficientsIn l) ≡ false
+  unfolding lowestPair
+  pairs-heard = rw (coefficients-are g F xs rest) (none-lowest (g .coefficients) (A .bounded) 8 (omega arith))
+
+  -- a block plays to an output with enough room
+  pub block-plays : (k : ℕ) (out : List ℤ) → k < blockCount (startShape g)
+      → (let n = addressToSample (blockLength (startShape g) k) in
+      n ≤ length out → (play l k out .outcome ≡ accepted n) × (length (blockSamples l k) ≡ n) × (play l k out .out ≡ blockSamples l k ++ drop n out))
+  block-plays k out few room =
+      let e = entry-made g F xs rest k few in
+      let f : Found l k = record { opens = image-made g F xs rest; block = rw (total-is g F xs rest, block-is g F xs rest) few } in
+      let p : Playable l k (length out) =
+      record { found = f; pairs = pairs-heard; enough = rw (e .nibbles) room } in (
+        ap (λ (v : PlayEffect). v .outcome) (sym (play-leaves l k out p)) ∙ ap (λ (n : ℕ). accepted (addressToSample n)) (e .nibbles),
+        block-count l k f ∙ ap addressToSample (e .nibbles),
+        play-output l k out p ∙ ap (λ (n : ℕ). blockSamples l k ++ drop (addressToSample n) out) (e .nibbles),
+      )
+
+  -- the whole image plays to an output with enough room
+  pub all-plays : (out : List ℤ) → g .total ≤ length out → (playAll l out .outcome ≡ accepted (g .total)) × (playAll l out .out ≡ samplesIn l ++ drop (g .total) out)
+  all-plays out room =
+      let n = total-is g F xs rest in
+      let p : AllPlayable l (length out) = record { opens = image-made g F xs rest; pairs = pairs-heard; enough = rw n room } in
+      (all-answered l out p ∙ ap accepted n, all-output l out p ∙ ap (λ (k : ℕ). samplesIn l ++ drop k out) n)
+
+  -- a frame's header byte in the image
+  pub header-heard : (q : ℕ) → q < framesOf (g .total) → getD l (framePlace (startShape g) q) 0 ≡ getD (encodedAt g xs q .bytes) 0 0
+  header-heard q h =
+      let e : framePlace (startShape g) q ≡ bodiesPlace (startShape g) + (8 * q + 0) = omega arith in
+      ap (λ (i : ℕ). getD l i 0) e ∙ read.body-at g F xs (framesOf (g .total)) rest q 0 h (omega arith) (frame-place (g .total) q h)

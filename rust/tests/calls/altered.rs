@@ -1,0 +1,89 @@
+//! What the calls do with states and buffers that do not belong together, and with altered states that pass the test of code 1.
+
+use crate::clips::{Random, encode_from, noise, start_of, tone};
+use doilycairn::{Calculator, Encoder, EncoderState, Image, Refusal, Start, image_size};
+
+/// A clip of 100 samples, its start, and the state and buffer after 50.
+fn half() -> (Vec<i16>, Start, EncoderState, Vec<u8>) {
+    let clip = tone(100);
+    let start = start_of(&clip, 16);
+    let mut encoder = Encoder::start(&start).unwrap();
+    encoder.feed(&clip[..50]).unwrap();
+    let (state, image) = encoder.into_parts();
+    (clip, start, state, image)
+}
+
+#[test]
+fn a_state_that_says_more_was_fed_closes_to_an_image_that_opens() {
+    let (clip, start, state, mut image) = half();
+    let forged = EncoderState { fed: 100, ..state };
+    forged.close(&mut image).unwrap();
+    assert_eq!(Image::open(&image).unwrap().play().unwrap().len(), 100);
+    assert_ne!(image, encode_from(&start, &clip));
+}
+
+#[test]
+fn a_state_with_another_history_encodes_other_frames() {
+    let (clip, start, mut state, mut image) = half();
+    state.history.newest = state.history.newest.wrapping_add(9000);
+    state.frame[0] = state.frame[0].wrapping_add(9000);
+    state.feed(&clip[50..], &mut image).unwrap().close(&mut image).unwrap();
+    assert!(Image::open(&image).is_ok());
+    assert_ne!(image, encode_from(&start, &clip));
+}
+
+#[test]
+fn with_an_empty_buffer_the_head_is_missing() {
+    let (clip, _, state, image) = half();
+    let mut other = vec![0; image.len() + 9];
+    state.feed(&clip[50..], &mut other).unwrap().close(&mut other).unwrap();
+    assert_eq!(Image::open(&other).unwrap_err(), Refusal::BadHead);
+    assert_eq!(other[image.len()..], [0; 9]);
+}
+
+#[test]
+fn with_another_clips_buffer_that_clips_head_stays() {
+    let (clip, _, state, image) = half();
+    let longer = noise(700, 9000, 4);
+    let start = start_of(&longer, 16);
+    let mut other = encode_from(&start, &longer);
+    let before = other.clone();
+    state.feed(&clip[50..], &mut other).unwrap().close(&mut other).unwrap();
+    assert_eq!(other[..56], before[..56]);
+    assert_eq!(other[image.len()..], before[image.len()..]);
+}
+
+#[test]
+fn any_store_gives_coefficients_within_their_limits_or_the_lowest() {
+    let mut random = Random(5);
+    let (mut lowest, mut within) = (0, 0);
+    for _ in 0..500 {
+        let any = |random: &mut Random| {
+            let bits = u64::from(random.next()) << 33 | u64::from(random.next()) << 11;
+            match random.next() % 40 {
+                0 => f64::NAN,
+                1..20 => f64::from_bits(bits),
+                _ => f64::from(random.next() as i32 % 2001 - 1000) / 1000.0,
+            }
+        };
+        let mut store: Vec<f64> = (0..20).map(|_| any(&mut random)).collect();
+        let state = Calculator { samples: 140, records: 10, history: [0; 28] };
+        for (c0, c1) in state.finish(&mut store).unwrap().pairs() {
+            for (c, most) in [(c0, 4096), (c1, 2048)] {
+                assert!(c == i16::MIN || c.unsigned_abs() <= most);
+                if c == i16::MIN { lowest += 1 } else { within += 1 }
+            }
+        }
+    }
+    assert!(lowest > 0 && within > 0);
+}
+
+#[test]
+fn a_state_and_its_buffer_may_be_moved() {
+    let (clip, start, state, image) = half();
+    let size = image_size(100, 16).unwrap();
+    let mut moved = vec![7; size + 50];
+    moved[20..20 + size].copy_from_slice(&image);
+    state.feed(&clip[50..], &mut moved[20..]).unwrap().close(&mut moved[20..]).unwrap();
+    assert_eq!(moved[20..20 + size], encode_from(&start, &clip));
+}

@@ -1,0 +1,34 @@
+//! Short memory: a failure in words, nothing left behind.
+
+use crate::support::{Folder, Run, TOOL, image, sound, wav};
+use std::process::Command;
+
+/// Runs the tool with so many kilobytes of address space.
+fn limited(folder: &Folder, kilobytes: u32, line: &str) -> Run {
+    let script = format!("ulimit -v {kilobytes}; exec {TOOL} {line}");
+    let mut shell = Command::new("sh");
+    shell.env("RUST_BACKTRACE", "1");
+    Run::of(&shell.arg("-c").arg(script).current_dir(&folder.0).output().unwrap())
+}
+
+#[test]
+fn what_cannot_be_had_is_told() {
+    let folder = Folder::new();
+    let clip = sound(1_000_000, 1);
+    folder.write("in.wav", wav(&clip, 32_000));
+    folder.write("in.dspc", image(&clip, 32_000, 8192));
+    let lines = ["encode in.wav out", "trim --from 1 in.dspc out", "info --against in.wav in.dspc"];
+    for line in lines {
+        // More and more, until it is enough; at first not even the program can be loaded.
+        let mut told = 0;
+        let done = (5000..50_000).step_by(700).find(|kilobytes| {
+            let run = limited(&folder, *kilobytes, line);
+            assert!([0, 5, 127].contains(&run.status), "{line} {kilobytes}: {run:?}");
+            assert!(!run.err.contains("panicked") && !run.err.contains("backtrace"), "{run:?}");
+            told += usize::from(run.err.contains("memory is short: "));
+            run.status == 0
+        });
+        assert!(done.is_some() && told > 0, "{line}");
+    }
+    assert_eq!(folder.names(), ["in.dspc", "in.wav", "out"]);
+}
