@@ -20,13 +20,14 @@ use Rattle.clip.specs.inner.Asked.{Going}
 use Rattle.clip.proofs.Accepting.{feed-accepted, feed-open}
 use Rattle.clip.proofs.Pieces.{going-next}
 
--- what feeding leaves as it was
-pub record Kept (s t : Left) : Type 0 where
+-- what feeding n samples leaves as it was, and how many are fed then
+pub record Kept (n : ℕ) (s t : Left) : Type 0 where
   pub closed : t .encoder .closed ≡ s .encoder .closed
   pub rate : t .encoder .rate ≡ s .encoder .rate
   pub total : t .encoder .total ≡ s .encoder .total
+  pub fed : t .encoder .fed ≡ s .encoder .fed + n
 
-push-kept : (s : Left) (x : ℤ) → Kept s (push s x)
+push-kept : (s : Left) (x : ℤ) → Kept 1 s (push s x)
 unfolding push
 push-kept s x = go (eqb (s .encoder .fed % 14) 13)
   where
@@ -40,44 +41,18 @@ push-kept s x = go (eqb (s .encoder .fed % 14) 13)
     c = encodeFrame (s .encoder .history) (set (s .encoder .frame) (s .encoder .fed % 14) x) (s .encoder .coefficients)
 
     go : (t : Bool)
-        → Kept s (cond t
+        → Kept 1 s (cond t
         (left (moved e (e .fed + 1) (historyAfter (e .history) (c .samples) 14) noFrame (e .passes + c .passes) (e .closed)) (store (encoderShape e) (e .fed / 14) (c .bytes) (e .history) (s .bytes)))
         (left (moved e (e .fed + 1) (e .history) f (e .passes) (e .closed)) (s .bytes)))
-    go true = record { closed = refl; rate = refl; total = refl }
-    go false = record { closed = refl; rate = refl; total = refl }
+    go true = record { closed = refl; rate = refl; total = refl; fed = refl }
+    go false = record { closed = refl; rate = refl; total = refl; fed = refl }
 
-piece-kept : (xs : List ℤ) (s : Left) → Kept s (feedAll s xs)
-piece-kept [] s = record { closed = refl; rate = refl; total = refl }
+piece-kept : (xs : List ℤ) (s : Left) → Kept (length xs) s (feedAll s xs)
+piece-kept [] s = record { closed = refl; rate = refl; total = refl; fed = omega arith }
 piece-kept (x ∷ xs) s =
     let a = push-kept s x in
     let b = piece-kept xs (push s x) in
-    record { closed = b .closed ∙ a .closed; rate = b .rate ∙ a .rate; total = b .total ∙ a .total }
-
--- each sample counts
-push-fed : (s : Left) (x : ℤ) → push s x .encoder .fed ≡ s .encoder .fed + 1
-unfolding push
-push-fed s x = go (eqb (s .encoder .fed % 14) 13)
-  where
-    e : Encoder
-    e = s .encoder
-
-    f : List ℤ
-    f = set (s .encoder .frame) (s .encoder .fed % 14) x
-
-    c : EncodedFrame
-    c = encodeFrame (s .encoder .history) (set (s .encoder .frame) (s .encoder .fed % 14) x) (s .encoder .coefficients)
-
-    go : (t : Bool)
-        → cond t
-        (left (moved e (e .fed + 1) (historyAfter (e .history) (c .samples) 14) noFrame (e .passes + c .passes) (e .closed)) (store (encoderShape e) (e .fed / 14) (c .bytes) (e .history) (s .bytes)))
-        (left (moved e (e .fed + 1) (e .history) f (e .passes) (e .closed)) (s .bytes)) .encoder .fed
-        ≡ s .encoder .fed + 1
-    go true = refl
-    go false = refl
-
-piece-fed : (xs : List ℤ) (s : Left) → feedAll s xs .encoder .fed ≡ s .encoder .fed + length xs
-piece-fed [] s = omega arith
-piece-fed (x ∷ xs) s = omega (arith, piece-fed xs (push s x), push-fed s x)
+    record { closed = b .closed ∙ a .closed; rate = b .rate ∙ a .rate; total = b .total ∙ a .total; fed = omega (arith, b .fed, a .fed) }
 
 -- the samples of a piece in turn
 piece-going : (xs : List ℤ) (s : Left) (i m : ℕ) → i + length xs ≤ m → Going (s .encoder) i m (length (s .bytes))
@@ -165,8 +140,9 @@ module _ (e : Encoder) (a b : List ℤ) (l : List ℕ) where
       let o = feed-open e (length a) (length l) w in
       let v = sym (answered (half .encoder) b (half .bytes)) ∙ sym (ap (λ (z : Effect). feed (z .encoder) b (z .bytes) .outcome) (accepted-by e a l w)) ∙ q in
       let r = feed-accepted (half .encoder) (length b) (length (half .bytes)) v .rest in
-      let f = piece-fed a (left e l) in
-      let t = piece-kept a (left e l) .total in
+      let k = piece-kept a (left e l) in
+      let f = k .fed in
+      let t = k .total in
       let n = length-append a b in
       let both : Going e 0 (length (a ++ b)) (length l) = record { limits = g .limits; within = g .within; rest = omega arith; count = g .count; size = g .size } in
       answered e (a ++ b) l ∙ going-accepts e (length (a ++ b)) (length l) (o .1) (o .0) both

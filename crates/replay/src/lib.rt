@@ -1,14 +1,13 @@
 // What the replay programs share: numbers in hexadecimal digits of lower case, read from a line and written to the output.
 ghost use mathlib.Core.Path.{_≡_};
-ghost use Prim.Native.Nat.{_+_, _*_, _≤_, _<_};
+ghost use Prim.Native.Nat.{_+_, _-_, _*_, _≤_, _<_};
+ghost use lib.Seq.{sets};
 ghost use lib.ListN.{length};
-ghost use mir.Syntax.{w16};
-ghost use mir.Val.{toZ};
-ghost use Rattle.replay.specs.Digits.{digit, byte, word, doubleWord, quadWord};
+ghost use Rattle.replay.specs.Digits.{digit, byte, word, doubleWord, quadWord, sampleAt, samplesAt, least, beginning, ending, floatBits};
 
 // The smaller of two numbers.
 pub fn least(a: usize, b: usize) -> usize
-    ensures { λ r. ⌜ (r ≤ a) × (r ≤ b) ⌝ }
+    ensures { λ r. ⌜ (r ≤ a) × (r ≤ b) × (r ≡ least a b) ⌝ }
 {
     if a < b { a } else { b }
 }
@@ -26,7 +25,7 @@ pub fn digit(c: u8) -> u8
     (c % 16 + 9) % 16
 }
 
-// The number of the two digits from a place on.
+// internal: the number of the two digits from a place on.
 pub fn byte(line: &[u8], at: usize) -> u8
     requires { ⌜ at + 2 ≤ length (now line) ⌝ }
     ensures { λ r. ⌜ r ≡ byte (now (line .entry)) at ⌝ }
@@ -34,7 +33,7 @@ pub fn byte(line: &[u8], at: usize) -> u8
     digit(line[at]) * 16 + digit(line[at + 1])
 }
 
-// The number of the four digits from a place on.
+// internal: the number of the four digits from a place on.
 pub fn word(line: &[u8], at: usize) -> u16
     requires { ⌜ at + 4 ≤ length (now line) ⌝ }
     ensures { λ r. ⌜ r ≡ word (now (line .entry)) at ⌝ }
@@ -42,7 +41,7 @@ pub fn word(line: &[u8], at: usize) -> u16
     byte(line, at) as u16 * 256 + byte(line, at + 2) as u16
 }
 
-// The number of the eight digits from a place on.
+// internal: the number of the eight digits from a place on.
 pub fn double_word(line: &[u8], at: usize) -> u32
     requires { ⌜ at + 8 ≤ length (now line) ⌝ }
     ensures { λ r. ⌜ r ≡ doubleWord (now (line .entry)) at ⌝ }
@@ -50,7 +49,7 @@ pub fn double_word(line: &[u8], at: usize) -> u32
     word(line, at) as u32 * 65536 + word(line, at + 4) as u32
 }
 
-// The number of the sixteen digits from a place on.
+// internal: the number of the sixteen digits from a place on.
 pub fn quad_word(line: &[u8], at: usize) -> u64
     requires { ⌜ at + 16 ≤ length (now line) ⌝ }
     ensures { λ r. ⌜ r ≡ quadWord (now (line .entry)) at ⌝ }
@@ -58,17 +57,18 @@ pub fn quad_word(line: &[u8], at: usize) -> u64
     double_word(line, at) as u64 * 4294967296 + double_word(line, at + 8) as u64
 }
 
-// The signed number of the four digits from a place on.
+// internal: the signed number of the four digits from a place on.
 pub fn sample(line: &[u8], at: usize) -> i16
     requires { ⌜ at + 4 ≤ length (now line) ⌝ }
-    ensures { λ r. ⌜ r ≡ toZ w16 (word (now (line .entry)) at) ⌝ }
+    ensures { λ r. ⌜ r ≡ sampleAt (now (line .entry)) at ⌝ }
 {
     layout::fields::signed16(word(line, at))
 }
 
-// Reads as many samples as there is room for, of four digits each, from a place on.
+// internal: reads as many samples as there is room for, of four digits each, from a place on.
 pub fn read_samples(line: &[u8], at: usize, samples: &mut [i16])
     requires { ⌜ at + 4 * length (now samples) ≤ length (now line) ⌝ }
+    ensures { λ _. ⌜ now (samples .exit) ≡ samplesAt (now (line .entry)) at (length (now (samples .entry))) ⌝ }
 {
     let mut i: usize = 0;
     while i < samples.len() {
@@ -77,9 +77,11 @@ pub fn read_samples(line: &[u8], at: usize, samples: &mut [i16])
     }
 }
 
-// Adds `count` samples to the `pending` ones of a piece, and answers its length. Those for which there is no room are left out.
+// internal: adds `count` samples to the `pending` ones of a piece, and answers its length. Those for which there is no room are left out.
 pub fn add_samples(line: &[u8], at: usize, count: usize, piece: &mut [i16], pending: usize) -> usize
     requires { ⌜ at + 4 * count ≤ length (now line) ⌝ }
+    ensures end { λ r. ⌜ r ≡ ending (length (now (piece .entry))) pending count ⌝ }
+    ensures stored { λ r. ⌜ now (piece .exit) ≡ sets (now (piece .entry)) (beginning (length (now (piece .entry))) pending) (samplesAt (now (line .entry)) at (r - beginning (length (now (piece .entry))) pending)) ⌝ }
 {
     let start = least(pending, piece.len());
     let end = start + least(count, piece.len() - start);
@@ -88,7 +90,9 @@ pub fn add_samples(line: &[u8], at: usize, count: usize, piece: &mut [i16], pend
 }
 
 // The pattern of a float, one and the same for every NaN.
-pub fn float_bits(x: f64) -> u64 {
+pub fn float_bits(x: f64) -> u64
+    ensures { λ r. ⌜ r ≡ floatBits x ⌝ }
+{
     if x != x {
         return 0x7ff8_0000_0000_0000;
     }
