@@ -14,7 +14,7 @@ use Rattle.whole.proofs.Stores.{sets-then}
 use Rattle.whole.specs.declared.History.{History}
 use Rattle.block.specs.declared.FrameContext.{FrameContext}
 use Rattle.block.specs.Context.{predictor, scale, historyWith, contextWith, pushSample}
-use Rattle.block.specs.Frame.{nibbleAt, Playing, playing, nextSample, takeNibble, lent, into}
+use Rattle.block.specs.Frame.{nibbleAt, Playing, playing, nextSample, takeNibble, into}
 use Rattle.block.specs.inner.Frames.{nibblesFrom, playFrame}
 use Rattle.block.specs.inner.Nibbles.{Decoded, decoded, decodeNibble, decodeNibbles, playNibbles}
 
@@ -131,7 +131,7 @@ frame-decoded bytes at count cs c = nibbles-decoded cs (c .«predictor_and_scale
 -- what the step leaves, from what the nibbles' call answers
 pub frame-into : (bytes : List ℕ) (at count : ℕ) (cs : List ℤ) (c : FrameContext) (out : List ℤ) (to : ℕ) (h : History) (o : List ℤ)
     → h ≡ decodedAt bytes (2 * (at + 1)) count cs c .history → o ≡ sets out to (decodedAt bytes (2 * (at + 1)) count cs c .samples)
-    → lent (contextWith (c .«predictor_and_scale») h) o ≡ into out to (playFrame bytes at count cs (playing c []))
+    → playing (contextWith (c .«predictor_and_scale») h) o ≡ into out to (playFrame bytes at count cs (playing c []))
 frame-into bytes at count cs c out to h o e f =
     let g : 2 * (at + 1) ≡ 2 * at + 2 = omega arith in
     let d = rw g at e in

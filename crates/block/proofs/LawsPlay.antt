@@ -12,7 +12,7 @@ use native.Mathlib.Numerals.{add-one}
 use Rattle.block.specs.declared.FrameContext.{FrameContext}
 use Rattle.block.specs.Address.{addressToSample}
 use Rattle.block.specs.Context.{withHeader}
-use Rattle.block.specs.Frame.{nibbleAt, Playing, playing, takeNibble, Lent, lent, into}
+use Rattle.block.specs.Frame.{nibbleAt, Playing, playing, takeNibble, into}
 use Rattle.block.specs.inner.Frames.{nibblesFrom, playFrame, playFrames}
 use Rattle.block.specs.Play.{takeHeader, playFrom, play, playInto}
 use Rattle.whole.proofs.Stores.{sets-then}
@@ -163,11 +163,11 @@ frame-after bytes at n cs p out to e =
     let f : playFrame bytes at n cs p ≡ onto (p .samples) (playFrame bytes at n cs (playing (p .context) [])) =
     ap (λ (xs : List ℤ). playFrame bytes at n cs (playing (p .context) xs)) (sym (append-nil (p .samples))) ∙ frame-onto bytes at n cs (p .samples) (playing (p .context) []) in
     let q = playFrame bytes at n cs (playing (p .context) []) in
-    rw f (ap (λ (o : List ℤ). lent (q .context) o) (sets-then out 0 to (p .samples) (q .samples) (e ∙ sym (zero-add (length (p .samples))))))
+    rw f (ap (λ (o : List ℤ). playing (q .context) o) (sets-then out 0 to (p .samples) (q .samples) (e ∙ sym (zero-add (length (p .samples))))))
 
 -- a turn of the loop over frames
 pub frame-turn : (bytes : List ℕ) (cs : List ℤ) (k : ℕ) (start : Playing) (now after : FrameContext) (out o o′ : List ℤ) → length (start .samples) ≡ 0
-    → playFrames bytes cs k start .context ≡ now → o ≡ sets out 0 (playFrames bytes cs k start .samples) → lent after o′ ≡ into o (14 * k) (playFrame bytes (8 * k) 14 cs (playing now []))
+    → playFrames bytes cs k start .context ≡ now → o ≡ sets out 0 (playFrames bytes cs k start .samples) → playing after o′ ≡ into o (14 * k) (playFrame bytes (8 * k) 14 cs (playing now []))
     → (playFrames bytes cs (k + 1) start .context ≡ withHeader after (getD bytes (8 * (k + 1)) 0)) × (o′ ≡ sets out 0 (playFrames bytes cs (k + 1) start .samples))
 unfolding playFrames takeHeader
 frame-turn bytes cs k start now after out o o′ z e f g =
@@ -175,14 +175,14 @@ frame-turn bytes cs k start now after out o o′ z e f g =
     let q = playFrame bytes (8 * k) 14 cs p in
     let l : 14 * k ≡ length (p .samples) = omega (arith, frames-count bytes cs k start) in
     let i : 16 * suc k / 2 ≡ 8 * suc k = omega arith in
-    let h : lent after o′ ≡ into out 0 q = (rw (← e, f) at g) ∙ frame-after bytes (8 * k) 14 cs p out (14 * k) l in
-    (rw (add-one, i) (ap (λ (x : Lent). withHeader (x .context) (getD bytes (8 * suc k) 0)) (sym h)), rw add-one (ap (λ (x : Lent). x .out) h))
+    let h : playing after o′ ≡ into out 0 q = (rw (← e, f) at g) ∙ frame-after bytes (8 * k) 14 cs p out (14 * k) l in
+    (rw (add-one, i) (ap (λ (x : Playing). withHeader (x .context) (getD bytes (8 * suc k) 0)) (sym h)), rw add-one (ap (λ (x : Playing). x .samples) h))
 
 -- the last frame after the loop
 pub frame-end : (bytes : List ℕ) (cs : List ℤ) (k left : ℕ) (c now after : FrameContext) (out o o′ : List ℤ) → 0 < left → left ≤ 16
     → playFrames bytes cs k (playing c []) .context ≡ now → o ≡ sets out 0 (playFrames bytes cs k (playing c []) .samples)
-    → lent after o′ ≡ into o (14 * k) (playFrame bytes (8 * k) (left - 2) cs (playing now []))
-    → lent after o′ ≡ playInto bytes cs (16 * k + left) c out
+    → playing after o′ ≡ into o (14 * k) (playFrame bytes (8 * k) (left - 2) cs (playing now []))
+    → playing after o′ ≡ playInto bytes cs (16 * k + left) c out
 unfolding playInto
 frame-end bytes cs k left c now after out o o′ z m e f g =
     let p = playFrames bytes cs k (playing c []) in

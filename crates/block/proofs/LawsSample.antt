@@ -3,7 +3,7 @@ use Prim.Native.Nat.{ℕ, _≤_, _<_}
 use native.Mathlib.Omega.{arith}
 use lib.Dec.{ltb}
 use lib.IntN.{pos, natAbs, _-ℤ_}
-use Rattle.whole.proofs.Values.{abs-cond, abs-sub}
+use Rattle.whole.proofs.SignedLocals.{abs-cond, abs-sub}
 use Rattle.whole.specs.Whole.{signedNibble}
 
 pub nibble-size : (n : ℕ) → n < 16 → natAbs (signedNibble n) ≤ 31

@@ -14,7 +14,7 @@ use Rattle.block.specs.Sample.{decodeSample}
 unfoldable pub nibbleAt : List ℕ → ℕ → ℕ
 nibbleAt bytes a = cond (eqb (a % 2) 0) (getD bytes (a / 2) 0 / 16) (getD bytes (a / 2) 0 % 16)
 
--- what playing carries: the context, and the samples so far
+-- what playing carries and leaves: a context, and samples: those so far, or those of a lent output
 pub record Playing : Type 0 where
   pub context : FrameContext
   pub samples : List ℤ
@@ -36,15 +36,6 @@ takeNibble cs p n =
     let x = nextSample cs (p .context) n in
     playing (pushSample (p .context) x) (p .samples ++ (x ∷ []))
 
--- a context, and what a lent output holds
-pub record Lent : Type 0 where
-  pub context : FrameContext
-  pub out : List ℤ
-
--- a context and an output, together
-abbrev pub lent : FrameContext → List ℤ → Lent
-lent c out = record { context = c; out = out }
-
 -- what was played, its samples stored in an output from a place on
-abbrev pub into : List ℤ → ℕ → Playing → Lent
-into out to p = lent (p .context) (sets out to (p .samples))
+abbrev pub into : List ℤ → ℕ → Playing → Playing
+into out to p = playing (p .context) (sets out to (p .samples))

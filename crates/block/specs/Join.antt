@@ -9,16 +9,7 @@ use lib.Seq.{sets}
 use Rattle.block.specs.declared.JoinAnswer.{JoinAnswer}
 use Rattle.block.specs.declared.JoinAnswer.the-variants as Answers
 use Rattle.block.specs.Refusals.{code, equalCoefficients}
-use Rattle.whole.specs.Outcome.{Outcome, accepted, refused}
-
--- what a call of joining leaves: its answer and the output
-pub record JoinEffect : Type 0 where
-  pub outcome : Outcome ℕ
-  pub out : List ℕ
-
--- an outcome and an output, together
-abbrev pub joinEffect : Outcome ℕ → List ℕ → JoinEffect
-joinEffect o out = record { outcome = o; out = out }
+use Rattle.whole.specs.Outcome.{Outcome, accepted, refused, Effect, effect}
 
 -- the sum of the lengths, or the refusal's number
 abbrev pub joinOutcome : JoinAnswer → Outcome ℕ
@@ -26,8 +17,8 @@ joinOutcome (Answers.Joined n) = accepted n
 joinOutcome (Answers.Refused r) = refused (code r)
 
 -- joining: refusals 14 and 18 in that sequence, the output unaltered; else the first block's bytes and then the second's, and the lengths' sum
-unfoldable pub extendSamples : List ℕ → ℕ → List ℤ → List ℕ → ℕ → List ℤ → List ℕ → JoinEffect
+unfoldable pub extendSamples : List ℕ → ℕ → List ℤ → List ℕ → ℕ → List ℤ → List ℕ → Effect (Outcome ℕ) (List ℕ)
 extendSamples first m cs second n ds out =
-    cond (ltb (length out) (length first + length second)) (joinEffect (refused 14) out)
-    (cond (not (equalCoefficients cs ds)) (joinEffect (refused 18) out)
-    (joinEffect (accepted (m + n)) (sets out 0 (first ++ second))))
+    cond (ltb (length out) (length first + length second)) (effect (refused 14) out)
+    (cond (not (equalCoefficients cs ds)) (effect (refused 18) out)
+    (effect (accepted (m + n)) (sets out 0 (first ++ second))))

@@ -29,8 +29,7 @@ badLength len bytes = eqb len 0 || ltb (2 * bytes) len
 -- one of the first k pairs with both −32,768
 unfoldable pub lowestAmong : List ℤ → ℕ → Bool
 lowestAmong cs zero = false
-lowestAmong cs (suc k) =
-    lowestAmong cs k || (equal (getD cs (2 * k) (pos 0)) (negsuc 32767) && equal (getD cs (2 * k + 1) (pos 0)) (negsuc 32767))
+lowestAmong cs (suc k) = lowestAmong cs k || (equal (getD cs (2 * k) (pos 0)) (negsuc 32767) && equal (getD cs (2 * k + 1) (pos 0)) (negsuc 32767))
 
 -- 13: one of the eight pairs with both −32,768
 unfoldable pub lowestPair : List ℤ → Bool

@@ -13,11 +13,12 @@ ghost use Rattle.block.specs.Context.{predictor, scale, pushSample, with
 ghost use Prim.Native.Nat.{_+_, _*_, _≤_};
 ghost use lib.ListN.{length};
 ghost use mathlib.Core.List.{[]};
-ghost use Rattle.block.specs.Frame.{playing, lent, into};
+ghost use Rattle.block.specs.Frame.{playing, into};
 ghost use Rattle.block.specs.inner.Frames.{playFrame};
 ghost use Rattle.block.specs.Refusals.{code};
-ghost use Rattle.block.specs.Play.{playBytes, playEffect, playOutcome};
-ghost use Rattle.block.specs.Join.{extendSamples, joinEffect, joinOutcome};
+ghost use Rattle.block.specs.Play.{playBytes, playOutcome};
+ghost use Rattle.block.specs.Join.{extendSamples, joinOutcome};
+ghost use Rattle.whole.specs.Outcome.{effect};
 
 // What playing carries from frame to frame: the header, and the newest sample and the one before it.
 #[repr(C)]
@@ -140,7 +141,7 @@ pub fn play_frame(
     to: usize,
 ) -> FrameContext
     requires { ⌜ (2 * at + 2 + count ≤ 2 * length (now bytes)) × (to + count ≤ length (now out)) ⌝ }
-    ensures { λ r. ⌜ lent r (now (out .exit)) ≡ into (now (out .entry)) to (playFrame (now (bytes .entry)) at count coefficients (playing context [])) ⌝ }
+    ensures { λ r. ⌜ playing r (now (out .exit)) ≡ into (now (out .entry)) to (playFrame (now (bytes .entry)) at count coefficients (playing context [])) ⌝ }
 {
     let index = 2 * context.predictor();
     let c0 = coefficients[index];
@@ -161,7 +162,7 @@ pub fn play_bytes(
     context: FrameContext,
     out: &mut [i16],
 ) -> Playback
-    ensures { λ r. ⌜ playEffect (playOutcome (r .answer)) (lent (r .context) (now (out .exit))) ≡ playBytes (now (bytes .entry)) len coefficients context (now (out .entry)) ⌝ }
+    ensures { λ r. ⌜ effect (playOutcome (r .answer)) (playing (r .context) (now (out .exit))) ≡ playBytes (now (bytes .entry)) len coefficients context (now (out .entry)) ⌝ }
 {
     if play::bad_length(len, bytes.len()) {
         return Playback {
@@ -199,7 +200,7 @@ pub fn extend_samples(
     second_coefficients: [i16; 16],
     out: &mut [u8],
 ) -> JoinAnswer
-    ensures { λ r. ⌜ joinEffect (joinOutcome r) (now (out .exit)) ≡ extendSamples (now (first .entry)) «first_len» «first_coefficients» (now (second .entry)) «second_len» «second_coefficients» (now (out .entry)) ⌝ }
+    ensures { λ r. ⌜ effect (joinOutcome r) (now (out .exit)) ≡ extendSamples (now (first .entry)) «first_len» «first_coefficients» (now (second .entry)) «second_len» «second_coefficients» (now (out .entry)) ⌝ }
 {
     if join::shorter(out.len(), first.len(), second.len()) {
         return JoinAnswer::Refused(Refusal::OutputTooShort);

@@ -7,7 +7,7 @@ ghost use mathlib.Core.Path.{_≡_};
 ghost use Prim.Native.Nat.{_-_, _*_, _≤_, _<_};
 ghost use lib.ListN.{length};
 ghost use Rattle.block.specs.Address.{addressToSample};
-ghost use Rattle.block.specs.Frame.{lent};
+ghost use Rattle.block.specs.Frame.{playing};
 ghost use Rattle.block.specs.Refusals.{badLength};
 ghost use Rattle.block.specs.Play.{playInto};
 
@@ -37,7 +37,7 @@ pub fn play_into(
     out: &mut [i16],
 ) -> FrameContext
     requires { ⌜ (0 < len) × (len ≤ 2 * length (now bytes)) × (addressToSample len ≤ length (now out)) ⌝ }
-    ensures { λ r. ⌜ lent r (now (out .exit)) ≡ playInto (now (bytes .entry)) coefficients len context (now (out .entry)) ⌝ }
+    ensures { λ r. ⌜ playing r (now (out .exit)) ≡ playInto (now (bytes .entry)) coefficients len context (now (out .entry)) ⌝ }
 {
     let mut current = context;
     let mut k: usize = 0;

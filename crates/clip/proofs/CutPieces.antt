@@ -10,14 +10,15 @@ use lib.IntN.{ℤ}
 use lib.ListN.{length, set, length-append}
 use Rattle.frame.specs.Frame.{encodeFrame, historyAfter}
 use Rattle.frame.specs.declared.EncodedFrame.{EncodedFrame}
-use Rattle.whole.specs.Outcome.{Outcome, accepted, refused}
+use Rattle.whole.specs.Outcome.{Outcome, accepted, refused, effect}
 use Rattle.clip.specs.declared.Encoder.{Encoder}
 use Rattle.layout.specs.Sizes.{imageSize}
 use Rattle.whole.specs.Frames.{most}
-use Rattle.clip.specs.Encoding.{encoderShape, Left, left, Effect, effect, store, moved, noFrame, push, feedAll, countsOk, valid, feedAnswer, feedBy, feed}
+use Rattle.clip.specs.Encoding.{encoderShape, Left, left, store, moved, noFrame, push, feedAll, countsOk, valid, feedAnswer, feed}
 use Rattle.layout.specs.Limits.{numbersOk}
 use Rattle.clip.specs.inner.Asked.{Going}
-use Rattle.clip.proofs.Accepting.{feed-accepted, feed-open}
+use Rattle.clip.proofs.ByOutcome.{CallEffect, feedBy}
+use Rattle.clip.proofs.AcceptedCalls.{feed-accepted, feed-open}
 use Rattle.clip.proofs.Pieces.{going-next}
 
 -- what feeding n samples leaves as it was, and how many are fed then
@@ -28,7 +29,7 @@ pub record Kept (n : ℕ) (s t : Left) : Type 0 where
   pub fed : t .encoder .fed ≡ s .encoder .fed + n
 
 push-kept : (s : Left) (x : ℤ) → Kept 1 s (push s x)
-unfolding push
+unfolding push store
 push-kept s x = go (eqb (s .encoder .fed % 14) 13)
   where
     e : Encoder
@@ -66,10 +67,6 @@ piece-going (x ∷ xs) s i m l g =
 
 -- ---- the calls
 
-answer-by : (a : Outcome Unit) (s : Left) (xs : List ℤ) → feedBy a s xs .outcome ≡ a
-answer-by (accepted u) s xs = refl
-answer-by (refused n) s xs = refl
-
 -- a state that can go on is accepted
 going-accepts : (e : Encoder) (m len : ℕ) → (e .rate ≡ 0 → ⊥) → e .closed ≡ false → Going e 0 m len → feedAnswer e m len ≡ accepted tt
 unfolding feedAnswer valid numbersOk countsOk
@@ -97,7 +94,7 @@ accepted-by e xs l a = ap (λ (v : Outcome Unit). feedBy v (left e l) xs) a
 
 answered : (e : Encoder) (xs : List ℤ) (l : List ℕ) → feed e xs l .outcome ≡ feedAnswer e (length xs) (length l)
 unfolding feed
-answered e xs l = answer-by (feedAnswer e (length xs) (length l)) (left e l) xs
+answered e xs l = refl
 
 -- ---- two parts
 
@@ -125,20 +122,20 @@ module _ (e : Encoder) (a b : List ℤ) (l : List ℕ) where
       )
 
   -- Where a piece is accepted, so are its parts in turn.
-  pub cut-accepted : feed e (a ++ b) l .outcome ≡ accepted tt → (feed e a l .outcome ≡ accepted tt) × ((let o = feed e a l in feed (o .encoder) b (o .bytes)) .outcome ≡ accepted tt)
+  pub cut-accepted : feed e (a ++ b) l .outcome ≡ accepted tt → (feed e a l .outcome ≡ accepted tt) × ((let o = feed e a l in feed (o .left .encoder) b (o .left .bytes)) .outcome ≡ accepted tt)
   cut-accepted ok =
       let p = parts ok in (
         answered e a l ∙ p .0,
-        ap (λ (v : Effect). feed (v .encoder) b (v .bytes) .outcome) (accepted-by e a l (p .0)) ∙ answered (half .encoder) b (half .bytes) ∙ p .1,
+        ap (λ (v : CallEffect). feed (v .left .encoder) b (v .left .bytes) .outcome) (accepted-by e a l (p .0)) ∙ answered (half .encoder) b (half .bytes) ∙ p .1,
       )
 
   -- Where two parts are accepted in turn, so is the piece.
-  pub joined-accepted : feed e a l .outcome ≡ accepted tt → (let o = feed e a l in feed (o .encoder) b (o .bytes)) .outcome ≡ accepted tt → feed e (a ++ b) l .outcome ≡ accepted tt
+  pub joined-accepted : feed e a l .outcome ≡ accepted tt → (let o = feed e a l in feed (o .left .encoder) b (o .left .bytes)) .outcome ≡ accepted tt → feed e (a ++ b) l .outcome ≡ accepted tt
   joined-accepted p q =
       let w = sym (answered e a l) ∙ p in
       let g = feed-accepted e (length a) (length l) w in
       let o = feed-open e (length a) (length l) w in
-      let v = sym (answered (half .encoder) b (half .bytes)) ∙ sym (ap (λ (z : Effect). feed (z .encoder) b (z .bytes) .outcome) (accepted-by e a l w)) ∙ q in
+      let v = sym (answered (half .encoder) b (half .bytes)) ∙ sym (ap (λ (z : CallEffect). feed (z .left .encoder) b (z .left .bytes) .outcome) (accepted-by e a l w)) ∙ q in
       let r = feed-accepted (half .encoder) (length b) (length (half .bytes)) v .rest in
       let k = piece-kept a (left e l) in
       let f = k .fed in
@@ -148,9 +145,9 @@ module _ (e : Encoder) (a b : List ℤ) (l : List ℕ) where
       answered e (a ++ b) l ∙ going-accepts e (length (a ++ b)) (length l) (o .1) (o .0) both
 
   -- Feeding a piece cut in two is feeding its parts in turn.
-  pub feed-cut : feed e (a ++ b) l .outcome ≡ accepted tt → feed e (a ++ b) l ≡ (let o = feed e a l in feed (o .encoder) b (o .bytes))
+  pub feed-cut : feed e (a ++ b) l .outcome ≡ accepted tt → feed e (a ++ b) l ≡ (let o = feed e a l in feed (o .left .encoder) b (o .left .bytes))
   feed-cut ok =
       let p = parts ok in
       accepted-by e (a ++ b) l (sym (answered e (a ++ b) l) ∙ ok)
       ∙ ap (effect (accepted tt)) (foldl-append push (left e l) a b)
-      ∙ sym (ap (λ (v : Effect). feed (v .encoder) b (v .bytes)) (accepted-by e a l (p .0)) ∙ accepted-by (half .encoder) b (half .bytes) (p .1))
+      ∙ sym (ap (λ (v : CallEffect). feed (v .left .encoder) b (v .left .bytes)) (accepted-by e a l (p .0)) ∙ accepted-by (half .encoder) b (half .bytes) (p .1))

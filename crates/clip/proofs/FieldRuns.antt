@@ -16,6 +16,7 @@ use Rattle.layout.specs.Fields.{be16, be32, sample16}
 use Rattle.clip.specs.Image.{startShape, coefficientBytes, headBytes}
 use Rattle.clip.specs.declared.starting.Start.{Start}
 use Rattle.layout.specs.Sizes.{blockCount}
+use Rattle.whole.specs.Frames.{frameCount}
 
 -- three runs one after the other
 pub runs3 : (l l₁ l₂ l₃ a b c : List ℕ) (at p q : ℕ) → l₁ ≡ sets l at a → l₂ ≡ sets l₁ p b → l₃ ≡ sets l₂ q c → p ≡ at + length a → q ≡ p + length b → l₃ ≡ sets l at (a ++ (b ++ c))
@@ -61,7 +62,7 @@ runs4 l l₁ l₂ l₃ l₄ a b c d at p q r e₁ e₂ e₃ e₄ hp hq hr =
     runs3 l₁ l₂ l₃ l₄ b c d p q r e₂ e₃ e₄ hq hr ∙ ap (λ (m : List ℕ). sets m p (b ++ (c ++ d))) e₁ ∙ sets-then l at p a (b ++ (c ++ d)) hp
 
 pub head-length : (first : List ℕ) (g : Start) → length first ≡ 4 → length (g .coefficients) ≡ 16 → length (headBytes first g) ≡ 56
-unfolding headBytes
+unfolding headBytes coefficientBytes blockCount frameCount
 head-length first g p q =
     let cs = g .coefficients in
     let t : List ℕ = be16 (g .gain) ++ (0 ∷ 0 ∷ be32 (blockCount (startShape g))) in

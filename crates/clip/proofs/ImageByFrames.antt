@@ -13,10 +13,10 @@ use lib.ListN.{length, take, replicate, getD, length-append, length-replicate}
 use lib.Seq.{sets, take-append-le, take-append-add, take-all, length-take-le}
 use Rattle.whole.proofs.Stores.{sets-right-at, sets-left, fill, fill-set}
 use Rattle.frame.specs.Frame.{coefficientsOk}
-use Rattle.layout.specs.Sizes.{blockCount, bodyBytes, imageSize}
-use Rattle.whole.specs.Frames.{framesOf}
+use Rattle.layout.specs.Sizes.{blockCount, bodyBytes, imageSize, lastSamples}
+use Rattle.whole.specs.Frames.{frameCount}
 use Rattle.layout.specs.Fields.{mark, noMark}
-use Rattle.clip.specs.Image.{startShape, headBytes, contextBytes, noContext, tableBytes}
+use Rattle.clip.specs.Image.{startShape, headBytes, contextBytes, noContext, tableBytes, coefficientBytes}
 use Rattle.layout.specs.Sizes.{framePlace, contextPlace}
 use Rattle.clip.specs.Encoding.{store}
 use Rattle.layout.specs.Limits.{Limits}
@@ -27,7 +27,7 @@ use Rattle.layout.proofs.SizeLaws.{first-block}
 use Rattle.clip.proofs.FieldRuns.{head-length}
 use Rattle.clip.proofs.Storing.{first-byte}
 use Rattle.clip.proofs.Tables.{table-length, table-set}
-use Rattle.clip.proofs.Stable.{bodies-stable, context-stable, encoded-length, bodies-length, context-length}
+use Rattle.clip.proofs.LaterSamples.{bodies-stable, context-stable, encoded-length, bodies-length, context-length}
 
 -- what an accepted start has
 pub record Fine (g : Start) : Type 0 where
@@ -49,7 +49,7 @@ unfoldable pub built : Start → List ℕ → List ℤ → ℕ → List ℕ
 built g first xs k = headed g first ++ (listed g xs k ++ filled g xs k)
 
 pub image-built : (g : Start) (xs : List ℤ) (c : Bool) → imageAfter g xs c ≡ built g (cond c mark noMark) xs (framesDone g xs c)
-unfolding imageAfter built
+unfolding imageAfter built contextAt bodies encodedAt historyAt
 image-built g xs c = refl
 
 pub built-stable : (g : Start) (first : List ℕ) (xs ys : List ℤ) (k : ℕ) → 14 * k ≤ length xs → built g first (xs ++ ys) k ≡ built g first xs k
@@ -72,14 +72,14 @@ pub headed-length : (g : Start) → Fine g → (first : List ℕ) → length fir
 headed-length g F first h = head-length first g h (F .sixteen)
 
 pub built-length : (g : Start) → Fine g → (first : List ℕ) → length first ≡ 4 → (xs : List ℤ) (k : ℕ) → length (built g first xs k) ≡ imageSize (startShape g)
-unfolding built imageSize
+unfolding built imageSize blockCount bodyBytes frameCount lastSamples
 built-length g F first h xs k =
     length-append (headed g first) (listed g xs k ++ filled g xs k)
     ∙ omega (arith, length-append (listed g xs k) (filled g xs k), headed-length g F first h, listed-length g xs k, filled-length g xs k)
 
 -- the mark
 pub built-mark : (g : Start) (xs : List ℤ) (k : ℕ) (rest : List ℕ) → sets (built g noMark xs k ++ rest) 0 mark ≡ built g mark xs k ++ rest
-unfolding built headBytes
+unfolding built headBytes coefficientBytes blockCount frameCount
 built-mark g xs k rest = refl
 
 -- ---- a store among the bodies, and one among the contexts
@@ -115,11 +115,11 @@ module _ (g : Start) (xs : List ℤ) (q j : ℕ) where
 
   -- a block that frame q is not the first of, and one that it is
   context-next : j * (g .block / 8) ≢ q → contextAt g xs q j ≡ contextAt g xs (suc q) j
-  unfolding contextAt
+  unfolding contextAt encodedAt historyAt
   context-next ne = ap (λ (t : Bool). cond t (of (j * (g .block / 8))) noContext) (ltb-next (j * (g .block / 8)) q ne)
 
   context-here : j * (g .block / 8) ≡ q → contextAt g xs (suc q) j ≡ of q
-  unfolding contextAt
+  unfolding contextAt encodedAt historyAt
   context-here e =
       ap (λ (i : ℕ). cond (ltb i (suc q)) (of i) noContext) e ∙ ap (λ (t : Bool). cond t (of q) noContext) (lt-ltb q (suc q) (omega arith))
 
@@ -134,7 +134,7 @@ module _ (g : Start) (xs : List ℤ) (t q k : ℕ) (one : 1 ≤ k) (most : k ≤
 
   more-eight : k ≡ 8
       → take t (bodies g xs (suc q) ++ replicate t 0) ≡ (bodies g xs q ++ take k (encodedAt g xs q .bytes)) ++ replicate (t - length (bodies g xs q ++ take k (encodedAt g xs q .bytes))) 0
-  unfolding bodies
+  unfolding bodies encodedAt historyAt
   more-eight e =
       let w : encodedAt g xs q .bytes ≡ take k (encodedAt g xs q .bytes) = sym (take-all k (encodedAt g xs q .bytes) (omega (arith, encoded-length g xs q))) in
       ap (λ (c : List ℕ). take t ((bodies g xs q ++ c) ++ replicate t 0)) w
@@ -142,7 +142,7 @@ module _ (g : Start) (xs : List ℤ) (t q k : ℕ) (one : 1 ≤ k) (most : k ≤
 
   more-last : 8 * q + k ≡ t
       → take t (bodies g xs (suc q) ++ replicate t 0) ≡ (bodies g xs q ++ take k (encodedAt g xs q .bytes)) ++ replicate (t - length (bodies g xs q ++ take k (encodedAt g xs q .bytes))) 0
-  unfolding bodies
+  unfolding bodies encodedAt historyAt
   more-last e =
       let c : List ℕ = encodedAt g xs q .bytes in
       let z : t - length (bodies g xs q ++ take k c) ≡ 0 = omega (arith, with-length) in
@@ -164,7 +164,7 @@ pub regroup : (a b c d : List ℕ) → (a ++ (b ++ c)) ++ d ≡ a ++ (b ++ (c ++
 regroup a b c d = simp append-assoc
 
 -- storing frame q takes the image with q frames to that with one more
-module _ (g : Start) (F : Fine g) (first : List ℕ) (four : length first ≡ 4) (xs : List ℤ) (rest : List ℕ) (q k : ℕ) (lt : q < framesOf (g .total)) (one : 1 ≤ k) (most : k ≤ 8)
+module _ (g : Start) (F : Fine g) (first : List ℕ) (four : length first ≡ 4) (xs : List ℤ) (rest : List ℕ) (q k : ℕ) (lt : q < frameCount (g .total)) (one : 1 ≤ k) (most : k ≤ 8)
     (room : 8 * q + k ≤ bodyBytes (g .total)) (c : (k ≡ 8) ⊎ (8 * q + k ≡ bodyBytes (g .total))) where
   abbrev hd : List ℕ
   hd = headed g first
@@ -213,7 +213,8 @@ module _ (g : Start) (F : Fine g) (first : List ℕ) (four : length first ≡ 4)
   built-store = go (eqb (q % per) 0) refl
     where
       go : (t : Bool) → eqb (q % (g .block / 8)) 0 ≡ t
-          → cond t (sets (sets ((headed g first ++ (listed g xs q ++ filled g xs q)) ++ rest) (framePlace (startShape g) q) (take k (encodedAt g xs q .bytes))) (contextPlace (q / (g .block / 8))) (contextBytes (getD (take k (encodedAt g xs q .bytes)) 0 0) (historyAt g xs q)))
+          → cond t (sets (sets ((headed g first ++ (listed g xs q ++ filled g xs q)) ++ rest) (framePlace (startShape g) q) (take k (encodedAt g xs q .bytes))) (contextPlace (q / (g .block / 8)))
+          (contextBytes (getD (take k (encodedAt g xs q .bytes)) 0 0) (historyAt g xs q)))
           (sets ((headed g first ++ (listed g xs q ++ filled g xs q)) ++ rest) (framePlace (startShape g) q) (take k (encodedAt g xs q .bytes)))
           ≡ (headed g first ++ (listed g xs (suc q) ++ filled g xs (suc q))) ++ rest
       go true e = with-context (eqb-true (q % (g .block / 8)) 0 e)

@@ -13,8 +13,8 @@ use Rattle.frame.specs.Frame.{encodeFrame, historyAfter}
 use Rattle.frame.specs.declared.EncodedFrame.{EncodedFrame}
 use Rattle.whole.specs.declared.History.{History}
 use Rattle.clip.specs.declared.Encoder.{Encoder}
-use Rattle.layout.specs.Sizes.{lastSamples, bodyBytes, imageSize}
-use Rattle.whole.specs.Frames.{framesOf}
+use Rattle.layout.specs.Sizes.{lastSamples, bodyBytes, imageSize, blockCount}
+use Rattle.whole.specs.Frames.{frameCount}
 use Rattle.layout.specs.Fields.{mark}
 use Rattle.clip.specs.Encoding.{encoderShape, left, store, moved, noFrame, finish}
 use Rattle.clip.specs.inner.Asked.{Room, Whole}
@@ -30,18 +30,19 @@ pad-turn f₀ f m j h e =
     ∙ ap (λ (k : ℕ). sets f₀ m (replicate k (pos 0))) b
 
 -- the short last frame's bytes are the image's last ones
-last-frame : (n : ℕ) → (n % 14 ≡ 0 → ⊥) → (n / 14 < framesOf n) × (8 * (n / 14) + (1 + (n % 14 + 1) / 2) ≤ bodyBytes n)
-unfolding bodyBytes lastSamples framesOf
+last-frame : (n : ℕ) → (n % 14 ≡ 0 → ⊥) → (n / 14 < frameCount n) × (8 * (n / 14) + (1 + (n % 14 + 1) / 2) ≤ bodyBytes n)
+unfolding bodyBytes lastSamples frameCount
 last-frame n h = (omega arith, omega arith)
 
 pub last-room : (e : Encoder) (len : ℕ) → Whole e len → (e .fed % 14 ≡ 0 → ⊥) → Room (encoderShape e) (e .fed / 14) (1 + (e .fed % 14 + 1) / 2) len
 last-room e len w h =
-    let f = subst (λ (n : ℕ). (e .fed / 14 < framesOf n) × (8 * (e .fed / 14) + (1 + (e .fed % 14 + 1) / 2) ≤ bodyBytes n)) (w .all) (last-frame (e .fed) h) in
+    let f = subst (λ (n : ℕ). (e .fed / 14 < frameCount n) × (8 * (e .fed / 14) + (1 + (e .fed % 14 + 1) / 2) ≤ bodyBytes n)) (w .all) (last-frame (e .fed) h) in
     record { limits = w .limits; frame = f .0; part = omega arith; one = omega arith; body = f .1; size = w .size }
 
 -- the mark has room after the frame is stored
-pub stored-room : (e : Encoder) (t : List ℕ) (image stored : List ℕ) → imageSize (encoderShape e) ≤ length image → stored ≡ store (encoderShape e) (e .fed / 14) t (e .history) image → 4 ≤ length stored
-unfolding imageSize
+pub stored-room : (e : Encoder) (t : List ℕ) (image stored : List ℕ) → imageSize (encoderShape e) ≤ length image → stored ≡ store (encoderShape e) (e .fed / 14) t (e .history) image
+    → 4 ≤ length stored
+unfolding imageSize blockCount bodyBytes frameCount lastSamples
 stored-room e t image stored h p =
     let k : length stored ≡ length image = ap length p ∙ store-length (encoderShape e) (e .fed / 14) t (e .history) image in
     omega arith
@@ -54,10 +55,10 @@ module _ (e : Encoder) (image : List ℕ) where
       → t ≡ encodeFrame (e .history) f (e .coefficients) → stored ≡ store (encoderShape e) (e .fed / 14) (take (1 + (e .fed % 14 + 1) / 2) (t .bytes)) (e .history) image
       → after ≡ historyAfter (e .history) (t .samples) (e .fed % 14) → out ≡ sets stored 0 mark
       → left (moved e (e .fed) after noFrame (e .passes + t .passes) true) out ≡ finish (left e image)
-  unfolding finish
+  unfolding finish store
   finish-part f t after stored out h ef et es ea eo = rw (eo, es, ea, et, ef, ne-eqb (e .fed % 14) 0 h)
 
   -- with none
   pub finish-whole : (out : List ℕ) → e .fed % 14 ≡ 0 → out ≡ sets image 0 mark → left (moved e (e .fed) (e .history) noFrame (e .passes) true) out ≡ finish (left e image)
-  unfolding finish
+  unfolding finish store
   finish-whole out h eo = rw (eo, eq-eqb (e .fed % 14) 0 h)

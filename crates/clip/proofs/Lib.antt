@@ -2,11 +2,12 @@
 pub mod ValidState
 pub mod FieldRuns
 pub mod Tables
-pub mod Accepting
+pub mod ByOutcome
+pub mod AcceptedCalls
 pub mod Storing
 pub mod Pieces
 pub mod LastFrame
-pub mod Stable
+pub mod LaterSamples
 pub mod ImageByFrames
 pub mod StateOfSamples
 pub mod WholeRuns

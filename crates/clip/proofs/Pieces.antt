@@ -36,11 +36,12 @@ module _ (e : Encoder) (image : List ℕ) (x : ℤ) (i m : ℕ) where
   frame = encodeFrame (e .history) (set (e .frame) (e .fed % 14) x) (e .coefficients)
 
   pub going-next : i < m → Going e i m (length image) → Going (push (left e image) x .encoder) (i + 1) m (length image) × (length (push (left e image) x .bytes) ≡ length image)
-  unfolding push frame
+  unfolding push frame store
   going-next l g = go (eqb (e .fed % 14) 13) refl
     where
       full : Left
-      full = left (moved e (e .fed + 1) (historyAfter (e .history) (frame .samples) 14) noFrame (e .passes + frame .passes) (e .closed)) (store (encoderShape e) (e .fed / 14) (frame .bytes) (e .history) image)
+      full = left (moved e (e .fed + 1) (historyAfter (e .history) (frame .samples) 14) noFrame (e .passes + frame .passes) (e .closed))
+          (store (encoderShape e) (e .fed / 14) (frame .bytes) (e .history) image)
 
       part : Left
       part = left (moved e (e .fed + 1) (e .history) (set (e .frame) (e .fed % 14) x) (e .passes) (e .closed)) image
@@ -75,6 +76,7 @@ turn s xs i e image r out lt inv g el p =
     let n = going-next e image (getD xs i (pos 0)) i (length xs) lt g′ in (
       omega arith,
       p ∙ ap (λ (t : Left). push t (getD xs i (pos 0))) inv ∙ piece-next s xs i lt,
-      subst (λ (t : Left). Going (t .encoder) (i + 1) (length xs) (length (s .bytes))) (sym p) (subst (λ (k : ℕ). Going (push (left e image) (getD xs i (pos 0)) .encoder) (i + 1) (length xs) k) el (n .0)),
+      subst (λ (t : Left). Going (t .encoder) (i + 1) (length xs) (length (s .bytes))) (sym p)
+          (subst (λ (k : ℕ). Going (push (left e image) (getD xs i (pos 0)) .encoder) (i + 1) (length xs) k) el (n .0)),
       ap (λ (t : Left). length (t .bytes)) p ∙ n .1 ∙ el,
     )

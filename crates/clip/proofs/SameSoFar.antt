@@ -10,7 +10,7 @@ use lib.Dec.{eqb}
 use lib.IntN.{ℤ, pos}
 use lib.ListN.{length, getD, take, drop, set, replicate, length-drop}
 use lib.Seq.{sets, length-sets, length-take-le, getD-drop, ext-getD}
-use Rattle.whole.specs.Frames.{framesOf}
+use Rattle.whole.specs.Frames.{frameCount}
 use Rattle.frame.specs.Frame.{encodeFrame, historyAfter}
 use Rattle.frame.specs.declared.EncodedFrame.{EncodedFrame}
 use Rattle.frame.proofs.LawsEncoded.{frame-lengths}
@@ -46,7 +46,8 @@ pub agree-past : (e : Encoder) (l m : List ℕ) → SameSoFar e l m → drop (im
 agree-past e l m a =
     let s = imageSize (encoderShape e) in
     ext-getD 0 (drop s l) (drop s m) (length-drop s l ∙ ap (λ (k : ℕ). k - s) (a .size) ∙ sym (length-drop s m))
-    (λ i k. getD-drop s l i 0 ∙ elim (a .bytes (s + i)) [ inl p ↦ p | inr o ↦ absurd (let w : s + i < s = unwritten-within (encoderShape e) (e .fed / 14) (s + i) (o .1) in omega arith) ] ∙ sym (getD-drop s m i 0))
+    (λ i k. getD-drop s l i 0 ∙ elim (a .bytes (s + i)) [ inl p ↦ p | inr o ↦ absurd (let w : s + i < s = unwritten-within (encoderShape e) (e .fed / 14) (s + i) (o .1) in omega arith) ]
+    ∙ sym (getD-drop s m i 0))
 
 -- ---- one sample, a piece
 
@@ -97,7 +98,7 @@ module _ (e : Encoder) (x : ℤ) where
   eight = frame-lengths (e .history) f (e .coefficients) .0
 
   push-same : (l m : List ℕ) → 8 ≤ e .block → SameSoFar e l m → Same (push (left e l) x) (push (left e m) x)
-  unfolding push
+  unfolding push store
   push-same l m w a = go (eqb (e .fed % 14) 13) refl
     where
       next : e .fed % 14 ≡ 13 → (i : ℕ) → (getD l i 0 ≡ getD m i 0) ⊎ ToWrite e i → (getD (full l .bytes) i 0 ≡ getD (full m .bytes) i 0) ⊎ ToWrite (full l .encoder) i
@@ -125,7 +126,7 @@ module _ (e : Encoder) (x : ℤ) where
       go false p = record { state = refl; bytes = record { size = a .size; bytes = λ i. stays (eqb-false (e .fed % 14) 13 p) i (a .bytes i) } }
 
   push-later : (l : List ℕ) (p : ℕ) → Able e (suc p) → Later (left e l) (push (left e l) x) × Able (push (left e l) x .encoder) p
-  unfolding push
+  unfolding push store
   push-later l p a = go (eqb (e .fed % 14) 13) refl
     where
       room : e .fed + suc p ≤ e .total
@@ -149,7 +150,7 @@ module _ (e : Encoder) (x : ℤ) where
       go false k = (record { unwritten = before; bytes = agree-refl e l }, record { limits = a .limits; rest = omega arith; unclosed = a .unclosed })
 
   push-block : (l : List ℕ) → push (left e l) x .encoder .block ≡ e .block
-  unfolding push
+  unfolding push store
   push-block l = go (eqb (e .fed % 14) 13)
     where
       go : (t : Bool) → cond t (full l) (part l) .encoder .block ≡ e .block
@@ -194,16 +195,16 @@ module _ (e : Encoder) (L : Limits (encoderShape e)) (all : e .fed ≡ e .total)
       length-take-le (1 + (e .fed % 14 + 1) / 2) (z .bytes) (omega arith)
 
   -- a short last frame has its bytes to the end
-  last-body : e .fed % 14 ≢ 0 → (8 * (e .fed / 14) + (1 + (e .fed % 14 + 1) / 2) ≡ bodyBytes (e .total)) × (suc (e .fed / 14) ≡ framesOf (e .total))
-  unfolding bodyBytes lastSamples framesOf
+  last-body : e .fed % 14 ≢ 0 → (8 * (e .fed / 14) + (1 + (e .fed % 14 + 1) / 2) ≡ bodyBytes (e .total)) × (suc (e .fed / 14) ≡ frameCount (e .total))
+  unfolding bodyBytes lastSamples frameCount
   last-body n = (omega arith, omega arith)
 
-  last-whole : e .fed % 14 ≡ 0 → e .fed / 14 ≡ framesOf (e .total)
-  unfolding framesOf
+  last-whole : e .fed % 14 ≡ 0 → e .fed / 14 ≡ frameCount (e .total)
+  unfolding frameCount
   last-whole n = omega arith
 
   pub end-same : (l m : List ℕ) → SameSoFar e l m → Same (finish (left e l)) (finish (left e m))
-  unfolding finish
+  unfolding finish store
   end-same l m a = go (eqb (e .fed % 14) 0) refl
     where
       stored : List ℕ → List ℕ
@@ -212,7 +213,7 @@ module _ (e : Encoder) (L : Limits (encoderShape e)) (all : e .fed ≡ e .total)
       sizes : length (stored l) ≡ length (stored m)
       sizes = store-length (encoderShape e) (e .fed / 14) v (e .history) l ∙ a .size ∙ sym (store-length (encoderShape e) (e .fed / 14) v (e .history) m)
 
-      due : e .fed % 14 ≢ 0 → (i : ℕ) → (getD l i 0 ≡ getD m i 0) ⊎ ToWrite e i → (getD (stored l) i 0 ≡ getD (stored m) i 0) ⊎ Unwritten (encoderShape e) (framesOf (e .total)) i
+      due : e .fed % 14 ≢ 0 → (i : ℕ) → (getD l i 0 ≡ getD m i 0) ⊎ ToWrite e i → (getD (stored l) i 0 ≡ getD (stored m) i 0) ⊎ Unwritten (encoderShape e) (frameCount (e .total)) i
       due n i (inl p) = inl (store-same (encoderShape e) (e .fed / 14) v (e .history) l m i (a .size) (inl p))
       due n i (inr o) =
           let w = last-body n in
@@ -221,7 +222,7 @@ module _ (e : Encoder) (L : Limits (encoderShape e)) (all : e .fed ≡ e .total)
             | inr d ↦ inr (subst (λ (k : ℕ). Unwritten (encoderShape e) k i) (w .1) d)
           ]
 
-      none : e .fed % 14 ≡ 0 → (i : ℕ) → (getD l i 0 ≡ getD m i 0) ⊎ ToWrite e i → (getD l i 0 ≡ getD m i 0) ⊎ Unwritten (encoderShape e) (framesOf (e .total)) i
+      none : e .fed % 14 ≡ 0 → (i : ℕ) → (getD l i 0 ≡ getD m i 0) ⊎ ToWrite e i → (getD l i 0 ≡ getD m i 0) ⊎ Unwritten (encoderShape e) (frameCount (e .total)) i
       none n i (inl p) = inl p
       none n i (inr o) = inr (subst (λ (k : ℕ). Unwritten (encoderShape e) k i) (last-whole n) (o .1))
 
@@ -243,7 +244,7 @@ module _ (e : Encoder) (L : Limits (encoderShape e)) (all : e .fed ≡ e .total)
           }
 
   pub end-later : (l : List ℕ) → e .closed ≡ false → Later (left e l) (finish (left e l))
-  unfolding finish
+  unfolding finish store
   end-later l o = go (eqb (e .fed % 14) 0) refl
     where
       stored : List ℕ

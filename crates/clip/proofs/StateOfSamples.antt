@@ -11,7 +11,7 @@ use lib.IntN.{ℤ, pos}
 use lib.ListN.{length, take, set, replicate, length-append}
 use lib.Seq.{sets, take-all, append-snoc}
 use Rattle.clip.specs.Image.{startShape}
-use Rattle.whole.specs.Frames.{frameAt, framesOf}
+use Rattle.whole.specs.Frames.{frameAt, frameCount}
 use Rattle.whole.proofs.CutIntoFrames.{frame-snoc, frame-none, frame-pad}
 use Rattle.frame.specs.Frame.{encodeFrame, historyAfter}
 use Rattle.frame.specs.declared.EncodedFrame.{EncodedFrame}
@@ -21,9 +21,9 @@ use Rattle.layout.specs.Sizes.{lastSamples, bodyBytes}
 use Rattle.layout.specs.Fields.{mark, noMark}
 use Rattle.clip.specs.Encoding.{Left, left, store, noFrame, push, feedAll, finish}
 use Rattle.clip.specs.declared.starting.Start.{Start}
-use Rattle.clip.specs.Runs.{historyAt, encodedAt, passesUpTo, imageAfter, stateAfter, leftAfter}
+use Rattle.clip.specs.Runs.{historyAt, encodedAt, passesUpTo, imageAfter, stateAfter, leftAfter, contextAt, bodies}
 use Rattle.clip.proofs.Storing.{full-frame}
-use Rattle.clip.proofs.Stable.{history-stable, passes-stable, encoded-length}
+use Rattle.clip.proofs.LaterSamples.{history-stable, passes-stable, encoded-length}
 use Rattle.clip.proofs.ImageByFrames.{Fine, built, image-built, built-stable, built-mark, built-store}
 
 -- a state by its parts, so that equal parts give equal states
@@ -44,11 +44,11 @@ unfolding historyAt encodedAt
 history-next g ys q = refl
 
 passes-next : (g : Start) (ys : List ℤ) (q : ℕ) → passesUpTo g ys q + encodedAt g ys q .passes ≡ passesUpTo g ys (suc q)
-unfolding passesUpTo
+unfolding passesUpTo encodedAt historyAt
 passes-next g ys q = refl
 
 encoded-is : (g : Start) (ys : List ℤ) (q : ℕ) → encodeFrame (historyAt g ys q) (frameAt ys q) (g .coefficients) ≡ encodedAt g ys q
-unfolding encodedAt
+unfolding encodedAt historyAt
 encoded-is g ys q = refl
 
 -- ---- one sample more
@@ -73,7 +73,8 @@ module _ (g : Start) (F : Fine g) (rest : List ℕ) (xs : List ℤ) (x : ℤ) (l
   image-before = image-built g xs false ∙ sym (built-stable g noMark xs (x ∷ []) q (omega arith))
 
   fills : length xs % 14 ≡ 13
-      → made g false (length xs + 1) (historyAfter (historyAt g xs q) (encodeFrame (historyAt g xs q) f (g .coefficients) .samples) 14) noFrame (passesUpTo g xs q + encodeFrame (historyAt g xs q) f (g .coefficients) .passes)
+      → made g false (length xs + 1) (historyAfter (historyAt g xs q) (encodeFrame (historyAt g xs q) f (g .coefficients) .samples) 14) noFrame
+      (passesUpTo g xs q + encodeFrame (historyAt g xs q) f (g .coefficients) .passes)
       (store (startShape g) q (encodeFrame (historyAt g xs q) f (g .coefficients) .bytes) (historyAt g xs q) (imageAfter g xs false ++ rest))
       ≡ made g false (length ys) (historyAt g ys (length ys / 14)) (frameAt ys (length ys / 14)) (passesUpTo g ys (length ys / 14)) (imageAfter g ys false ++ rest)
   fills r =
@@ -104,15 +105,19 @@ module _ (g : Start) (F : Fine g) (rest : List ℕ) (xs : List ℤ) (x : ℤ) (l
       (ap (λ (l : List ℕ). l ++ rest) (image-before ∙ ap (built g noMark ys) same ∙ sym (image-built g ys false)))
 
   push-follows : push (leftAfter g rest xs false) x ≡ leftAfter g rest ys false
-  unfolding push leftAfter stateAfter
+  unfolding push leftAfter stateAfter store imageAfter passesUpTo contextAt bodies encodedAt historyAt
   push-follows = go (eqb (length xs % 14) 13) refl
     where
       go : (t : Bool) → eqb (length xs % 14) 13 ≡ t
           → cond t
-          (made g false (length xs + 1) (historyAfter (historyAt g xs (length xs / 14)) (encodeFrame (historyAt g xs (length xs / 14)) (set (frameAt xs (length xs / 14)) (length xs % 14) x) (g .coefficients) .samples) 14) noFrame (passesUpTo g xs (length xs / 14) + encodeFrame (historyAt g xs (length xs / 14)) (set (frameAt xs (length xs / 14)) (length xs % 14) x) (g .coefficients) .passes)
-          (store (startShape g) (length xs / 14) (encodeFrame (historyAt g xs (length xs / 14)) (set (frameAt xs (length xs / 14)) (length xs % 14) x) (g .coefficients) .bytes) (historyAt g xs (length xs / 14)) (imageAfter g xs false ++ rest)))
+          (made g false (length xs + 1) (historyAfter (historyAt g xs (length xs / 14))
+          (encodeFrame (historyAt g xs (length xs / 14)) (set (frameAt xs (length xs / 14)) (length xs % 14) x) (g .coefficients) .samples) 14) noFrame
+          (passesUpTo g xs (length xs / 14) + encodeFrame (historyAt g xs (length xs / 14)) (set (frameAt xs (length xs / 14)) (length xs % 14) x) (g .coefficients) .passes)
+          (store (startShape g) (length xs / 14) (encodeFrame (historyAt g xs (length xs / 14)) (set (frameAt xs (length xs / 14)) (length xs % 14) x) (g .coefficients) .bytes)
+          (historyAt g xs (length xs / 14)) (imageAfter g xs false ++ rest)))
           (made g false (length xs + 1) (historyAt g xs (length xs / 14)) (set (frameAt xs (length xs / 14)) (length xs % 14) x) (passesUpTo g xs (length xs / 14)) (imageAfter g xs false ++ rest))
-          ≡ made g false (length (xs ++ (x ∷ []))) (historyAt g (xs ++ (x ∷ [])) (length (xs ++ (x ∷ [])) / 14)) (frameAt (xs ++ (x ∷ [])) (length (xs ++ (x ∷ [])) / 14)) (passesUpTo g (xs ++ (x ∷ [])) (length (xs ++ (x ∷ [])) / 14)) (imageAfter g (xs ++ (x ∷ [])) false ++ rest)
+          ≡ made g false (length (xs ++ (x ∷ []))) (historyAt g (xs ++ (x ∷ [])) (length (xs ++ (x ∷ [])) / 14)) (frameAt (xs ++ (x ∷ [])) (length (xs ++ (x ∷ [])) / 14))
+          (passesUpTo g (xs ++ (x ∷ [])) (length (xs ++ (x ∷ [])) / 14)) (imageAfter g (xs ++ (x ∷ [])) false ++ rest)
       go true e = fills (eqb-true (length xs % 14) 13 e)
       go false e = leaves (eqb-false (length xs % 14) 13 e)
 
@@ -141,10 +146,10 @@ module _ (g : Start) (F : Fine g) (rest : List ℕ) (xs : List ℤ) (full : leng
   k = 1 + (length xs % 14 + 1) / 2
 
   final : Left
-  final = made g true (length xs) (historyAfter (historyAt g xs r) (encodedAt g xs r .samples) m) noFrame (passesUpTo g xs (framesOf (g .total))) (imageAfter g xs true ++ rest)
+  final = made g true (length xs) (historyAfter (historyAt g xs r) (encodedAt g xs r .samples) m) noFrame (passesUpTo g xs (frameCount (g .total))) (imageAfter g xs true ++ rest)
 
   whole-end : m ≡ 0 → made g true (length xs) (historyAt g xs r) noFrame (passesUpTo g xs r) (sets (imageAfter g xs false ++ rest) 0 mark) ≡ final
-  unfolding framesOf final
+  unfolding frameCount final
   whole-end z =
       let next : r ≡ (g .total + 13) / 14 = omega arith in
       made-same g true refl
@@ -157,10 +162,11 @@ module _ (g : Start) (F : Fine g) (rest : List ℕ) (xs : List ℤ) (full : leng
       ∙ ap (λ (l : List ℕ). l ++ rest) (sym (image-built g xs true)))
 
   short-end : m ≢ 0
-      → made g true (length xs) (historyAfter (historyAt g xs r) (encodeFrame (historyAt g xs r) padded (g .coefficients) .samples) m) noFrame (passesUpTo g xs r + encodeFrame (historyAt g xs r) padded (g .coefficients) .passes)
+      → made g true (length xs) (historyAfter (historyAt g xs r) (encodeFrame (historyAt g xs r) padded (g .coefficients) .samples) m) noFrame
+      (passesUpTo g xs r + encodeFrame (historyAt g xs r) padded (g .coefficients) .passes)
       (sets (store (startShape g) r (take k (encodeFrame (historyAt g xs r) padded (g .coefficients) .bytes)) (historyAt g xs r) (imageAfter g xs false ++ rest)) 0 mark)
       ≡ final
-  unfolding framesOf bodyBytes lastSamples final
+  unfolding frameCount bodyBytes lastSamples final
   short-end z =
       let next : suc r ≡ (g .total + 13) / 14 = omega arith in
       let en : encodeFrame (historyAt g xs r) padded (g .coefficients) ≡ encodedAt g xs r =
@@ -176,14 +182,19 @@ module _ (g : Start) (F : Fine g) (rest : List ℕ) (xs : List ℤ) (full : leng
       ∙ ap (λ (l : List ℕ). l ++ rest) (sym (image-built g xs true)))
 
   pub end-follows : finish (leftAfter g rest xs false) ≡ leftAfter g rest xs true
-  unfolding finish leftAfter stateAfter final
+  unfolding finish leftAfter stateAfter final store imageAfter passesUpTo contextAt bodies encodedAt historyAt
   end-follows = go (eqb (length xs % 14) 0) refl
     where
       go : (t : Bool) → eqb (length xs % 14) 0 ≡ t
           → cond t (made g true (length xs) (historyAt g xs (length xs / 14)) noFrame (passesUpTo g xs (length xs / 14)) (sets (imageAfter g xs false ++ rest) 0 mark))
-          (made g true (length xs) (historyAfter (historyAt g xs (length xs / 14)) (encodeFrame (historyAt g xs (length xs / 14)) (sets (frameAt xs (length xs / 14)) (length xs % 14) (replicate (14 - length xs % 14) (pos 0))) (g .coefficients) .samples) (length xs % 14)) noFrame
-          (passesUpTo g xs (length xs / 14) + encodeFrame (historyAt g xs (length xs / 14)) (sets (frameAt xs (length xs / 14)) (length xs % 14) (replicate (14 - length xs % 14) (pos 0))) (g .coefficients) .passes)
-          (sets (store (startShape g) (length xs / 14) (take (1 + (length xs % 14 + 1) / 2) (encodeFrame (historyAt g xs (length xs / 14)) (sets (frameAt xs (length xs / 14)) (length xs % 14) (replicate (14 - length xs % 14) (pos 0))) (g .coefficients) .bytes)) (historyAt g xs (length xs / 14)) (imageAfter g xs false ++ rest)) 0 mark))
+          (made g true (length xs) (historyAfter (historyAt g xs (length xs / 14))
+          (encodeFrame (historyAt g xs (length xs / 14)) (sets (frameAt xs (length xs / 14)) (length xs % 14) (replicate (14 - length xs % 14) (pos 0))) (g .coefficients) .samples)
+          (length xs % 14)) noFrame
+          (passesUpTo g xs (length xs / 14) + encodeFrame (historyAt g xs (length xs / 14)) (sets (frameAt xs (length xs / 14)) (length xs % 14) (replicate (14 - length xs % 14) (pos 0)))
+          (g .coefficients) .passes)
+          (sets (store (startShape g) (length xs / 14) (take (1 + (length xs % 14 + 1) / 2)
+          (encodeFrame (historyAt g xs (length xs / 14)) (sets (frameAt xs (length xs / 14)) (length xs % 14) (replicate (14 - length xs % 14) (pos 0))) (g .coefficients) .bytes))
+          (historyAt g xs (length xs / 14)) (imageAfter g xs false ++ rest)) 0 mark))
           ≡ final
       go true e = whole-end (eqb-true (length xs % 14) 0 e)
       go false e = short-end (eqb-false (length xs % 14) 0 e)

@@ -14,7 +14,7 @@ use Rattle.whole.specs.declared.History.{History}
 use Rattle.frame.proofs.LawsEncoded.{frame-lengths, frame-passes}
 use Rattle.clip.specs.declared.Encoder.{Encoder}
 use Rattle.layout.specs.Sizes.{lastSamples, blockCount, bodyBytes, imageSize}
-use Rattle.whole.specs.Frames.{framesOf}
+use Rattle.whole.specs.Frames.{frameCount}
 use Rattle.clip.specs.Image.{contextBytes}
 use Rattle.clip.specs.Encoding.{encoderShape, left, store, moved, noFrame, push}
 use Rattle.layout.specs.Sizes.{framePlace, contextPlace}
@@ -30,12 +30,12 @@ module _ (s : Shape) (q k len : ℕ) (r : Room s q k len) where
 
   -- the frame's bytes
   pub room-place : framePlace s q + k ≤ len
-  unfolding imageSize
+  unfolding imageSize blockCount bodyBytes frameCount lastSamples
   room-place = omega (arith, r .body, r .size)
 
   -- the context of the block that the frame is the first of
   pub room-context : q % (s .block / 8) ≡ 0 → (q / (s .block / 8) < 1048576) × (contextPlace (q / (s .block / 8)) + 6 ≤ len)
-  unfolding imageSize
+  unfolding imageSize blockCount bodyBytes frameCount lastSamples
   room-context e =
       let h = first-block s q (r .limits) (r .frame) e in
       let m = blocks-most s (r .limits) in
@@ -43,8 +43,8 @@ module _ (s : Shape) (q k len : ℕ) (r : Room s q k len) where
       (omega arith, omega arith)
 
 -- a frame that sample k fills has its eight bytes in a clip of n samples
-pub full-frame : (n k : ℕ) → k < n → k % 14 ≡ 13 → (k / 14 < framesOf n) × (8 * (k / 14) + 8 ≤ bodyBytes n)
-unfolding bodyBytes lastSamples framesOf
+pub full-frame : (n k : ℕ) → k < n → k % 14 ≡ 13 → (k / 14 < frameCount n) × (8 * (k / 14) + 8 ≤ bodyBytes n)
+unfolding bodyBytes lastSamples frameCount
 full-frame n k h e = (omega arith, omega arith)
 
 pub full-room : (e : Encoder) (i m len : ℕ) → Going e i m len → i < m → e .fed % 14 ≡ 13 → Room (encoderShape e) (e .fed / 14) 8 len
@@ -94,7 +94,7 @@ module _ (e : Encoder) (x : ℤ) (image : List ℕ) where
   pub push-full : (after : History) (passes : ℕ) (out : List ℕ) → e .fed % 14 ≡ 13 → after ≡ historyAfter (e .history) (c .samples) 14 → passes ≡ c .passes
       → out ≡ store (encoderShape e) (e .fed / 14) (c .bytes) (e .history) image
       → left (moved e (e .fed + 1) after noFrame (e .passes + passes) (e .closed)) out ≡ push (left e image) x
-  unfolding push
+  unfolding push store
   push-full after passes out h ea ep eo = rw (eq-eqb (e .fed % 14) 13 h, eo, ea, ep)
 
   -- the passes stay within their bound
@@ -108,5 +108,5 @@ module _ (e : Encoder) (x : ℤ) (image : List ℕ) where
 
   -- it does not
   pub push-part : (e .fed % 14 ≡ 13 → ⊥) → left (moved e (e .fed + 1) (e .history) filled (e .passes) (e .closed)) image ≡ push (left e image) x
-  unfolding push
+  unfolding push store
   push-part h = rw (ne-eqb (e .fed % 14) 13 h)

@@ -9,12 +9,13 @@ use lib.ListN.{length, replicate, length-append}
 use lib.Seq.{sets}
 use Rattle.whole.proofs.Stores.{sets-then, sets-part, sets-right-at}
 use Rattle.layout.specs.declared.Shape.{Shape}
-use Rattle.layout.specs.Sizes.{entryPlace, blockOffset, blockLength}
+use Rattle.layout.specs.Sizes.{entryPlace, blockOffset, blockLength, blockCount, lastSamples}
 use Rattle.layout.specs.Fields.{be32}
 use Rattle.clip.specs.Image.{noContext, entryBytes, tableBytes}
+use Rattle.whole.specs.Frames.{frameCount}
 
 pub entry-length : (s : Shape) (j : ℕ) (c : List ℕ) → length c ≡ 6 → length (entryBytes s j c) ≡ 16
-unfolding entryBytes
+unfolding entryBytes blockOffset blockLength blockCount frameCount lastSamples
 entry-length s j c h = omega (arith, length-append c (0 ∷ 0 ∷ []))
 
 pub table-length : (f : ℕ → List ℕ) → ((i : ℕ) → length (f i) ≡ 6) → (s : Shape) (j k : ℕ) → length (tableBytes f s j k) ≡ 16 * k
@@ -41,7 +42,7 @@ table-none l s = refl
 -- an entry more
 pub table-turn : (l₀ l out : List ℕ) (s : Shape) (k o v : ℕ) → o ≡ blockOffset s k → v ≡ blockLength s k → l ≡ sets l₀ 56 (tableBytes bare s 0 k)
     → out ≡ sets l (entryPlace k) (be32 o ++ (be32 v ++ replicate 8 0)) → out ≡ sets l₀ 56 (tableBytes bare s 0 (k + 1))
-unfolding entryBytes
+unfolding entryBytes blockOffset blockLength blockCount frameCount lastSamples
 table-turn l₀ l out s k o v eo es e d =
     let t : List ℕ = tableBytes bare s 0 k in
     let len : length t ≡ 16 * k = table-length bare (λ i. refl) s 0 k in
@@ -63,7 +64,7 @@ abbrev leading : Shape → ℕ → List ℕ
 leading s j = be32 (blockOffset s j) ++ be32 (blockLength s j)
 
 entry-split : (s : Shape) (j : ℕ) (c t : List ℕ) → entryBytes s j c ++ t ≡ leading s j ++ (c ++ (0 ∷ 0 ∷ t))
-unfolding entryBytes
+unfolding entryBytes blockOffset blockLength blockCount frameCount lastSamples
 entry-split s j c t = ap (λ (l : List ℕ). leading s j ++ l) (append-assoc c (0 ∷ 0 ∷ []) t)
 
 pub table-set : (f g : ℕ → List ℕ) → ((i : ℕ) → length (f i) ≡ 6) → (t : ℕ) (v : List ℕ) → length v ≡ 6 → g t ≡ v → ((i : ℕ) → i ≢ t → f i ≡ g i)

@@ -12,12 +12,13 @@ use Rattle.clip.specs.Image.{cut, startShape}
 use Rattle.whole.specs.Outcome.{Outcome, accepted, refused}
 use Rattle.clip.specs.declared.Encoder.{Encoder}
 use Rattle.layout.specs.Sizes.{imageSize, cutDown}
-use Rattle.clip.specs.Encoding.{encoderShape, Left, left, Effect, valid, feedAnswer, feedBy, feed, closeAnswer, closeBy, close, start}
+use Rattle.clip.specs.Encoding.{encoderShape, Left, left, valid, feedAnswer, feed, closeAnswer, close, start}
 use Rattle.clip.specs.declared.starting.Start.{Start}
-use Rattle.clip.specs.Runs.{imageAfter, stateAfter, leftAfter, Call, feeds, closes, Plain, plain, plainAnswer, plainAfter, callEffect, leftBy, after}
+use Rattle.clip.specs.Runs.{imageAfter, stateAfter, leftAfter, Call, feeds, closes, Plain, plain, plainAnswer, plainAfter, callEffect, after, passesUpTo, contextAt, bodies, encodedAt, historyAt}
 use Rattle.clip.specs.Undo.{SameSoFar, Steps, done, call, undone, reached, kept, Equivalent, AsPlain}
+use Rattle.clip.proofs.ByOutcome.{CallEffect, feedBy, closeBy}
 use Rattle.whole.proofs.Outcomes.{passed, failed}
-use Rattle.clip.proofs.Accepting.{feed-accepted, feed-open, close-accepted}
+use Rattle.clip.proofs.AcceptedCalls.{feed-accepted, feed-open, close-accepted}
 use Rattle.clip.proofs.ImageByFrames.{Fine}
 use Rattle.clip.proofs.WholeRuns.{Legal, open-legal, legal-after, image-length, call-follows, start-fine, encoding-states}
 use Rattle.clip.proofs.SameSoFar.{agree-refl, agree-trans, agree-closed, agree-past, Same, Later, later-refl, later-trans, piece-same, piece-later, end-same, end-later}
@@ -25,10 +26,10 @@ use Rattle.clip.proofs.SameSoFar.{agree-refl, agree-trans, agree-closed
 -- ---- the calls
 
 -- the same answer and state, and buffers that it goes on with alike
-pub record SameEffect (o p : Effect) : Type 0 where
+pub record SameEffect (o p : CallEffect) : Type 0 where
   pub outcome : o .outcome ≡ p .outcome
-  pub encoder : o .encoder ≡ p .encoder
-  pub bytes : SameSoFar (o .encoder) (o .bytes) (p .bytes)
+  pub encoder : o .left .encoder ≡ p .left .encoder
+  pub bytes : SameSoFar (o .left .encoder) (o .left .bytes) (p .left .bytes)
 
 close-unclosed : (e : Encoder) (len : ℕ) → closeAnswer e len ≡ accepted tt → e .closed ≡ false
 unfolding closeAnswer
@@ -66,7 +67,7 @@ module _ (e : Encoder) (l m : List ℕ) (s : SameSoFar e l m) where
       (close-by (closeAnswer e (length l)) refl)
 
 module _ (e : Encoder) (l : List ℕ) where
-  feed-by-later : (xs : List ℤ) (a : Outcome Unit) → feedAnswer e (length xs) (length l) ≡ a → Later (left e l) (leftBy (feedBy a (left e l) xs))
+  feed-by-later : (xs : List ℤ) (a : Outcome Unit) → feedAnswer e (length xs) (length l) ≡ a → Later (left e l) (feedBy a (left e l) xs .left)
   feed-by-later xs (accepted u) p =
       let g = feed-accepted e (length xs) (length l) p in
       let r = g .rest in
@@ -74,16 +75,16 @@ module _ (e : Encoder) (l : List ℕ) where
   feed-by-later xs (refused n) p = later-refl (left e l)
 
   -- Feeding writes bytes that were unwritten, and no others.
-  pub feed-later : (xs : List ℤ) → Later (left e l) (leftBy (feed e xs l))
+  pub feed-later : (xs : List ℤ) → Later (left e l) (feed e xs l .left)
   unfolding feed
   feed-later xs = feed-by-later xs (feedAnswer e (length xs) (length l)) refl
 
-  close-by-later : (a : Outcome Unit) → closeAnswer e (length l) ≡ a → Later (left e l) (leftBy (closeBy a (left e l)))
+  close-by-later : (a : Outcome Unit) → closeAnswer e (length l) ≡ a → Later (left e l) (closeBy a (left e l) .left)
   close-by-later (accepted u) p = let w = close-accepted e (length l) p in end-later e (w .limits) (w .all) l (close-unclosed e (length l) p)
   close-by-later (refused n) p = later-refl (left e l)
 
   -- So does closing.
-  pub close-later : Later (left e l) (leftBy (close e l))
+  pub close-later : Later (left e l) (close e l .left)
   unfolding close
   close-later = close-by-later (closeAnswer e (length l)) refl
 
@@ -96,10 +97,10 @@ call-same k s t a = subst (λ (d : Encoder). SameEffect (callEffect s k) (callEf
     go (feeds p) = feed-same (s .encoder) (s .bytes) (t .bytes) (a .bytes) p
     go closes = close-same (s .encoder) (s .bytes) (t .bytes) (a .bytes)
 
-left-same : (o p : Effect) → SameEffect o p → Same (leftBy o) (leftBy p)
+left-same : (o p : CallEffect) → SameEffect o p → Same (o .left) (p .left)
 left-same o p q = record { state = q .encoder; bytes = q .bytes }
 
-call-later : (k : Call) (s : Left) → Later s (leftBy (callEffect s k))
+call-later : (k : Call) (s : Left) → Later s (callEffect s k .left)
 call-later (feeds p) s = feed-later (s .encoder) (s .bytes) p
 call-later closes s = close-later (s .encoder) (s .bytes)
 
@@ -107,12 +108,12 @@ call-later closes s = close-later (s .encoder) (s .bytes)
 pub calls-later : (ks : List Call) (s : Left) → Later s (after s ks)
 unfolding after
 calls-later [] s = later-refl s
-calls-later (k ∷ ks) s = later-trans s (leftBy (callEffect s k)) (after (leftBy (callEffect s k)) ks) (call-later k s) (calls-later ks (leftBy (callEffect s k)))
+calls-later (k ∷ ks) s = later-trans s (callEffect s k .left) (after (callEffect s k .left) ks) (call-later k s) (calls-later ks (callEffect s k .left))
 
 pub calls-same : (ks : List Call) (s t : Left) → Same s t → Same (after s ks) (after t ks)
 unfolding after
 calls-same [] s t a = a
-calls-same (k ∷ ks) s t a = calls-same ks (leftBy (callEffect s k)) (leftBy (callEffect t k)) (left-same (callEffect s k) (callEffect t k) (call-same k s t a))
+calls-same (k ∷ ks) s t a = calls-same ks (callEffect s k .left) (callEffect t k .left) (left-same (callEffect s k) (callEffect t k) (call-same k s t a))
 
 same-equivalent : (s t : Left) → Same s t → Equivalent s t
 same-equivalent s t a =
@@ -136,8 +137,8 @@ steps-same : (t : Steps) (s r : Left) → Same s r → Same (after s (kept t)) (
 unfolding after kept reached
 steps-same done s r a = (a, later-refl r)
 steps-same (call k t) s r a =
-    let n = steps-same t (leftBy (callEffect s k)) (leftBy (callEffect r k)) (left-same (callEffect s k) (callEffect r k) (call-same k s r a)) in
-    (n .0, later-trans r (leftBy (callEffect r k)) (reached (leftBy (callEffect r k)) t) (call-later k r) (n .1))
+    let n = steps-same t (callEffect s k .left) (callEffect r k .left) (left-same (callEffect s k) (callEffect r k) (call-same k s r a)) in
+    (n .0, later-trans r (callEffect r k .left) (reached (callEffect r k .left) t) (call-later k r) (n .1))
 steps-same (undone u t) s r a =
     let b = steps-same u s r a .1 .bytes in
     let back = left (r .encoder) (reached r u .bytes) in
@@ -150,11 +151,11 @@ pub steps-equivalent : (s : Left) (t : Steps) → Equivalent (after s (kept t)) 
 steps-equivalent s t = same-equivalent (after s (kept t)) (reached s t) (steps-same t s s (record { state = refl; bytes = agree-refl (s .encoder) (s .bytes) }) .0)
 
 equivalent-plain : (g : Start) → Fine g → (rest : List ℕ) (xs : List ℤ) (c : Bool) → Legal g xs c → (s : Left) → Equivalent (leftAfter g rest xs c) s → AsPlain g rest (plain xs c) s
-unfolding leftAfter stateAfter
+unfolding leftAfter stateAfter imageAfter passesUpTo contextAt bodies encodedAt historyAt
 equivalent-plain g F rest xs c L s a =
     record {
       state = a .state;
-      answers = λ k. a .answers k ∙ ap (λ (o : Effect). o .outcome) (call-follows g F rest xs c L k);
+      answers = λ k. a .answers k ∙ ap (λ (o : CallEffect). o .outcome) (call-follows g F rest xs c L k);
       past = a .past ∙ drop-at (imageAfter g xs c) rest (imageSize (startShape g)) (image-length g F xs c);
       closed = λ p. a .closed p ∙ ap (λ (b : Bool). imageAfter g xs b ++ rest) p;
     }
@@ -162,11 +163,11 @@ equivalent-plain g F rest xs c L s a =
 -- From an accepted start, with steps taken back as often and as deep as one likes: state, answers and closed image are those of X,
 -- the pieces accepted of the calls that were not taken back. Bytes from S on are as they were.
 pub encoding-steps : (g : Start) (l : List ℕ) → length (g .coefficients) ≡ 16 → start g l .outcome ≡ accepted tt → (t : Steps)
-    → AsPlain (cut g) (drop (imageSize (startShape (cut g))) l) (plainAfter (cut g) (plain [] false) (kept t)) (reached (leftBy (start g l)) t)
+    → AsPlain (cut g) (drop (imageSize (startShape (cut g))) l) (plainAfter (cut g) (plain [] false) (kept t)) (reached (start g l .left) t)
 encoding-steps g l sixteen ok t =
     let rest = drop (imageSize (startShape (cut g))) l in
     let m = plainAfter (cut g) (plain [] false) (kept t) in
-    let s = reached (leftBy (start g l)) t in
+    let s = reached (start g l .left) t in
     let F = start-fine g l sixteen ok in
     equivalent-plain (cut g) F rest (m .samples) (m .closed) (legal-after (cut g) [] false (open-legal (cut g) [] (omega arith)) (kept t)) s
-    (subst (λ (b : Left). Equivalent b s) (encoding-states g l sixteen ok (kept t)) (steps-equivalent (leftBy (start g l)) t))
+    (subst (λ (b : Left). Equivalent b s) (encoding-states g l sixteen ok (kept t)) (steps-equivalent (start g l .left) t))

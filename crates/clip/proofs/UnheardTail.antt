@@ -14,9 +14,10 @@ use Rattle.frame.specs.declared.EncodedFrame.{EncodedFrame}
 use Rattle.frame.specs.Frame.{encodeFrame, historyAfter}
 use Rattle.whole.specs.Outcome.{Outcome, accepted, refused}
 use Rattle.clip.specs.declared.Encoder.{Encoder}
-use Rattle.clip.specs.Runs.{Call, feeds, closes, seen, callEffect, leftBy, run}
+use Rattle.clip.specs.Runs.{Call, feeds, closes, seen, callEffect, run}
 use Rattle.clip.specs.Unheard.{framed, Alike}
-use Rattle.clip.specs.Encoding.{Effect, encoderShape, Left, left, store, moved, noFrame, push, feedAll, finish, valid, feedAnswer, feedBy, feed, closeAnswer, closeBy, close}
+use Rattle.clip.specs.Encoding.{encoderShape, Left, left, store, moved, noFrame, push, feedAll, finish, valid, feedAnswer, feed, closeAnswer, close}
+use Rattle.clip.proofs.ByOutcome.{CallEffect, feedBy, closeBy}
 
 -- ---- lists
 
@@ -72,10 +73,11 @@ module _ (e : Encoder) (l : List ℕ) (f : List ℤ) (x : ℤ) (s : Alike (e .fe
   part g = left (moved e (e .fed + 1) (e .history) g (e .passes) (e .closed)) l
 
   push-unheard : Unheard (push (left e l) x) (push (left (framed e f) l) x)
-  unfolding push
+  unfolding push store
   push-unheard = go (eqb (e .fed % 14) 13) refl
     where
-      go : (t : Bool) → eqb (e .fed % 14) 13 ≡ t → Unheard (cond t (full (set (e .frame) (e .fed % 14) x)) (part (set (e .frame) (e .fed % 14) x))) (cond t (full (set f (e .fed % 14) x)) (part (set f (e .fed % 14) x)))
+      go : (t : Bool) → eqb (e .fed % 14) 13 ≡ t → Unheard (cond t (full (set (e .frame) (e .fed % 14) x)) (part (set (e .frame) (e .fed % 14) x)))
+          (cond t (full (set f (e .fed % 14) x)) (part (set f (e .fed % 14) x)))
       go true q =
           let r = eqb-true (e .fed % 14) 13 q in
           subst (λ (g : List ℤ). Unheard (full (set (e .frame) (e .fed % 14) x)) (full g)) (set-full (e .fed) (e .frame) f x s r)
@@ -103,35 +105,35 @@ piece-unheard (x ∷ xs) s t u =
     (subst (λ (v : Left). Unheard (push s x) (push v x)) (same-both s t u) (push-unheard (s .encoder) (s .bytes) (t .encoder .frame) x (u .frames)))
 
 end-unheard : (e : Encoder) (l : List ℕ) (f : List ℤ) → Alike (e .fed) (e .frame) f → finish (left e l) ≡ finish (left (framed e f) l)
-unfolding finish
+unfolding finish store
 end-unheard e l f s = rw (padded-same (e .fed) (e .frame) f s)
 
 -- ---- the calls
 
-feed-by : (a : Outcome Unit) (xs : List ℤ) (s t : Left) → Unheard s t → feedBy a s xs .bytes ≡ feedBy a t xs .bytes
+feed-by : (a : Outcome Unit) (xs : List ℤ) (s t : Left) → Unheard s t → feedBy a s xs .left .bytes ≡ feedBy a t xs .left .bytes
 feed-by (accepted a) xs s t u = piece-unheard xs s t u .bytes
 feed-by (refused n) xs s t u = u .bytes
 
 -- what stands past the samples fed is never heard: feeding leaves the same image
-pub feed-unheard : (e : Encoder) (f : List ℤ) (xs : List ℤ) (l : List ℕ) → Alike (e .fed) (e .frame) f → feed e xs l .bytes ≡ feed (framed e f) xs l .bytes
+pub feed-unheard : (e : Encoder) (f : List ℤ) (xs : List ℤ) (l : List ℕ) → Alike (e .fed) (e .frame) f → feed e xs l .left .bytes ≡ feed (framed e f) xs l .left .bytes
 unfolding feed feedAnswer valid
 feed-unheard e f xs l s = feed-by (feedAnswer e (length xs) (length l)) xs (left e l) (left (framed e f) l) (record { bytes = refl; frames = s; state = refl })
 
-close-by : (a : Outcome Unit) (e : Encoder) (f : List ℤ) (l : List ℕ) → Alike (e .fed) (e .frame) f → closeBy a (left e l) .bytes ≡ closeBy a (left (framed e f) l) .bytes
+close-by : (a : Outcome Unit) (e : Encoder) (f : List ℤ) (l : List ℕ) → Alike (e .fed) (e .frame) f → closeBy a (left e l) .left .bytes ≡ closeBy a (left (framed e f) l) .left .bytes
 close-by (accepted u) e f l s = ap (λ (t : Left). t .bytes) (end-unheard e l f s)
 close-by (refused n) e f l s = refl
 
 -- and so does closing
-pub close-unheard : (e : Encoder) (f : List ℤ) (l : List ℕ) → Alike (e .fed) (e .frame) f → close e l .bytes ≡ close (framed e f) l .bytes
+pub close-unheard : (e : Encoder) (f : List ℤ) (l : List ℕ) → Alike (e .fed) (e .frame) f → close e l .left .bytes ≡ close (framed e f) l .left .bytes
 unfolding close closeAnswer valid
 close-unheard e f l s = close-by (closeAnswer e (length l)) e f l s
 
 -- ---- lists of calls
 
 -- the same outcome, and again states that differ in such a frame at most
-record CallUnheard (o p : Effect) : Type 0 where
+record CallUnheard (o p : CallEffect) : Type 0 where
   outcome : o .outcome ≡ p .outcome
-  left-alike : Unheard (leftBy o) (leftBy p)
+  left-alike : Unheard (o .left) (p .left)
 
 feed-call-by : (a : Outcome Unit) (xs : List ℤ) (s t : Left) → Unheard s t → CallUnheard (feedBy a s xs) (feedBy a t xs)
 feed-call-by (accepted a) xs s t u = record { outcome = refl; left-alike = piece-unheard xs s t u }
@@ -143,7 +145,7 @@ feed-call e l f xs s = feed-call-by (feedAnswer e (length xs) (length l)) xs (le
 
 -- the end leaves no sample in the unfinished frame
 end-alike : (e : Encoder) (l : List ℕ) → Unheard (finish (left e l)) (finish (left e l))
-unfolding finish
+unfolding finish store
 end-alike e l = go (eqb (e .fed % 14) 0)
   where
     z : EncodedFrame
@@ -182,7 +184,7 @@ calls-unheard size [] s t u = refl
 calls-unheard size (k ∷ ks) s t u =
     let c = call-unheard k s t u in
     let n = ap (λ (e : Encoder). e .passes) (c .left-alike .state) in
-    let r = calls-unheard size ks (leftBy (callEffect s k)) (leftBy (callEffect t k)) (c .left-alike) in
+    let r = calls-unheard size ks (callEffect s k .left) (callEffect t k .left) (c .left-alike) in
     λ i. seen (c .outcome i) (n i) (take size (c .left-alike .bytes i)) ∷ r i
 
 -- What stands past the samples fed is never heard: for every list of calls, refused ones included, answers, passes and images are the same.

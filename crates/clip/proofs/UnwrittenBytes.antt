@@ -11,7 +11,7 @@ use borrow.Author.Tests.{eqb-true, eqb-false}
 use lib.Dec.{eqb}
 use lib.ListN.{length, getD, set, length-set, List·getD-eq-default}
 use lib.Seq.{sets, length-sets, getD-set-same, getD-set-other}
-use Rattle.whole.specs.Frames.{framesOf}
+use Rattle.whole.specs.Frames.{frameCount}
 use Rattle.whole.specs.declared.History.{History}
 use Rattle.layout.specs.Sizes.{lastSamples, blockCount, bodyBytes, imageSize}
 use Rattle.layout.specs.Fields.{mark}
@@ -30,18 +30,18 @@ unwritten-earlier s q r i h (context j lt le lo hi) = context j lt (omega arith)
 
 -- nothing is unwritten past the image
 pub unwritten-within : (s : Shape) (q i : ℕ) → Unwritten s q i → i < imageSize s
-unfolding imageSize
+unfolding imageSize blockCount bodyBytes frameCount lastSamples
 unwritten-within s q i (marked l) = omega arith
 unwritten-within s q i (body lo hi) = hi
 unwritten-within s q i (context j lt le lo hi) = omega arith
 
 -- with all frames encoded only the mark is unwritten
-body-most : (n : ℕ) → 1 ≤ n → bodyBytes n ≤ 8 * framesOf n
-unfolding bodyBytes lastSamples framesOf
+body-most : (n : ℕ) → 1 ≤ n → bodyBytes n ≤ 8 * frameCount n
+unfolding bodyBytes lastSamples frameCount
 body-most n h = omega arith
 
-unwritten-last : (s : Shape) (i : ℕ) → Limits s → Unwritten s (framesOf (s .total)) i → i < 4
-unfolding imageSize
+unwritten-last : (s : Shape) (i : ℕ) → Limits s → Unwritten s (frameCount (s .total)) i → i < 4
+unfolding imageSize blockCount bodyBytes frameCount lastSamples
 unwritten-last s i L (marked l) = l
 unwritten-last s i L (body lo hi) = absurd (omega (arith, body-most (s .total) (L .some)))
 unwritten-last s i L (context j lt le lo hi) = absurd (omega (arith, block-first s j L lt))
@@ -117,8 +117,9 @@ module _ (s : Shape) (q : ℕ) (v : List ℕ) (h : History) where
         go false p = absurd (eqb-false (q % (s .block / 8)) 0 p z)
 
     -- a frame's bytes, and the context of the block that it is the first of, are written then
-    pub store-unwritten : 8 ≤ s .block → (length v ≡ 8) ⊎ (8 * q + length v ≡ bodyBytes (s .total)) → Unwritten s q i → (getD (store s q v h l) i 0 ≡ getD (store s q v h m) i 0) ⊎ Unwritten s (suc q) i
-    unfolding imageSize
+    pub store-unwritten : 8 ≤ s .block → (length v ≡ 8) ⊎ (8 * q + length v ≡ bodyBytes (s .total)) → Unwritten s q i → (getD (store s q v h l) i 0 ≡ getD (store s q v h m) i 0)
+        ⊎ Unwritten s (suc q) i
+    unfolding imageSize blockCount bodyBytes frameCount lastSamples
     store-unwritten w k (marked lt) = inr (marked lt)
     store-unwritten w k (body lo hi) = go (decLt i (place + length v)) k
       where
@@ -137,12 +138,13 @@ module _ (s : Shape) (q : ℕ) (v : List ℕ) (h : History) where
         go : Dec (j * (s .block / 8) ≡ q) → (getD (store s q v h l) i 0 ≡ getD (store s q v h m) i 0) ⊎ Unwritten s (suc q) i
         go (yes p) =
             let a = at p in
-            inl (store-context (ap (λ (a : ℕ). a % (s .block / 8)) (sym p) ∙ mul-mod-left j (s .block / 8)) (subst (λ (a : ℕ). contextPlace a ≤ i) (sym a) lo) (subst (λ (a : ℕ). i < contextPlace a + 6) (sym a) hi))
+            inl (store-context (ap (λ (a : ℕ). a % (s .block / 8)) (sym p)
+            ∙ mul-mod-left j (s .block / 8)) (subst (λ (a : ℕ). contextPlace a ≤ i) (sym a) lo) (subst (λ (a : ℕ). i < contextPlace a + 6) (sym a) hi))
         go (no p) = inr (context j lt (omega arith) lo hi)
 
   -- what storing writes was unwritten
-  pub store-leaves : Limits s → q < framesOf (s .total) → 8 * q + length v ≤ bodyBytes (s .total) → (l : List ℕ) (i : ℕ) → (getD l i 0 ≡ getD (store s q v h l) i 0) ⊎ Unwritten s q i
-  unfolding store imageSize
+  pub store-leaves : Limits s → q < frameCount (s .total) → 8 * q + length v ≤ bodyBytes (s .total) → (l : List ℕ) (i : ℕ) → (getD l i 0 ≡ getD (store s q v h l) i 0) ⊎ Unwritten s q i
+  unfolding store imageSize blockCount bodyBytes frameCount lastSamples
   store-leaves L lt room l i = go (eqb (q % (s .block / 8)) 0) refl
     where
       within : i < place + length v → i < imageSize s
@@ -163,7 +165,8 @@ module _ (s : Shape) (q : ℕ) (v : List ℕ) (h : History) where
 
 -- ---- the mark is written
 
-pub mark-same : (s : Shape) → Limits s → (l m : List ℕ) (i : ℕ) → length l ≡ length m → (getD l i 0 ≡ getD m i 0) ⊎ Unwritten s (framesOf (s .total)) i → getD (sets l 0 mark) i 0 ≡ getD (sets m 0 mark) i 0
+pub mark-same : (s : Shape) → Limits s → (l m : List ℕ) (i : ℕ) → length l ≡ length m → (getD l i 0 ≡ getD m i 0) ⊎ Unwritten s (frameCount (s .total)) i → getD (sets l 0 mark) i 0
+    ≡ getD (sets m 0 mark) i 0
 mark-same s L l m i e (inl p) = both-sets mark l m 0 i e (inl p)
 mark-same s L l m i e (inr d) = both-sets mark l m 0 i e (inr (omega arith, unwritten-last s i L d))
 

@@ -9,19 +9,21 @@ use lib.Dec.{ltb}
 use lib.IntN.{ℤ}
 use lib.ListN.{length, take, drop, getD, length-append}
 use lib.Seq.{sets-eq, take-at}
-use Rattle.whole.specs.Frames.{frameAt, most, framesOf}
+use Rattle.whole.specs.Frames.{frameAt, most, frameCount}
 use Rattle.whole.proofs.Stores.{take-replicate}
 use Rattle.layout.specs.Sizes.{blockCount, bodyBytes, imageSize, cutDown}
 use Rattle.layout.specs.Fields.{mark, noMark}
-use Rattle.whole.specs.Outcome.{Outcome, accepted, refused}
-use Rattle.clip.specs.Image.{cut, startShape, headBytes, contextBytes, noContext, tableBytes, freshBytes}
-use Rattle.clip.specs.Encoding.{Left, left, Effect, effect, countsOk, valid, feedAnswer, feedBy, feed, closeAnswer, closeBy, close, begun, startAnswer, startBy, start}
+use Rattle.whole.specs.Outcome.{Outcome, accepted, refused, effect}
+use Rattle.clip.specs.Image.{cut, startShape, headBytes, contextBytes, noContext, tableBytes, freshBytes, coefficientBytes}
+use Rattle.clip.specs.Encoding.{Left, left, countsOk, valid, feedAnswer, feed, closeAnswer, close, begun, startAnswer, start}
 use Rattle.layout.specs.Limits.{numbersOk}
 use Rattle.clip.specs.declared.starting.Start.{Start}
-use Rattle.clip.specs.Runs.{historyAt, encodedAt, bodies, passesUpTo, contextAt, framesDone, imageAfter, stateAfter, leftAfter, Call, feeds, closes, Seen, seen, plain, plainAnswer, plainNext, plainAfter, plainRun, callEffect, leftBy, after, run}
-use Rattle.clip.proofs.Accepting.{start-accepted}
+use Rattle.clip.specs.Runs.{historyAt, encodedAt, bodies, passesUpTo, contextAt, framesDone, imageAfter, stateAfter, leftAfter, Call, feeds}
+use Rattle.clip.specs.Runs.{closes, Seen, seen, plain, plainAnswer, plainNext, plainAfter, plainRun, callEffect, after, run}
+use Rattle.clip.proofs.ByOutcome.{CallEffect, feedBy, closeBy, startBy}
+use Rattle.clip.proofs.AcceptedCalls.{start-accepted}
 use Rattle.whole.proofs.Outcomes.{not-both, failed}
-use Rattle.clip.proofs.Stable.{passes-most}
+use Rattle.clip.proofs.LaterSamples.{passes-most}
 use Rattle.clip.proofs.ImageByFrames.{Fine, image-built, built-length}
 use Rattle.clip.proofs.StateOfSamples.{piece-follows, end-follows}
 
@@ -38,18 +40,18 @@ pub open-legal : (g : Start) (xs : List ℤ) → length xs ≤ g .total → Lega
 open-legal g xs h = record { few = h; all = λ z. absurd (closed-not z) }
 
 pub image-length : (g : Start) → Fine g → (xs : List ℤ) (c : Bool) → length (imageAfter g xs c) ≡ imageSize (startShape g)
-image-length g F xs true = ap length (image-built g xs true) ∙ built-length g F mark refl xs (framesOf (g .total))
+image-length g F xs true = ap length (image-built g xs true) ∙ built-length g F mark refl xs (frameCount (g .total))
 image-length g F xs false = ap length (image-built g xs false) ∙ built-length g F noMark refl xs (length xs / 14)
 
 -- ---- the state passes the test, the buffer is long enough
 
 counts-fine : (g : Start) (xs : List ℤ) (c : Bool) → Legal g xs c → countsOk (length xs) (g .total) c (passesUpTo g xs (framesDone g xs c)) ≡ true
 unfolding countsOk
-counts-fine g xs true L = rw (le-ltb (length xs) (g .total) (L .all refl), le-leb (passesUpTo g xs (framesOf (g .total))) (104 * framesOf (g .total)) (passes-most g xs (framesOf (g .total))))
+counts-fine g xs true L = rw (le-ltb (length xs) (g .total) (L .all refl), le-leb (passesUpTo g xs (frameCount (g .total))) (104 * frameCount (g .total)) (passes-most g xs (frameCount (g .total))))
 counts-fine g xs false L = le-leb (passesUpTo g xs (length xs / 14)) (104 * (length xs / 14)) (passes-most g xs (length xs / 14))
 
 pub state-valid : (g : Start) → Fine g → (xs : List ℤ) (c : Bool) → Legal g xs c → valid (stateAfter g xs c) ≡ true
-unfolding valid numbersOk stateAfter
+unfolding valid numbersOk stateAfter passesUpTo encodedAt historyAt
 state-valid g F xs c L =
     let l = F .limits in
     rw (
@@ -106,11 +108,11 @@ legal-after g xs c L (k ∷ ks) =
 
 module _ (g : Start) (F : Fine g) (rest : List ℕ) (xs : List ℤ) where
   feed-answered : (c : Bool) → Legal g xs c → (p : List ℤ) → feedAnswer (stateAfter g xs c) (length p) (length (imageAfter g xs c ++ rest)) ≡ plainAnswer g (plain xs c) (feeds p)
-  unfolding feedAnswer stateAfter
+  unfolding feedAnswer stateAfter passesUpTo encodedAt historyAt
   feed-answered c L p = rw (state-valid g F xs c L, long-enough g F rest xs c)
 
   close-answered : (c : Bool) → Legal g xs c → closeAnswer (stateAfter g xs c) (length (imageAfter g xs c ++ rest)) ≡ plainAnswer g (plain xs c) closes
-  unfolding closeAnswer stateAfter
+  unfolding closeAnswer stateAfter passesUpTo encodedAt historyAt
   close-answered c L = rw (state-valid g F xs c L, long-enough g F rest xs c)
 
   feed-by : (c : Bool) → Legal g xs c → (p : List ℤ) (a : Outcome Unit) → plainAnswer g (plain xs c) (feeds p) ≡ a → feedBy a (leftAfter g rest xs c) p ≡ effect a (next g rest xs c a (feeds p))
@@ -124,7 +126,7 @@ module _ (g : Start) (F : Fine g) (rest : List ℕ) (xs : List ℤ) where
   close-by false L (accepted u) e = ap (effect (accepted tt)) (end-follows g F rest xs (close-open g xs false L e))
 
   pub call-follows : (c : Bool) → Legal g xs c → (k : Call) → callEffect (leftAfter g rest xs c) k ≡ effect (plainAnswer g (plain xs c) k) (next g rest xs c (plainAnswer g (plain xs c) k) k)
-  unfolding feed close leftAfter
+  unfolding feed close leftAfter stateAfter imageAfter passesUpTo contextAt bodies encodedAt historyAt
   call-follows c L (feeds p) = ap (λ (a : Outcome Unit). feedBy a (leftAfter g rest xs c) p) (feed-answered c L p) ∙ feed-by c L p (plainAnswer g (plain xs c) (feeds p)) refl
   call-follows c L closes = ap (λ (a : Outcome Unit). closeBy a (leftAfter g rest xs c)) (close-answered c L) ∙ close-by c L (plainAnswer g (plain xs c) closes) refl
 
@@ -132,13 +134,13 @@ module _ (g : Start) (F : Fine g) (rest : List ℕ) (xs : List ℤ) where
 
 module _ (g : Start) (F : Fine g) (rest : List ℕ) where
   runs-follow : (xs : List ℤ) (c : Bool) → Legal g xs c → (ks : List Call) → run (imageSize (startShape g)) (leftAfter g rest xs c) ks ≡ plainRun g (plain xs c) ks
-  unfolding run plainRun leftAfter stateAfter
+  unfolding run plainRun leftAfter stateAfter passesUpTo imageAfter encodedAt contextAt bodies historyAt
   runs-follow xs c L [] = refl
   runs-follow xs c L (k ∷ ks) =
       let size = imageSize (startShape g) in
       let a = plainAnswer g (plain xs c) k in
       let m = plainNext a (plain xs c) k in
-      ap (λ (o : Effect). seen (o .outcome) (o .encoder .passes) (take size (o .bytes)) ∷ run size (leftBy o) ks) (call-follows g F rest xs c L k)
+      ap (λ (o : CallEffect). seen (o .outcome) (o .left .encoder .passes) (take size (o .left .bytes)) ∷ run size (o .left) ks) (call-follows g F rest xs c L k)
       ∙ ap₂ (λ (l : List ℕ) (r : List Seen). seen a (passesUpTo g (m .samples) (framesDone g (m .samples) (m .closed))) l ∷ r)
       (take-at (imageAfter g (m .samples) (m .closed)) rest size (image-length g F (m .samples) (m .closed)))
       (runs-follow (m .samples) (m .closed) (legal-next g xs c L k a refl) ks)
@@ -149,13 +151,13 @@ module _ (g : Start) (F : Fine g) (rest : List ℕ) where
   states-follow xs c L (k ∷ ks) =
       let a = plainAnswer g (plain xs c) k in
       let m = plainNext a (plain xs c) k in
-      ap (λ (o : Effect). after (leftBy o) ks) (call-follows g F rest xs c L k) ∙ states-follow (m .samples) (m .closed) (legal-next g xs c L k a refl) ks
+      ap (λ (o : CallEffect). after (o .left) ks) (call-follows g F rest xs c L k) ∙ states-follow (m .samples) (m .closed) (legal-next g xs c L k a refl) ks
 
 -- ---- the start
 
 -- no frame is encoded yet
 fresh-image : (g : Start) → freshBytes g ≡ imageAfter g [] false
-unfolding freshBytes imageAfter bodies contextAt
+unfolding freshBytes imageAfter bodies contextAt headBytes tableBytes coefficientBytes blockCount frameCount encodedAt historyAt
 fresh-image g =
     let n = g .total in
     let per = g .block / 8 in
@@ -164,13 +166,9 @@ fresh-image g =
     (sym (take-replicate (bodyBytes n) (bodyBytes n) 0 (omega arith)))
 
 module _ (g : Start) (l : List ℕ) where
-  answer-by : (a : Outcome Unit) → startBy a (cut g) l .outcome ≡ a
-  answer-by (accepted u) = refl
-  answer-by (refused n) = refl
-
   pub start-answered : start g l .outcome ≡ accepted tt → startAnswer g (length l) ≡ accepted tt
   unfolding start
-  start-answered ok = sym (answer-by (startAnswer g (length l))) ∙ ok
+  start-answered ok = ok
 
   pub start-fine : length (g .coefficients) ≡ 16 → start g l .outcome ≡ accepted tt → Fine (cut g)
   start-fine sixteen ok =
@@ -179,7 +177,7 @@ module _ (g : Start) (l : List ℕ) where
 
   -- an accepted start leaves the state and the image of no sample
   pub start-follows : length (g .coefficients) ≡ 16 → start g l .outcome ≡ accepted tt → start g l ≡ effect (accepted tt) (leftAfter (cut g) (drop (imageSize (startShape (cut g))) l) [] false)
-  unfolding start leftAfter stateAfter historyAt passesUpTo frameAt
+  unfolding start leftAfter stateAfter historyAt passesUpTo frameAt imageAfter contextAt bodies encodedAt
   start-follows sixteen ok =
       let size = imageSize (startShape (cut g)) in
       let s = start-accepted g (length l) (start-answered ok) in
@@ -194,15 +192,15 @@ module _ (g : Start) (l : List ℕ) where
   -- Demand 3 for feeding and closing. From an accepted start, for every list of feedings and closings on its buffer, refused ones included:
   -- each answer, the state's passes and the buffer's first S bytes are the plain machine's.
   pub encoding-runs : length (g .coefficients) ≡ 16 → start g l .outcome ≡ accepted tt → (ks : List Call)
-      → run (imageSize (startShape (cut g))) (leftBy (start g l)) ks ≡ plainRun (cut g) (plain [] false) ks
+      → run (imageSize (startShape (cut g))) (start g l .left) ks ≡ plainRun (cut g) (plain [] false) ks
   encoding-runs sixteen ok ks =
       let size = imageSize (startShape (cut g)) in
-      ap (λ (o : Effect). run size (leftBy o) ks) (start-follows sixteen ok)
+      ap (λ (o : CallEffect). run size (o .left) ks) (start-follows sixteen ok)
       ∙ runs-follow (cut g) (start-fine sixteen ok) (drop size l) [] false (open-legal (cut g) [] (omega arith)) ks
 
   -- and after them the whole state and the whole buffer are functions of the start and of X; bytes from S on are as they were
   pub encoding-states : length (g .coefficients) ≡ 16 → start g l .outcome ≡ accepted tt → (ks : List Call)
-      → after (leftBy (start g l)) ks ≡ (let m = plainAfter (cut g) (plain [] false) ks in leftAfter (cut g) (drop (imageSize (startShape (cut g))) l) (m .samples) (m .closed))
+      → after (start g l .left) ks ≡ (let m = plainAfter (cut g) (plain [] false) ks in leftAfter (cut g) (drop (imageSize (startShape (cut g))) l) (m .samples) (m .closed))
   encoding-states sixteen ok ks =
-      ap (λ (o : Effect). after (leftBy o) ks) (start-follows sixteen ok)
+      ap (λ (o : CallEffect). after (o .left) ks) (start-follows sixteen ok)
       ∙ states-follow (cut g) (start-fine sixteen ok) (drop (imageSize (startShape (cut g))) l) [] false (open-legal (cut g) [] (omega arith)) ks

@@ -6,8 +6,8 @@ use lib.Dec.{eqb, leb, ltb}
 use lib.IntN.{ℤ, pos}
 use lib.ListN.{length, getD, take, set, replicate}
 use lib.Seq.{sets}
-use Rattle.whole.specs.Frames.{framesOf}
-use Rattle.whole.specs.Outcome.{Outcome, accepted, refused}
+use Rattle.whole.specs.Frames.{frameCount}
+use Rattle.whole.specs.Outcome.{Outcome, accepted, refused, ifAccepted, Effect, effect}
 use Rattle.layout.specs.declared.Shape.{Shape}
 use Rattle.layout.specs.Fields.{mark}
 use Rattle.layout.specs.Limits.{totalOk, blockOk, numbersOk}
@@ -50,15 +50,6 @@ pub record Left : Type 0 where
 abbrev pub left : Encoder → List ℕ → Left
 left e l = record { encoder = e; bytes = l }
 
--- what a call answers and leaves
-pub record Effect : Type 0 where
-  pub outcome : Outcome Unit
-  pub encoder : Encoder
-  pub bytes : List ℕ
-
-abbrev pub effect : Outcome Unit → Left → Effect
-effect o s = record { outcome = o; encoder = s .encoder; bytes = s .bytes }
-
 -- ---- the state test, code 1
 
 -- the shape of the clip that a state encodes
@@ -67,7 +58,7 @@ encoderShape e = shape (e .total) (e .block)
 
 -- "the frames encoded (⌊n/14⌋, F when closed)"
 abbrev pub encodedFrames : ℕ → ℕ → Bool → ℕ
-encodedFrames n total closed = cond closed (framesOf total) (n / 14)
+encodedFrames n total closed = cond closed (frameCount total) (n / 14)
 
 -- "closed with n < N", "passes above 104 × the frames encoded"
 unfoldable pub countsOk : ℕ → ℕ → Bool → ℕ → Bool
@@ -75,8 +66,7 @@ countsOk n total closed passes = not (closed && ltb n total) && leb passes (104 
 
 -- a state with none of these, nor "a coefficient outside 7"
 unfoldable pub valid : Encoder → Bool
-valid e =
-    numbersOk (e .fed) (e .total) (e .block) (e .rate) && (coefficientsOk (e .coefficients) && countsOk (e .fed) (e .total) (e .closed) (e .passes))
+valid e = numbersOk (e .fed) (e .total) (e .block) (e .rate) && (coefficientsOk (e .coefficients) && countsOk (e .fed) (e .total) (e .closed) (e .passes))
 
 -- ---- a frame is stored
 
@@ -90,18 +80,7 @@ store s q bytes h image =
 -- the state with other n, history, unfinished frame, passes and closed
 abbrev pub moved : Encoder → ℕ → History → List ℤ → ℕ → Bool → Encoder
 moved e n h f passes closed =
-    record {
-      total = e .total;
-      rate = e .rate;
-      block = e .block;
-      gain = e .gain;
-      coefficients = e .coefficients;
-      fed = n;
-      history = h;
-      frame = f;
-      passes = passes;
-      closed = closed;
-    }
+    record { total = e .total; rate = e .rate; block = e .block; gain = e .gain; coefficients = e .coefficients; fed = n; history = h; frame = f; passes = passes; closed = closed }
 
 -- an empty unfinished frame
 abbrev pub noFrame : List ℤ
@@ -111,7 +90,6 @@ noFrame = replicate 14 (pos 0)
 
 -- one sample
 unfoldable pub push : Left → ℤ → Left
-unfolding store
 push s x =
     let e = s .encoder in
     let f = set (e .frame) (e .fed % 14) x in
@@ -125,28 +103,25 @@ push s x =
 abbrev pub feedAll : Left → List ℤ → Left
 feedAll s xs = foldl push s xs
 
--- codes 1, 8, 9, 10
-unfoldable pub feedAnswer : Encoder → ℕ → ℕ → Outcome Unit
-feedAnswer e piece size =
+-- codes 1, 8, 9, and then the call's own
+abbrev pub goingAnswer : Encoder → ℕ → Outcome Unit → Outcome Unit
+goingAnswer e size next =
     cond (not (valid e)) (refused 1)
     (cond (ltb size (imageSize (encoderShape e))) (refused 8)
-    (cond (e .closed) (refused 9)
-    (cond (ltb (e .total - e .fed) piece) (refused 10)
-    (accepted tt))))
+    (cond (e .closed) (refused 9) next))
 
-abbrev pub feedBy : Outcome Unit → Left → List ℤ → Effect
-feedBy (accepted u) s xs = effect (accepted u) (feedAll s xs)
-feedBy (refused n) s xs = effect (refused n) s
+-- codes 1, 8, 9, 10
+unfoldable pub feedAnswer : Encoder → ℕ → ℕ → Outcome Unit
+feedAnswer e piece size = goingAnswer e size (cond (ltb (e .total - e .fed) piece) (refused 10) (accepted tt))
 
--- a piece is fed: answer, state and image
-unfoldable pub feed : Encoder → List ℤ → List ℕ → Effect
-feed e xs l = feedBy (feedAnswer e (length xs) (length l)) (left e l) xs
+-- a piece is fed: outcome, state and image, which a refusal leaves as they were
+unfoldable pub feed : Encoder → List ℤ → List ℕ → Effect (Outcome Unit) Left
+feed e xs l = let o = feedAnswer e (length xs) (length l) in effect o (ifAccepted o (feedAll (left e l) xs) (left e l))
 
 -- ---- the clip is closed
 
 -- "Closing pads and encodes a short last frame, stores only its 1 + ⌈m/2⌉ bytes, and writes the mark"
 unfoldable pub finish : Left → Left
-unfolding store
 finish s =
     let e = s .encoder in
     let m = e .fed % 14 in
@@ -159,44 +134,22 @@ finish s =
 
 -- codes 1, 8, 9, 11
 unfoldable pub closeAnswer : Encoder → ℕ → Outcome Unit
-closeAnswer e size =
-    cond (not (valid e)) (refused 1)
-    (cond (ltb size (imageSize (encoderShape e))) (refused 8)
-    (cond (e .closed) (refused 9)
-    (cond (ltb (e .fed) (e .total)) (refused 11)
-    (accepted tt))))
+closeAnswer e size = goingAnswer e size (cond (ltb (e .fed) (e .total)) (refused 11) (accepted tt))
 
-abbrev pub closeBy : Outcome Unit → Left → Effect
-closeBy (accepted u) s = effect (accepted u) (finish s)
-closeBy (refused n) s = effect (refused n) s
-
--- the clip is closed: answer, state and image
-unfoldable pub close : Encoder → List ℕ → Effect
-close e l = closeBy (closeAnswer e (length l)) (left e l)
+-- the clip is closed: outcome, state and image, which a refusal leaves as they were
+unfoldable pub close : Encoder → List ℕ → Effect (Outcome Unit) Left
+close e l = let o = closeAnswer e (length l) in effect o (ifAccepted o (finish (left e l)) (left e l))
 
 -- ---- a clip is started
 
 -- the state before the first sample
 abbrev pub begun : Start → Encoder
 begun g =
-    record {
-      total = g .total;
-      rate = g .rate;
-      block = g .block;
-      gain = g .gain;
-      coefficients = g .coefficients;
-      fed = 0;
-      history = g .history;
-      frame = noFrame;
-      passes = 0;
-      closed = false;
-    }
+    record { total = g .total; rate = g .rate; block = g .block; gain = g .gain; coefficients = g .coefficients; fed = 0; history = g .history; frame = noFrame; passes = 0; closed = false }
 
 -- what a refused start gives: all zeros, which every call refuses
 abbrev pub noEncoder : Encoder
-noEncoder =
-    begun
-    (record { total = 0; rate = 0; block = 0; gain = 0; coefficients = replicate 16 (pos 0); history = record { newest = pos 0; older = pos 0 } })
+noEncoder = begun (record { total = 0; rate = 0; block = 0; gain = 0; coefficients = replicate 16 (pos 0); history = record { newest = pos 0; older = pos 0 } })
 
 -- codes 4, 5, 6, 7, 8
 unfoldable pub startAnswer : Start → ℕ → Outcome Unit
@@ -208,10 +161,6 @@ startAnswer g size =
     (cond (ltb size (imageSize (startShape (cut g)))) (refused 8)
     (accepted tt)))))
 
-abbrev pub startBy : Outcome Unit → Start → List ℕ → Effect
-startBy (accepted u) g l = effect (accepted u) (left (begun g) (sets l 0 (freshBytes g)))
-startBy (refused n) g l = effect (refused n) (left noEncoder l)
-
--- a clip is started: answer, state and image
-unfoldable pub start : Start → List ℕ → Effect
-start g l = startBy (startAnswer g (length l)) (cut g) l
+-- a clip is started: outcome, state and image; a refusal leaves the image as it was
+unfoldable pub start : Start → List ℕ → Effect (Outcome Unit) Left
+start g l = let o = startAnswer g (length l) in effect o (ifAccepted o (left (begun (cut g)) (sets l 0 (freshBytes (cut g)))) (left noEncoder l))

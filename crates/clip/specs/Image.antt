@@ -11,8 +11,7 @@ use Rattle.clip.specs.declared.starting.Start.{Start}
 
 -- "The block size is cut down to a multiple of 8, B": what a clip is started with, after that
 abbrev pub cut : Start → Start
-cut g =
-    record { total = g .total; rate = g .rate; block = cutDown (g .block); gain = g .gain; coefficients = g .coefficients; history = g .history }
+cut g = record { total = g .total; rate = g .rate; block = cutDown (g .block); gain = g .gain; coefficients = g .coefficients; history = g .history }
 
 -- the shape of a clip that was started so
 abbrev pub startShape : Start → Shape
@@ -25,12 +24,9 @@ coefficientBytes (x ∷ xs) = sample16 x ++ coefficientBytes xs
 
 -- "Head: 0 to 3 the mark; 4 N; 8 rate; 12 B; 16 coefficients; 48 gain; 50 two zero bytes; 52 K"
 unfoldable pub headBytes : List ℕ → Start → List ℕ
-unfolding coefficientBytes blockCount
 headBytes first g =
-    first
-    ++ (be32 (g .total)
-    ++ (be32 (g .rate)
-    ++ (be32 (g .block) ++ (coefficientBytes (g .coefficients) ++ (be16 (g .gain) ++ (0 ∷ 0 ∷ be32 (blockCount (startShape g))))))))
+    first ++ (be32 (g .total) ++ (be32 (g .rate) ++ (be32 (g .block)
+    ++ (coefficientBytes (g .coefficients) ++ (be16 (g .gain) ++ (0 ∷ 0 ∷ be32 (blockCount (startShape g))))))))
 
 -- an entry's context: "predictor-and-scale (2), newest history sample (2), older one (2)"
 abbrev pub contextBytes : ℕ → History → List ℕ
@@ -42,7 +38,6 @@ noContext = replicate 6 0
 
 -- an entry of 16 bytes: "body offset from the image start (4), length in nibbles (4)", its context, "zero (2)"
 unfoldable pub entryBytes : Shape → ℕ → List ℕ → List ℕ
-unfolding blockOffset blockLength
 entryBytes s j context = be32 (blockOffset s j) ++ (be32 (blockLength s j) ++ (context ++ (0 ∷ 0 ∷ [])))
 
 -- k entries from block j on, each by a rule for its context
@@ -52,7 +47,5 @@ tableBytes context s j (suc k) = entryBytes s j (context j) ++ tableBytes contex
 
 -- "Starting writes bytes 0 to S−1: four zeros for the mark, the head, offsets and lengths, the rest zero"
 unfoldable pub freshBytes : Start → List ℕ
-unfolding headBytes tableBytes
 freshBytes g =
-    headBytes noMark g
-    ++ (tableBytes (λ (j : ℕ). noContext) (startShape g) 0 (blockCount (startShape g)) ++ replicate (bodyBytes (g .total)) 0)
+    headBytes noMark g ++ (tableBytes (λ (j : ℕ). noContext) (startShape g) 0 (blockCount (startShape g)) ++ replicate (bodyBytes (g .total)) 0)

@@ -6,7 +6,7 @@ use lib.Dec.{ltb}
 use lib.IntN.{ℤ}
 use lib.ListN.{length, getD, take, replicate}
 use Rattle.whole.specs.Frames.{frameAt}
-use Rattle.whole.specs.Outcome.{Outcome, accepted, refused}
+use Rattle.whole.specs.Outcome.{Outcome, accepted, refused, Effect}
 use Rattle.layout.specs.Fields.{mark, noMark}
 use Rattle.layout.specs.Sizes.{blockCount, bodyBytes}
 use Rattle.frame.specs.Frame.{encodeFrame, historyAfter}
@@ -15,7 +15,7 @@ use Rattle.whole.specs.declared.History.{History}
 use Rattle.clip.specs.declared.Encoder.{Encoder}
 use Rattle.clip.specs.declared.starting.Start.{Start}
 use Rattle.clip.specs.Image.{startShape, headBytes, contextBytes, noContext, tableBytes}
-use Rattle.clip.specs.Encoding.{Left, left, Effect, encodedFrames, noFrame, feed, close}
+use Rattle.clip.specs.Encoding.{Left, left, encodedFrames, moved, noFrame, begun, feed, close}
 
 -- ---- X's image; a start's block size is cut down
 
@@ -25,24 +25,20 @@ historyAt g xs zero = g .history
 historyAt g xs (suc i) = let h = historyAt g xs i in historyAfter h (encodeFrame h (frameAt xs i) (g .coefficients) .samples) 14
 
 unfoldable pub encodedAt : Start → List ℤ → ℕ → EncodedFrame
-unfolding historyAt
 encodedAt g xs i = encodeFrame (historyAt g xs i) (frameAt xs i) (g .coefficients)
 
 -- "Its bodies are X's frames": the bytes of the first k of them
 unfoldable pub bodies : Start → List ℤ → ℕ → List ℕ
-unfolding encodedAt
 bodies g xs zero = []
 bodies g xs (suc k) = bodies g xs k ++ encodedAt g xs k .bytes
 
 -- "The passes are the sum over the frames encoded"
 unfoldable pub passesUpTo : Start → List ℤ → ℕ → ℕ
-unfolding encodedAt
 passesUpTo g xs zero = 0
 passesUpTo g xs (suc k) = passesUpTo g xs k + encodedAt g xs k .passes
 
 -- "a block's first frame also fills its entry's context: the header byte, and the history before it"; zeros while it is not among the k frames encoded
 unfoldable pub contextAt : Start → List ℤ → ℕ → ℕ → List ℕ
-unfolding encodedAt
 contextAt g xs k j =
     let i = j * (g .block / 8) in
     cond (ltb i k) (contextBytes (getD (encodedAt g xs i .bytes) 0 0) (historyAt g xs i)) noContext
@@ -53,7 +49,6 @@ framesDone g xs closed = encodedFrames (length xs) (g .total) closed
 
 -- "The first S bytes are X's image": head, contents and bodies; what is not encoded yet, and the mark before closing, are zero
 unfoldable pub imageAfter : Start → List ℤ → Bool → List ℕ
-unfolding contextAt bodies
 imageAfter g xs closed =
     let k = framesDone g xs closed in
     headBytes (cond closed mark noMark) g
@@ -64,26 +59,14 @@ imageAfter g xs closed =
 
 -- the encoding state after X: its unfinished frame is X's tail, filled with zeros; after closing the history is that after the last real sample
 unfoldable pub stateAfter : Start → List ℤ → Bool → Encoder
-unfolding passesUpTo
 stateAfter g xs closed =
     let q = length xs / 14 in
     let h = historyAt g xs q in
-    record {
-      total = g .total;
-      rate = g .rate;
-      block = g .block;
-      gain = g .gain;
-      coefficients = g .coefficients;
-      fed = length xs;
-      history = cond closed (historyAfter h (encodedAt g xs q .samples) (length xs % 14)) h;
-      frame = cond closed noFrame (frameAt xs q);
-      passes = passesUpTo g xs (framesDone g xs closed);
-      closed = closed;
-    }
+    let h′ = cond closed (historyAfter h (encodedAt g xs q .samples) (length xs % 14)) h in
+    moved (begun g) (length xs) h′ (cond closed noFrame (frameAt xs q)) (passesUpTo g xs (framesDone g xs closed)) closed
 
 -- state and buffer after X, where the buffer has some bytes past the image
 unfoldable pub leftAfter : Start → List ℕ → List ℤ → Bool → Left
-unfolding stateAfter imageAfter
 leftAfter g rest xs closed = left (stateAfter g xs closed) (imageAfter g xs closed ++ rest)
 
 -- ---- the plain machine
@@ -126,7 +109,6 @@ plainAfter g m [] = m
 plainAfter g m (c ∷ cs) = plainAfter g (plainNext (plainAnswer g m c) m c) cs
 
 unfoldable pub plainRun : Start → Plain → List Call → List Seen
-unfolding passesUpTo imageAfter
 plainRun g m [] = []
 plainRun g m (c ∷ cs) =
     let a = plainAnswer g m c in
@@ -136,21 +118,17 @@ plainRun g m (c ∷ cs) =
 -- ---- the calls' own definitions, one after the other
 
 -- the effect of a call
-abbrev pub callEffect : Left → Call → Effect
+abbrev pub callEffect : Left → Call → Effect (Outcome Unit) Left
 callEffect s (feeds p) = feed (s .encoder) p (s .bytes)
 callEffect s closes = close (s .encoder) (s .bytes)
-
--- the state and the buffer that it leaves
-abbrev pub leftBy : Effect → Left
-leftBy o = left (o .encoder) (o .bytes)
 
 -- state and buffer after some calls
 unfoldable pub after : Left → List Call → Left
 after s [] = s
-after s (c ∷ cs) = after (leftBy (callEffect s c)) cs
+after s (c ∷ cs) = after (callEffect s c .left) cs
 
 unfoldable pub run : ℕ → Left → List Call → List Seen
 run size s [] = []
 run size s (c ∷ cs) =
     let o = callEffect s c in
-    seen (o .outcome) (o .encoder .passes) (take size (o .bytes)) ∷ run size (leftBy o) cs
+    seen (o .outcome) (o .left .encoder .passes) (take size (o .left .bytes)) ∷ run size (o .left) cs

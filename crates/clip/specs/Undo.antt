@@ -11,7 +11,7 @@ use Rattle.clip.specs.declared.Encoder.{Encoder}
 use Rattle.clip.specs.declared.starting.Start.{Start}
 use Rattle.clip.specs.Image.{startShape}
 use Rattle.clip.specs.Encoding.{Left, left, encoderShape}
-use Rattle.clip.specs.Runs.{imageAfter, stateAfter, Call, Plain, plainAnswer, callEffect, leftBy}
+use Rattle.clip.specs.Runs.{imageAfter, stateAfter, Call, Plain, plainAnswer, callEffect}
 
 -- a call and the steps after it; or some steps that are taken back, and the steps after that
 pub data Steps : Type 0 where
@@ -22,7 +22,7 @@ pub data Steps : Type 0 where
 -- state and buffer after some steps: the state is the one from before what was taken back, the buffer is not
 unfoldable pub reached : Left → Steps → Left
 reached s done = s
-reached s (call c t) = reached (leftBy (callEffect s c)) t
+reached s (call c t) = reached (callEffect s c .left) t
 reached s (undone u t) = reached (left (s .encoder) (reached s u .bytes)) t
 
 -- the calls that were not taken back

@@ -2,8 +2,7 @@
 ghost use mathlib.Core.Path.{_≡_};
 ghost use Prim.Native.Nat.{_≤_};
 ghost use Rattle.clip.specs.Encoding.{encodedFrames, encoderShape};
-ghost use Rattle.whole.specs.Frames.{framesOf};
-ghost use Rattle.layout.specs.Sizes.{shape};
+ghost use Rattle.whole.specs.Frames.{frameCount};
 ghost use Rattle.clip.specs.Encoding.{outcome, countsOk, valid, feedAnswer, closeAnswer, startAnswer};
 use crate::Answer;
 use crate::Encoder;
@@ -13,21 +12,11 @@ use frame::coefficients_ok;
 use layout::Shape;
 use layout::limits::numbers_ok;
 use layout::sizes::cut_down;
-use layout::sizes::frames;
+use layout::sizes::frame_count;
 use layout::sizes::image_size;
+use layout::sizes::shape_of;
 use whole::MOST_SAMPLES;
 use whole::SAMPLES_PER_FRAME;
-
-// The shape of a clip of N samples in blocks of B bytes, with no entries after those of its blocks.
-pub(crate) fn shape_of(total: u32, block: u32) -> Shape
-    ensures { λ r. ⌜ r ≡ shape total block ⌝ }
-{
-    Shape {
-        total: total as usize,
-        block: block as usize,
-        extra: 0,
-    }
-}
 
 // The shape of the clip that a state encodes.
 pub(crate) fn encoder_shape(e: Encoder) -> Shape
@@ -155,7 +144,7 @@ pub(crate) fn encoded_frames(n: usize, total: usize, closed: bool) -> usize
     ensures most { λ r. ⌜ r ≤ 1048576 ⌝ }
 {
     if closed {
-        return frames(total);
+        return frame_count(total);
     }
     n / SAMPLES_PER_FRAME
 }

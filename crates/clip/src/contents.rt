@@ -8,7 +8,6 @@ ghost use Rattle.layout.specs.Limits.{Limits};
 ghost use Rattle.layout.specs.Fields.{be16, be32, mark, noMark};
 ghost use Rattle.clip.specs.Image.{noContext, contextBytes, coefficientBytes, startShape, headBytes, tableBytes, freshBytes};
 ghost use Rattle.layout.specs.Sizes.{blockCount, bodiesPlace, imageSize};
-use crate::checks::shape_of;
 use crate::starting::Start;
 use layout::MARK;
 use layout::Shape;
@@ -21,6 +20,7 @@ use layout::sizes::block_length;
 use layout::sizes::bodies_place;
 use layout::sizes::body_bytes;
 use layout::sizes::entry_place;
+use layout::sizes::shape_of;
 use whole::History;
 
 // The mark, at the image's start.

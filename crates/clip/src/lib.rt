@@ -1,6 +1,7 @@
 // The clip image: starting, feeding, closing.
 ghost use mathlib.Core.Path.{_≡_};
-ghost use Rattle.clip.specs.Encoding.{code, outcome, left, effect, start, feed, close};
+ghost use Rattle.whole.specs.Outcome.{effect};
+ghost use Rattle.clip.specs.Encoding.{code, outcome, left, start, feed, close};
 
 mod checks;
 mod closing;

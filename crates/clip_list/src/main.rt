@@ -1,5 +1,5 @@
 // Replays a list of calls on clips of which the Rust's answers are known. A line of the input is a letter and numbers in hexadecimal digits
-// of lower case, here with their first digit's place: 1 the length of the image buffer that the call is lent (four digits), 5 whether the
+// of lower case, here with their first digit's place: 1 the length of the image buffer that the call is playing (four digits), 5 whether the
 // answer has the buffer's bytes, 7 how many samples there are, or whether the clip is closed (two each); at 9 the samples, or 9 N, 17
 // rate, 25 block size (eight each), 33 gain, 37 coefficients, 101 the newest and the older history sample (four each), 109 n, 117 passes
 // (eight each), 125 the unfinished frame. n fills the buffer, byte i with i modulo 251; p puts a state; s starts a clip; b adds the samples

@@ -5,7 +5,7 @@ use Prim.Native.Nat.{ℕ, _+_, _*_, _/_, _%_, _≤_, _<_}
 use native.Mathlib.Omega.{arith}
 use borrow.Author.Tests.{leb-true, ltb-false, le-leb, le-ltb, eqb-false}
 use lib.Dec.{T, leb, ltb, eqb}
-use Rattle.whole.specs.Frames.{most, framesOf}
+use Rattle.whole.specs.Frames.{most, frameCount}
 use Rattle.whole.specs.Outcome.{accepted}
 use Rattle.whole.proofs.Outcomes.{passed, failed}
 use Rattle.coefficients.specs.declared.CoefficientCalculator.{CoefficientCalculator}
@@ -72,17 +72,17 @@ finish-measurable n r size p =
 
 -- for a record while there are samples left
 pub measurable-push : (n₀ r₀ len size i n r : ℕ) → Measurable n₀ r₀ len size → n ≡ n₀ + i → i < len → r ≤ n / 14 → 2 * r + 1 < size
-unfolding framesOf
+unfolding frameCount
 measurable-push n₀ r₀ len size i n r p e l h = omega (arith, p .store)
 
 -- for the record of a frame that is not full
 pub measurable-padded : (n r size : ℕ) → Measurable n r 0 size → (n % 14 ≡ 0 → ⊥) → 2 * r + 1 < size
-unfolding framesOf
+unfolding frameCount
 measurable-padded n r size p k = omega (arith, p .store, p .records)
 
 -- for all records with that of the padded frame
 pub padded-le : (c : CoefficientCalculator) (size : ℕ) → Measurable (c .samples) (c .records) 0 size → (2 * paddedCount c ≤ size) × (paddedCount c ≤ 1048576)
-unfolding paddedCount framesOf
+unfolding paddedCount frameCount
 padded-le c size p = go (eqb (c .samples % 14) 0) refl
   where
     go : (t : Bool) → eqb (c .samples % 14) 0 ≡ t

@@ -7,12 +7,11 @@ use lib.IntN.{ℤ, negsuc}
 use lib.Dec.{T}
 use lib.Ieee.{Float, nan, inf, fin, binary64, fits, neg, mul, add, lt, eq, le, ne, ofBits, toSigned, round}
 use lib.ListN.{getD}
-use Rattle.coefficients.specs.Binary64.{fma}
 use Rattle.float.specs.FusedMultiplyAdd.{times, fusedMultiplyAdd}
 use Rattle.float.specs.Operations.{negative, isLess, maximumNumber, roundToIntegralTiesToAway}
 use Rattle.float.proofs.Sizes.{Number}
 use Rattle.float.proofs.Bounds.{Upto, upto-fma}
-use Rattle.coefficients.specs.Constants.{f0, f1}
+use Rattle.coefficients.specs.Constants.{f0, f1, fma}
 use Rattle.coefficients.specs.Analysis.{withinOne, finishRecord, quotient, mergeFinishRecord}
 use Rattle.coefficients.specs.Clusters.{blank, mean, withOne, made, gather, vectors}
 use Rattle.coefficients.specs.CoefficientLimits.{Within, OfPair}

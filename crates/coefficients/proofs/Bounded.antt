@@ -13,14 +13,13 @@ use lib.Pow.{pow-pos}
 use lib.Ieee.{Float, nan, inf, fin, binary64, up, down, neg, add, lt, eq, le, ne, round, ofBits, fits, toSigned}
 use lib.Ieee.Fits.{down-pos, div-fits, cond-fits}
 use lib.Ieee.Compare.{differs-from-itself}
-use Rattle.coefficients.specs.Binary64.{fma, larger, smaller, roundAway}
-use Rattle.whole.proofs.Values.{abs-neg}
+use Rattle.whole.proofs.SignedLocals.{abs-neg}
 use Rattle.float.specs.FusedMultiplyAdd.{times, fusedMultiplyAdd}
 use Rattle.float.specs.Operations.{negative, isLess, maximumNumber, minimumNumber, roundToIntegralTiesToAway}
 use Rattle.float.proofs.Sizes.{Size, Reach, Number, nought, unit, size-neg, size-round, holds-up, holds-down, times-size, add-reach, div-number, factor-above, square-size}
 use Rattle.float.proofs.Signs.{less-plus, less-minus}
 use Rattle.float.proofs.Bounds.{Upto, Least, upto-more, upto-neg, upto-add, upto-fma, upto-mul, upto-div, upto-number}
-use Rattle.coefficients.specs.Constants.{f0, f1, fNear1, f2048, f32767, f32768, _*f_, _+f_, _/f_}
+use Rattle.coefficients.specs.Constants.{f0, f1, fNear1, f2048, f32767, f32768, _*f_, _+f_, _/f_, fma}
 use Rattle.coefficients.specs.Analysis.{withinOne, finishRecord, matrixFilter, quotient, mergeFinishRecord}
 use Rattle.coefficients.specs.Finish.{coefficient}
 use Rattle.coefficients.specs.declared.merging.Vec3.{Vec3}
@@ -267,15 +266,15 @@ f32768-is : neg f32768 ≡ fin true 1 (pos 15)
 unfolding ofBits neg
 f32768-is = refl
 
-smaller-is : (x : Float) → Upto x 12 → smaller x f32767 ≡ x
+minimumNumber-is : (x : Float) → Upto x 12 → minimumNumber x f32767 ≡ x
 unfolding minimumNumber
-smaller-is x h =
+minimumNumber-is x h =
     ap (λ (b : Bool). cond b f32767 (cond (isLess f32767 x) f32767 x)) (same-itself x 12 h)
     ∙ ap (λ (b : Bool). cond b f32767 x) (ap (λ (z : Float). isLess z x) f32767-is ∙ less-plus (fin false 32767 (pos 0)) x refl ∙ not-over x (h .size))
 
-larger-is : (x : Float) → Upto x 12 → larger x (neg f32768) ≡ x
+maximumNumber-is : (x : Float) → Upto x 12 → maximumNumber x (neg f32768) ≡ x
 unfolding maximumNumber
-larger-is x h =
+maximumNumber-is x h =
     ap (λ (b : Bool). cond b (neg f32768) (cond (isLess x (neg f32768)) (neg f32768) x)) (same-itself x 12 h)
     ∙ ap (λ (b : Bool). cond b (neg f32768) x) (ap (isLess x) f32768-is ∙ less-minus x (fin true 1 (pos 15)) minus ∙ not-below x (h .size))
   where
@@ -283,7 +282,7 @@ larger-is x h =
     minus = unfold negative in refl
 
 -- half away from zero stays within a whole bound
-rounded-size : (x : Float) (k : ℕ) → k ≤ 1023 → Size x (2 ^ k) 1 → Size (roundAway x) (2 ^ k) 1
+rounded-size : (x : Float) (k : ℕ) → k ≤ 1023 → Size x (2 ^ k) 1 → Size (roundToIntegralTiesToAway x) (2 ^ k) 1
 unfolding roundToIntegralTiesToAway
 rounded-size nan k l h = h
 rounded-size (inf s) k l h = h
@@ -327,8 +326,10 @@ coefficient-size v k h t =
     let d = neg v *f f2048 in
     let u : Upto d (k + 11) = upto-mul (upto-neg h) upto-f2048 (small-k k t) in
     let w : Upto d 12 = upto-more 12 u (to-12 k t) in
-    let e : cond (lt f0 d) (smaller d f32767) (larger d (neg f32768)) ≡ d = pick (lt f0 d) (smaller d f32767) (larger d (neg f32768)) d (smaller-is d w) (larger-is d w) in
-    subst (λ (z : Float). natAbs (toSigned 15 (roundAway z)) ≤ 2 ^ (k + 11)) (sym e) (signed-size (roundAway d) (2 ^ (k + 11)) (rounded-size d (k + 11) (big k t) (u .size)))
+    let e : cond (lt f0 d) (minimumNumber d f32767) (maximumNumber d (neg f32768))
+    ≡ d = pick (lt f0 d) (minimumNumber d f32767) (maximumNumber d (neg f32768)) d (minimumNumber-is d w) (maximumNumber-is d w) in
+    subst (λ (z : Float). natAbs (toSigned 15 (roundToIntegralTiesToAway z)) ≤ 2 ^ (k + 11)) (sym e)
+    (signed-size (roundToIntegralTiesToAway d) (2 ^ (k + 11)) (rounded-size d (k + 11) (big k t) (u .size)))
   where
     small-k : (k : ℕ) → T (leb k 1) → T (leb (k + 11) 1023)
     small-k k t = le→leb (k + 11) 1023 (omega (arith, leb→le k 1 t))

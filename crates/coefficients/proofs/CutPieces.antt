@@ -8,11 +8,12 @@ use lib.Dec.{eqb}
 use lib.Ieee.{Float}
 use lib.IntN.{ℤ}
 use lib.ListN.{length, set, length-append}
-use Rattle.whole.specs.Frames.{framesOf}
-use Rattle.whole.specs.Outcome.{Outcome, accepted, refused}
+use Rattle.whole.specs.Frames.{frameCount}
+use Rattle.whole.specs.Outcome.{Outcome, accepted, refused, effect}
 use Rattle.coefficients.specs.declared.CoefficientCalculator.{CoefficientCalculator}
 use Rattle.coefficients.specs.FrameRecord.{analyse}
-use Rattle.coefficients.specs.Measure.{Measuring, calculator, measuring, framed, push, processAnswer, ProcessEffect, processEffect, processBy, process}
+use Rattle.coefficients.specs.Measure.{Measuring, calculator, measuring, framed, push, processAnswer, process}
+use Rattle.coefficients.proofs.ByOutcome.{ProcessEffect, processBy}
 use Rattle.coefficients.specs.inner.Measurable.{Measurable}
 use Rattle.coefficients.proofs.FrameHistories.{stored-length}
 use Rattle.coefficients.proofs.OneSample.{push-records}
@@ -67,15 +68,11 @@ piece-records (x ∷ xs) m l =
 abbrev Fits : CoefficientCalculator → List ℤ → List Float → Type 0
 Fits c xs s = Measurable (c .samples) (c .records) (length xs) (length s)
 
-outcome-by : (o : Outcome Unit) (m : Measuring) (xs : List ℤ) → processBy o m xs .outcome ≡ o
-outcome-by (accepted u) m xs = refl
-outcome-by (refused n) m xs = refl
-
 outcome-is : (c : CoefficientCalculator) (xs : List ℤ) (s : List Float) → process c xs s .outcome ≡ processAnswer (c .samples) (c .records) (length xs) (length s)
 unfolding process
-outcome-is c xs s = outcome-by (processAnswer (c .samples) (c .records) (length xs) (length s)) (measuring c s) xs
+outcome-is c xs s = refl
 
-fits-accepted : (c : CoefficientCalculator) (xs : List ℤ) (s : List Float) → Fits c xs s → process c xs s ≡ processEffect (accepted tt) (foldl push (measuring c s) xs)
+fits-accepted : (c : CoefficientCalculator) (xs : List ℤ) (s : List Float) → Fits c xs s → process c xs s ≡ effect (accepted tt) (foldl push (measuring c s) xs)
 unfolding process
 fits-accepted c xs s p = ap (λ (o : Outcome Unit). processBy o (measuring c s) xs) (measurable-accepted (c .samples) (c .records) (length xs) (length s) p)
 
@@ -90,11 +87,11 @@ module _ (c : CoefficientCalculator) (a b : List ℤ) (s : List Float) where
   between = foldl push (measuring c s) a
 
   fits-first : Fits c (a ++ b) s → Fits c a s
-  unfolding framesOf
+  unfolding frameCount
   fits-first p = let l = length-append a b in record { records = p .records; samples = omega (arith, p .samples); store = omega (arith, p .store) }
 
   fits-second : Fits c (a ++ b) s → Fits (between .calculator) b (between .store)
-  unfolding framesOf
+  unfolding frameCount
   fits-second p =
       let l = length-append a b in
       let n = piece-samples a (measuring c s) in
@@ -103,7 +100,7 @@ module _ (c : CoefficientCalculator) (a b : List ℤ) (s : List Float) where
       record { records = omega (arith, n, r); samples = omega (arith, n, p .samples); store = omega (arith, n, z, p .store) }
 
   fits-both : Fits c a s → Fits (between .calculator) b (between .store) → Fits c (a ++ b) s
-  unfolding framesOf
+  unfolding frameCount
   fits-both p q =
       let l = length-append a b in
       let n = piece-samples a (measuring c s) in
@@ -114,13 +111,14 @@ module _ (c : CoefficientCalculator) (a b : List ℤ) (s : List Float) where
   first = process c a s
 
   abbrev second : ProcessEffect
-  second = process (first .calculator) b (first .store)
+  second = process (first .left .calculator) b (first .left .store)
 
   second-is : Fits c a s → second ≡ process (between .calculator) b (between .store)
-  second-is p = ap (λ (e : ProcessEffect). process (e .calculator) b (e .store)) (fits-accepted c a s p)
+  second-is p = ap (λ (e : ProcessEffect). process (e .left .calculator) b (e .left .store)) (fits-accepted c a s p)
 
   -- where the whole piece is accepted, so are its parts in turn
-  pub cut-accepted : process c (a ++ b) s .outcome ≡ accepted tt → (process c a s .outcome ≡ accepted tt) × ((let e = process c a s in process (e .calculator) b (e .store)) .outcome ≡ accepted tt)
+  pub cut-accepted : process c (a ++ b) s .outcome ≡ accepted tt → (process c a s .outcome ≡ accepted tt)
+      × ((let e = process c a s in process (e .left .calculator) b (e .left .store)) .outcome ≡ accepted tt)
   cut-accepted e =
       let p = accepted-fits c (a ++ b) s e in (
         ap (λ (o : ProcessEffect). o .outcome) (fits-accepted c a s (fits-first p)),
@@ -128,16 +126,17 @@ module _ (c : CoefficientCalculator) (a b : List ℤ) (s : List Float) where
       )
 
   -- where the parts are accepted in turn, so is the whole piece
-  pub joined-accepted : process c a s .outcome ≡ accepted tt → (let e = process c a s in process (e .calculator) b (e .store)) .outcome ≡ accepted tt → process c (a ++ b) s .outcome ≡ accepted tt
+  pub joined-accepted : process c a s .outcome ≡ accepted tt → (let e = process c a s in process (e .left .calculator) b (e .left .store)) .outcome ≡ accepted tt → process c (a ++ b) s .outcome
+      ≡ accepted tt
   joined-accepted e d =
       let p = accepted-fits c a s e in
       let q = accepted-fits (between .calculator) b (between .store) (sym (ap (λ (o : ProcessEffect). o .outcome) (second-is p)) ∙ d) in
       ap (λ (o : ProcessEffect). o .outcome) (fits-accepted c (a ++ b) s (fits-both p q))
 
   -- and then it is the parts in turn
-  pub process-cut : process c (a ++ b) s .outcome ≡ accepted tt → process c (a ++ b) s ≡ (let e = process c a s in process (e .calculator) b (e .store))
+  pub process-cut : process c (a ++ b) s .outcome ≡ accepted tt → process c (a ++ b) s ≡ (let e = process c a s in process (e .left .calculator) b (e .left .store))
   process-cut e =
       let p = accepted-fits c (a ++ b) s e in
       fits-accepted c (a ++ b) s p
-      ∙ ap (processEffect (accepted tt)) (foldl-append push (measuring c s) a b)
+      ∙ ap (effect (accepted tt)) (foldl-append push (measuring c s) a b)
       ∙ sym (second-is (fits-first p) ∙ fits-accepted (between .calculator) b (between .store) (fits-second p))

@@ -16,7 +16,7 @@ use lib.ListN.{getD}
 use mir.Syntax.{w16}
 use mir.Val.{SFits}
 use Rattle.whole.proofs.Differences.{diff-of, diff-pos, diff-neg, diff-add, diff-sub, diff-eq}
-use Rattle.whole.proofs.Values.{abs-add, abs-sub, abs-mul, abs-sfits}
+use Rattle.whole.proofs.SignedLocals.{abs-add, abs-sub, abs-mul, abs-sfits}
 use Rattle.float.proofs.Value.{sum-is, add-value}
 use Rattle.coefficients.specs.Sums.{dot, lag, negLag}
 use Rattle.coefficients.specs.RustSums.{product, lessened, raised}

@@ -94,7 +94,7 @@ copied-law h (suc k) p l =
     ∙ ap (λ (g : List ℤ). g ++ drop (suc k) h) (sym (take-suc D k (pos 0) (omega arith)))
 
 pub shift-law : (h : List ℤ) → length h ≡ 28 → shift h ≡ drop 14 h ++ drop 14 h
-unfolding shift
+unfolding shift copied
 shift-law h p = copied-law h 14 p (omega arith) ∙ ap (λ (g : List ℤ). g ++ drop 14 h) (take-all 14 (drop 14 h) (omega (arith, drop-half h p)))
 
 -- ---- the history as the state holds it

@@ -7,6 +7,7 @@ mod CastToSixteenBits
 mod SharedTerms
 mod PlainContrasts
 mod LeastAndNext
+mod ByOutcome
 mod OneSample
 mod AcceptedCalls
 mod RecordsAtFront

@@ -20,8 +20,7 @@ use Rattle.coefficients.specs.declared.filter.Lead.{Lead}
 use Rattle.coefficients.specs.declared.merging.Record.{Record}
 use Rattle.coefficients.specs.declared.merging.Side.{Side}
 use Rattle.coefficients.specs.declared.merging.VectorTerms.{VectorTerms}
-use Rattle.coefficients.specs.Binary64.{fma}
-use Rattle.coefficients.specs.Constants.{f2, fE30, _*f_, _+f_}
+use Rattle.coefficients.specs.Constants.{f2, fE30, _*f_, _+f_, fma}
 use Rattle.coefficients.specs.inner.SharedTerms.{recordSide, termsContrast, leastByTerms, blankTerms}
 use Rattle.coefficients.proofs.LeastAndNext.{Below, Finds, Leads, finds-first, finds-next, leads-first, leads-next}
 use Rattle.coefficients.specs.inner.PlainContrasts.{f16, Small, Smalls, SmallTerms, AllSmall, plainSide, plainContrast, closer, leading}

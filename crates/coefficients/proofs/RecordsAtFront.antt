@@ -9,7 +9,7 @@ use lib.IntN.{ℤ}
 use lib.ListN.{length, set}
 use lib.Seq.{sets, set-set, set-comm}
 use Rattle.whole.proofs.Stores.{sets-append}
-use Rattle.whole.specs.Frames.{framesOf}
+use Rattle.whole.specs.Frames.{frameCount}
 use Rattle.coefficients.specs.declared.framing.Found.{Found}
 use Rattle.coefficients.specs.declared.framing.Found.the-variants.{Nothing, One}
 use Rattle.coefficients.specs.declared.merging.Record.{Record}
@@ -73,7 +73,7 @@ front-again s rs qs =
 -- ---- what askings wrote
 
 -- one asking more
-pub asked-more : (s : List Float) (ws : List (List ℤ)) (w : List ℤ) → askedOf s (ws ++ (w ∷ [])) ≡ withRecords (askedOf s ws) (recordsOf w (framesOf (length w)))
+pub asked-more : (s : List Float) (ws : List (List ℤ)) (w : List ℤ) → askedOf s (ws ++ (w ∷ [])) ≡ withRecords (askedOf s ws) (recordsOf w (frameCount (length w)))
 unfolding askedOf
 asked-more s [] w = refl
-asked-more s (v ∷ ws) w = asked-more (withRecords s (recordsOf v (framesOf (length v)))) ws w
+asked-more s (v ∷ ws) w = asked-more (withRecords s (recordsOf v (frameCount (length v)))) ws w

@@ -10,7 +10,7 @@ use lib.Ieee.{binary64, inFloat}
 use mir.Syntax.{Width, w16}
 use mir.Val.{SFits, toZ, ofZ, hbits}
 use mir.Facts.{toZ-ofZ}
-use Rattle.whole.proofs.Values.{abs-mul, abs-sfits}
+use Rattle.whole.proofs.SignedLocals.{abs-mul, abs-sfits}
 
 -- a number of size up to 2 ^ 53 is a binary64
 pub in-float : (z : ℤ) → natAbs z ≤ 9007199254740992 → T (inFloat binary64 z)

@@ -21,8 +21,7 @@ use Rattle.coefficients.specs.declared.merging.RecordTerms.{RecordTerms}
 use Rattle.coefficients.specs.declared.merging.Side.{Side}
 use Rattle.coefficients.specs.declared.merging.Vec3.{Vec3}
 use Rattle.coefficients.specs.declared.merging.VectorTerms.{VectorTerms}
-use Rattle.coefficients.specs.Binary64.{fma}
-use Rattle.coefficients.specs.Constants.{f1, _+f_}
+use Rattle.coefficients.specs.Constants.{f1, _+f_, fma}
 use Rattle.coefficients.specs.Analysis.{contrast, matrixFilter}
 use Rattle.coefficients.specs.Clusters.{blank, better, least, addToNearest, plus3}
 use Rattle.coefficients.specs.inner.SharedTerms.{vectorTerms, recordTerms, recordSide, termsContrast, blankTerms, noTerms, allTerms, leastByTerms}

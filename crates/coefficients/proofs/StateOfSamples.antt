@@ -10,7 +10,7 @@ use lib.Ieee.{Float}
 use lib.IntN.{ℤ, pos}
 use lib.ListN.{length, drop, set, replicate, length-append, length-drop}
 use lib.Seq.{sets, drop-append-le, drop-length, length-sets, take-at}
-use Rattle.whole.specs.Frames.{frameAt, framesOf}
+use Rattle.whole.specs.Frames.{frameAt, frameCount}
 use Rattle.whole.proofs.Stores.{sets-snoc}
 use Rattle.coefficients.specs.declared.CoefficientCalculator.{CoefficientCalculator}
 use Rattle.coefficients.specs.declared.framing.Found.{Found}
@@ -117,7 +117,7 @@ module _ (ys : List ℤ) (k : ℕ) (e : length ys ≡ 14 * k + 14) where
 -- one sample more of X
 pub push-follows : (s : List Float) (ws : List (List ℤ)) (xs : List ℤ) (x : ℤ) (m : Measuring)
     → Follows s ws xs m → needed (length xs + 1) ≤ length s → Follows s ws (xs ++ (x ∷ [])) (push m x)
-unfolding push framed framesOf storeOf
+unfolding push framed frameCount storeOf
 push-follows s ws xs x m f room = go (eqb (length xs % 14) 13) refl
   where
     ys : List ℤ
@@ -184,7 +184,7 @@ push-follows s ws xs x m f room = go (eqb (length xs % 14) 13) refl
 
 pub piece-follows : (s : List Float) (ws : List (List ℤ)) (xs p : List ℤ) (m : Measuring)
     → Follows s ws xs m → needed (length xs + length p) ≤ length s → Follows s ws (xs ++ p) (foldl push m p)
-unfolding framesOf
+unfolding frameCount
 piece-follows s ws xs [] m f room = subst (λ (l : List ℤ). Follows s ws l m) (sym (append-nil xs)) f
 piece-follows s ws xs (x ∷ p) m f room =
     let one = one-more xs x in
@@ -212,18 +212,18 @@ module _ (s : List Float) (ws : List (List ℤ)) (xs : List ℤ) (m : Measuring)
   is-full = ap (λ (n : ℕ). eqb (n % 14) 0) (f .samples)
 
   -- the records of all frames
-  with-padded : (length xs % 14 ≡ 0 → ⊥) → recordsOf xs (length xs / 14) ++ recordOf found ≡ recordsOf xs (framesOf (length xs))
-  unfolding framesOf
+  with-padded : (length xs % 14 ≡ 0 → ⊥) → recordsOf xs (length xs / 14) ++ recordOf found ≡ recordsOf xs (frameCount (length xs))
+  unfolding frameCount
   with-padded z =
-      let k : suc (length xs / 14) ≡ framesOf (length xs) = omega arith in
+      let k : suc (length xs / 14) ≡ frameCount (length xs) = omega arith in
       ap (λ (h : List ℤ). recordsOf xs (length xs / 14) ++ recordOf (analyse h)) open-frame ∙ next xs (length xs / 14) ∙ ap (recordsOf xs) k
 
-  without-padded : length xs % 14 ≡ 0 → recordsOf xs (length xs / 14) ≡ recordsOf xs (framesOf (length xs))
-  unfolding framesOf
-  without-padded z = let k : length xs / 14 ≡ framesOf (length xs) = omega arith in ap (recordsOf xs) k
+  without-padded : length xs % 14 ≡ 0 → recordsOf xs (length xs / 14) ≡ recordsOf xs (frameCount (length xs))
+  unfolding frameCount
+  without-padded z = let k : length xs / 14 ≡ frameCount (length xs) = omega arith in ap (recordsOf xs) k
 
   room-record : needed (length xs) ≤ length s → (length xs % 14 ≡ 0 → ⊥) → 2 * c .records + 1 < length (m .store)
-  unfolding framesOf
+  unfolding frameCount
   room-record room q = let few = count-few s ws xs m f in omega (arith, f .size)
 
   pub asked : needed (length xs) ≤ length s → recordCoefficients (Store.records (paddedStore c (m .store)) (paddedCount c)) ≡ coefficientsOf xs
@@ -232,7 +232,7 @@ module _ (s : List Float) (ws : List (List ℤ)) (xs : List ℤ) (m : Measuring)
     where
       go : (t : Bool) → eqb (length xs % 14) 0 ≡ t
           → (let b = eqb (c .samples % 14) 0 in recordCoefficients (Store.records (cond b (m .store) (stored (m .store) (c .records) found)) (cond b (c .records) (counted (c .records) found))))
-          ≡ recordCoefficients (recordsOf xs (framesOf (length xs)))
+          ≡ recordCoefficients (recordsOf xs (frameCount (length xs)))
       go true e = rw (is-full ∙ e) (ap recordCoefficients (f .records ∙ without-padded (eqb-true (length xs % 14) 0 e)))
       go false e =
           let z = eqb-false (length xs % 14) 0 e in
@@ -243,12 +243,12 @@ module _ (s : List Float) (ws : List (List ℤ)) (xs : List ℤ) (m : Measuring)
           ∙ with-padded z))
 
   -- the store with the records of all frames
-  padded-store : paddedStore c (m .store) ≡ withRecords (askedOf s ws) (recordsOf xs (framesOf (length xs)))
+  padded-store : paddedStore c (m .store) ≡ withRecords (askedOf s ws) (recordsOf xs (frameCount (length xs)))
   unfolding paddedStore storeOf
   padded-store = go (eqb (length xs % 14) 0) refl
     where
       go : (t : Bool) → eqb (length xs % 14) 0 ≡ t
-          → cond (eqb (c .samples % 14) 0) (m .store) (stored (m .store) (c .records) found) ≡ withRecords (askedOf s ws) (recordsOf xs (framesOf (length xs)))
+          → cond (eqb (c .samples % 14) 0) (m .store) (stored (m .store) (c .records) found) ≡ withRecords (askedOf s ws) (recordsOf xs (frameCount (length xs)))
       go true e = rw (is-full ∙ e) (f .store ∙ ap (withRecords (askedOf s ws)) (without-padded (eqb-true (length xs % 14) 0 e)))
       go false e = rw (is-full ∙ e) (store-found s ws xs m f found ∙ ap (withRecords (askedOf s ws)) (with-padded (eqb-false (length xs % 14) 0 e)))
 
@@ -260,7 +260,7 @@ module _ (s : List Float) (ws : List (List ℤ)) (xs : List ℤ) (m : Measuring)
       ∙ sym (ap (λ (l : List Float). withRecords l (recordsOf xs (length xs / 14))) (asked-more s ws xs) ∙ again (eqb (length xs % 14) 0) refl)
     where
       again : (t : Bool) → eqb (length xs % 14) 0 ≡ t
-          → (let all = withRecords (askedOf s ws) (recordsOf xs (framesOf (length xs))) in withRecords all (recordsOf xs (length xs / 14)) ≡ all)
+          → (let all = withRecords (askedOf s ws) (recordsOf xs (frameCount (length xs))) in withRecords all (recordsOf xs (length xs / 14)) ≡ all)
       again true e =
           let z = without-padded (eqb-true (length xs % 14) 0 e) in
           subst (λ (l : List Record). withRecords (withRecords (askedOf s ws) l) (recordsOf xs (length xs / 14)) ≡ withRecords (askedOf s ws) l)

@@ -1,6 +1,6 @@
 -- A fold over one record more.
 use mathlib.Core.Path.{_≡_, refl, ap, _∙_}
-use mathlib.Core.List.{List, [], _∷_, _++_}
+use mathlib.Core.List.{List, [], _∷_, _++_, foldl}
 use Prim.Native.Nat.{ℕ, zero, suc, _+_, _*_, _≤_, _<_}
 use native.Mathlib.Nat.{le-refl}
 use native.Mathlib.Omega.{arith}
@@ -9,10 +9,9 @@ use lib.Ieee.{Float, nan}
 use lib.ListN.{length, length-append, getD, set, length-set}
 use lib.Seq.{getD-set-same, getD-set-other}
 use Rattle.coefficients.specs.declared.merging.Record.{Record}
-use Rattle.coefficients.specs.Store.{foldl, records, readRecord, writeRecord}
+use Rattle.coefficients.specs.Store.{records, readRecord, writeRecord}
 
 pub foldl-more : {S : Type 0} (f : S → Record → S) (z : S) (rs : List Record) (r : Record) → foldl f z (rs ++ (r ∷ [])) ≡ f (foldl f z rs) r
-unfolding foldl
 foldl-more f z [] r = refl
 foldl-more f z (q ∷ rs) r = foldl-more f (f z q) rs r
 
@@ -22,12 +21,11 @@ unfolding records
 foldl-records f z s k = rw add-one (foldl-more f z (records s k) (readRecord s k))
 
 pub foldl-none : {S : Type 0} (f : S → Record → S) (z : S) (s : List Float) → foldl f z (records s 0) ≡ z
-unfolding records foldl
+unfolding records
 foldl-none f z s = refl
 
 -- two steps that agree fold alike
 pub foldl-same : {S : Type 0} (f g : S → Record → S) (z : S) (rs : List Record) → ((s : S) (r : Record) → f s r ≡ g s r) → foldl f z rs ≡ foldl g z rs
-unfolding foldl
 foldl-same f g z [] e = refl
 foldl-same f g z (r ∷ rs) e = ap (λ (s : _). foldl f s rs) (e z r) ∙ foldl-same f g (g z r) rs e
 

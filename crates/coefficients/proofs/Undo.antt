@@ -10,16 +10,17 @@ use lib.Dec.{eqb}
 use lib.Ieee.{Float, nan}
 use lib.IntN.{ℤ}
 use lib.ListN.{length, getD}
-use Rattle.whole.specs.Outcome.{Outcome, accepted, refused}
+use Rattle.whole.specs.Outcome.{Outcome, accepted, refused, withValues}
 use Rattle.whole.proofs.Outcomes.{not-both}
 use Rattle.coefficients.specs.declared.CoefficientCalculator.{CoefficientCalculator}
 use Rattle.coefficients.specs.declared.framing.Found.{Found}
 use Rattle.coefficients.specs.declared.merging.Record.{Record}
 use Rattle.coefficients.specs.FrameRecord.{analyse, stored, counted}
 use Rattle.coefficients.specs.Finish.{recordCoefficients}
-use Rattle.coefficients.specs.Measure.{ProcessEffect, FinishEffect, Measuring, calculator, measuring, fresh, padded, paddedStore, paddedCount, processAnswer, processBy, process, finishAnswer, finishBy}
+use Rattle.coefficients.specs.Measure.{FinishEffect, Measuring, calculator, measuring, fresh, padded, paddedStore, paddedCount, processAnswer, process, finishAnswer, finishBy}
 use Rattle.coefficients.specs.Measure.{finish}
-use Rattle.coefficients.specs.Runs.{Call, measures, asks, withValues, plainRun, callOutcome, callNext, run}
+use Rattle.coefficients.proofs.ByOutcome.{ProcessEffect, processBy}
+use Rattle.coefficients.specs.Runs.{Call, measures, asks, plainRun, callOutcome, callNext, run}
 use Rattle.coefficients.specs.Undo.{SameSoFar, Same, Steps, done, call, undone, reached, kept, stepRun}
 use Rattle.coefficients.specs.Store as Store
 use Rattle.coefficients.specs.Store.{readRecord}
@@ -32,8 +33,8 @@ use Rattle.coefficients.proofs.SameStores.{same-refl, same-trans, same-
 -- two measurings of a piece: the same outcome and state, and stores that are the same in the records that it counts
 pub record SameProcess (e f : ProcessEffect) : Type 0 where
   pub outcome : e .outcome ≡ f .outcome
-  pub calculator : e .calculator ≡ f .calculator
-  pub store : SameSoFar (e .calculator .records) (e .store) (f .store)
+  pub calculator : e .left .calculator ≡ f .left .calculator
+  pub store : SameSoFar (e .left .calculator .records) (e .left .store) (f .left .store)
 
 process-by : (o : Outcome Unit) (m n : Measuring) (xs : List ℤ) → Same m n → SameProcess (processBy o m xs) (processBy o n xs)
 process-by (accepted u) m n xs s = let q = piece-same xs m n s in record { outcome = refl; calculator = q .state; store = q .store }
@@ -47,12 +48,12 @@ process-same c xs s t a =
     subst (λ (n : ℕ). SameProcess (processBy o (measuring c s) xs) (processBy (processAnswer (c .samples) (c .records) (length xs) n) (measuring c t) xs)) (a .size)
     (process-by o (measuring c s) (measuring c t) xs (record { state = refl; store = a }))
 
-process-by-later : (o : Outcome Unit) (m : Measuring) (xs : List ℤ) → Later m (let e = processBy o m xs in measuring (e .calculator) (e .store))
+process-by-later : (o : Outcome Unit) (m : Measuring) (xs : List ℤ) → Later m (processBy o m xs .left)
 process-by-later (accepted u) m xs = piece-later xs m
 process-by-later (refused k) m xs = later-refl m
 
 -- Processing leaves the numbers of the records counted before it.
-pub process-later : (c : CoefficientCalculator) (xs : List ℤ) (s : List Float) → Later (measuring c s) (let o = process c xs s in measuring (o .calculator) (o .store))
+pub process-later : (c : CoefficientCalculator) (xs : List ℤ) (s : List Float) → Later (measuring c s) (process c xs s .left)
 unfolding process
 process-later c xs s = process-by-later (processAnswer (c .samples) (c .records) (length xs) (length s)) (measuring c s) xs
 

@@ -11,10 +11,11 @@ use lib.Ieee.{Float}
 use lib.IntN.{ℤ}
 use lib.ListN.{length, length-append}
 use Rattle.whole.specs.Frames.{most}
-use Rattle.whole.specs.Outcome.{Outcome, accepted, refused}
+use Rattle.whole.specs.Outcome.{Outcome, accepted, refused, withValues}
 use Rattle.whole.proofs.Outcomes.{failed}
-use Rattle.coefficients.specs.Measure.{needed, Measuring, measuring, fresh, valid, processAnswer, process, processBy, finishAnswer, finish, finishBy}
-use Rattle.coefficients.specs.Runs.{coefficientsOf, Call, measures, asks, plainOutcome, plainNext, plainRun, withValues, callOutcome, callNext, run}
+use Rattle.coefficients.specs.Measure.{needed, Measuring, measuring, fresh, valid, processAnswer, process, finishAnswer, finish, finishBy}
+use Rattle.coefficients.proofs.ByOutcome.{ProcessEffect, processBy}
+use Rattle.coefficients.specs.Runs.{coefficientsOf, Call, measures, asks, plainOutcome, plainNext, plainRun, callOutcome, callNext, run}
 use Rattle.coefficients.specs.StateOfSamples.{stateOf, storeOf}
 use Rattle.coefficients.specs.StateOfSamples.{askedAt, plainAfter, plainAsked}
 use Rattle.coefficients.proofs.StateOfSamples.{Follows, count-few, state-is, fresh-follows, piece-follows, asked, asked-follows}
@@ -86,6 +87,9 @@ module _ (s : List Float) (ws : List (List ℤ)) (xs : List ℤ) (m : Measuring)
       by : (o : Outcome Unit) → pieceAnswer (length s) xs p ≡ o → process (m .calculator) p (m .store) ≡ processBy o m p
       by o e = unfold process in ap (λ (a : Outcome Unit). processBy a m p) (process-answer p ∙ e)
 
+      next : (o : Outcome Unit) → pieceAnswer (length s) xs p ≡ o → callNext m (measures p) ≡ processBy o m p .left
+      next o e = ap (λ (f : ProcessEffect). f .left) (by o e)
+
       plain : (o : Outcome Unit) → pieceAnswer (length s) xs p ≡ o → plainOutcome (length s) xs (measures p) ≡ withValues o []
       plain o e = plain-piece (length s) xs p ∙ ap (λ (a : Outcome Unit). withValues a []) e
 
@@ -94,13 +98,13 @@ module _ (s : List Float) (ws : List (List ℤ)) (xs : List ℤ) (m : Measuring)
           let w = piece-fits (length s) xs p e in
           record {
             answers = rw (by (accepted u) e, plain (accepted u) e);
-            leaves = rw (by (accepted u) e, plain (accepted u) e) (rw append-nil (piece-follows s ws xs p m f (w .1)));
+            leaves = rw (next (accepted u) e, plain (accepted u) e) (rw append-nil (piece-follows s ws xs p m f (w .1)));
             few = rw (plain (accepted u) e) (omega (arith, length-append xs p, w .0));
           }
       go (refused n) e =
           record {
             answers = rw (by (refused n) e, plain (refused n) e);
-            leaves = rw (by (refused n) e, plain (refused n) e) none-asked;
+            leaves = rw (next (refused n) e, plain (refused n) e) none-asked;
             few = rw (plain (refused n) e) l;
           }
 

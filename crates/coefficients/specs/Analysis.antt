@@ -3,8 +3,8 @@ use mathlib.Core.Bool.{true, cond}
 use lib.Ieee.{Float, neg, lt, le, eq}
 use Prim.Native.Nat.{ℕ}
 use lib.Dec.{eqb}
-use Rattle.coefficients.specs.Binary64.{fma, abs, larger, smaller}
-use Rattle.coefficients.specs.Constants.{f0, f1, f2, fNear1, fEps, fE10, fEm10, _*f_, _+f_, _/f_}
+use Rattle.float.specs.Operations.{abs, maximumNumber, minimumNumber}
+use Rattle.coefficients.specs.Constants.{f0, f1, f2, fNear1, fEps, fE10, fEm10, _*f_, _+f_, _/f_, fma}
 use Rattle.coefficients.specs.declared.merging.Vec3.{Vec3}
 use Rattle.coefficients.specs.declared.merging.Record.{Record}
 use Rattle.coefficients.specs.declared.ranges.Merged.{Merged}
@@ -56,7 +56,7 @@ mergeFinishRecord s =
     let d2 = quotient val (fma d1 (s .x1) f0 +f s .x2) in
     finishRecord d1 d2
 
--- the place of the larger of two, the later of equals; 0 where neither compares
+-- the place of the maximumNumber of two, the later of equals; 0 where neither compares
 unfoldable pub pivot : Float → Float → ℕ
 pivot a b = cond (le f0 a) (cond (le a b) 2 1) (cond (le f0 b) 2 0)
 
@@ -88,15 +88,15 @@ decomposed m r1 r2 =
     let u22 = fma l21 (neg (n .a12)) (n .a22) in
     let i2 = pivot2 (abs u22 *f q2) i1 in
     let o = exchange2 i2 (m .a11) (m .a12) (record { a11 = n .a11; a12 = n .a12; a21 = l21; a22 = u22 }) in
-    let low = smaller (smaller fE10 (abs (o .a11))) (abs (o .a22)) in
-    let high = larger (larger f0 (abs (o .a11))) (abs (o .a22)) in
+    let low = minimumNumber (minimumNumber fE10 (abs (o .a11))) (abs (o .a22)) in
+    let high = maximumNumber (maximumNumber f0 (abs (o .a11))) (abs (o .a22)) in
     record { stop = lt (low /f high) fEm10; m = o; i1 = i1; i2 = i2 }
 
 -- analyze_ranges: no record where a row is all but zero
 unfoldable pub analyzeRanges : Mat2 → Ranges
 analyzeRanges m =
-    let x1 = larger (abs (m .a11)) (abs (m .a12)) in
-    let x2 = larger (abs (m .a21)) (abs (m .a22)) in
+    let x1 = maximumNumber (abs (m .a11)) (abs (m .a12)) in
+    let x2 = maximumNumber (abs (m .a21)) (abs (m .a22)) in
     cond (lt x1 fEps) (record { stop = true; m = m; i1 = 0; i2 = 0 })
     (cond (lt x2 fEps) (record { stop = true; m = m; i1 = 0; i2 = 0 })
     (decomposed m (f1 /f x1) (f1 /f x2)))

@@ -1,6 +1,6 @@
 -- filter_records: each record joins the first vector of least contrast; each vector becomes the mean of what joined it. Definitions only.
 use mathlib.Core.Bool.{cond}
-use mathlib.Core.List.{List}
+use mathlib.Core.List.{List, foldl}
 use Prim.Native.Nat.{ℕ, zero, suc, _+_}
 use lib.Dec.{eqb}
 use lib.IntN.{pos}
@@ -10,10 +10,9 @@ use Rattle.coefficients.specs.declared.merging.Record.{Record}
 use Rattle.coefficients.specs.declared.merging.Vec3.{Vec3}
 use Rattle.coefficients.specs.declared.clusters.Best.{Best}
 use Rattle.coefficients.specs.declared.clusters.Tally.{Tally}
-use Rattle.coefficients.specs.Constants.{f0, f1, fE30, fE-2, _+f_, _/f_}
+use Rattle.coefficients.specs.Constants.{f0, f1, fE30, fE-2, _+f_, _/f_, fma}
 use Rattle.coefficients.specs.Analysis.{contrast, matrixFilter, mergeFinishRecord}
-use Rattle.coefficients.specs.Store.{foldl, firstVector}
-use Rattle.coefficients.specs.Binary64.{fma}
+use Rattle.coefficients.specs.Store.{firstVector}
 
 -- what `getD` gives past the end: the value that Rattle's own reading of an element gives there
 abbrev pub blank : Vec3
@@ -40,10 +39,7 @@ plus3 a b = record { x0 = a .x0 +f b .x0; x1 = a .x1 +f b .x1; x2 = a .x2 +f b .
 unfoldable pub addToNearest : List Vec3 → ℕ → Tally → Record → Tally
 addToNearest vs n t r =
     let i = least vs r n .index in
-    record {
-      counts = set (t .counts) i (getD (t .counts) i 0 + 1);
-      sums = set (t .sums) i (plus3 (getD (t .sums) i blank) (matrixFilter r));
-    }
+    record { counts = set (t .counts) i (getD (t .counts) i 0 + 1); sums = set (t .sums) i (plus3 (getD (t .sums) i blank) (matrixFilter r)) }
 
 -- counts and sums before any record
 unfoldable pub empty : Tally
@@ -91,5 +87,4 @@ grown vs m rs = filterRound (filterRound (doubled vs m m) (m + m) rs) (m + m) rs
 
 -- the eight vectors of some records: one, grown three times
 unfoldable pub vectors : List Record → List Vec3
-vectors rs =
-    grown (grown (grown (set (replicate 8 none) 0 (withOne (firstVector rs))) 1 rs) 2 rs) 4 rs
+vectors rs = grown (grown (grown (set (replicate 8 none) 0 (withOne (firstVector rs))) 1 rs) 2 rs) 4 rs

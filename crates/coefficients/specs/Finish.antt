@@ -6,7 +6,7 @@ use lib.Dec.{eqb}
 use lib.IntN.{ℤ, pos}
 use lib.Ieee.{Float, neg, lt, toSigned}
 use lib.ListN.{getD, set, replicate, length}
-use Rattle.coefficients.specs.Binary64.{larger, smaller, roundAway}
+use Rattle.float.specs.Operations.{maximumNumber, minimumNumber, roundToIntegralTiesToAway}
 use Rattle.coefficients.specs.Constants.{f0, f2048, f32767, f32768, _*f_}
 use Rattle.coefficients.specs.declared.merging.Record.{Record}
 use Rattle.coefficients.specs.declared.merging.Vec3.{Vec3}
@@ -16,7 +16,7 @@ use Rattle.coefficients.specs.Clusters.{blank, vectors}
 unfoldable pub coefficient : Float → ℤ
 coefficient v =
     let d = neg v *f f2048 in
-    toSigned 15 (roundAway (cond (lt f0 d) (smaller d f32767) (larger d (neg f32768))))
+    toSigned 15 (roundToIntegralTiesToAway (cond (lt f0 d) (minimumNumber d f32767) (maximumNumber d (neg f32768))))
 
 -- the first k pairs
 unfoldable pub pairs : List Vec3 → ℕ → List ℤ

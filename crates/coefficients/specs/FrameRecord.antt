@@ -4,7 +4,7 @@ use mathlib.Core.List.{List}
 use Prim.Native.Nat.{ℕ, _+_}
 use lib.IntN.{ℤ}
 use lib.Ieee.{Float, lt}
-use Rattle.coefficients.specs.Binary64.{abs}
+use Rattle.float.specs.Operations.{abs}
 use Rattle.coefficients.specs.Constants.{f10}
 use Rattle.coefficients.specs.declared.merging.Vec3.{Vec3}
 use Rattle.coefficients.specs.declared.ranges.Merged.{Merged}

@@ -1,5 +1,4 @@
 -- What the contracts and the exported theorems cite; `inner` holds what only private functions cite.
-pub mod Binary64
 pub mod Constants
 pub mod Sums
 pub mod RustSums

@@ -7,8 +7,8 @@ use lib.IntN.{ℤ, pos}
 use lib.Ieee.{Float}
 use lib.ListN.{length, getD, set, replicate}
 use lib.Seq.{sets}
-use Rattle.whole.specs.Frames.{most, framesOf}
-use Rattle.whole.specs.Outcome.{Outcome, accepted, refused}
+use Rattle.whole.specs.Frames.{most, frameCount}
+use Rattle.whole.specs.Outcome.{Outcome, accepted, refused, ifAccepted, Effect, effect}
 use Rattle.coefficients.specs.declared.Answer.{Answer}
 use Rattle.coefficients.specs.declared.Answer.the-variants.{Accepted, Refused}
 use Rattle.coefficients.specs.declared.CoefficientCalculator.{CoefficientCalculator}
@@ -47,7 +47,7 @@ valid n r = leb n most && leb r (n / 14)
 
 -- numbers that the store must have for n samples
 abbrev pub needed : ℕ → ℕ
-needed n = 2 * framesOf n
+needed n = 2 * frameCount n
 
 -- the state and the store
 pub record Measuring : Type 0 where
@@ -67,7 +67,6 @@ copied h (suc k) = set (copied h k) k (getD (copied h k) (14 + k) (pos 0))
 
 -- all fourteen are
 unfoldable pub shift : List ℤ → List ℤ
-unfolding copied
 shift h = copied h 14
 
 -- a full frame: its record, if it has one, goes to place r, and the history is shifted
@@ -90,24 +89,11 @@ processAnswer n r len size =
     (cond (ltb size (needed (n + len))) (refused 3)
     (accepted tt)))
 
--- what `process` answers and leaves
-pub record ProcessEffect : Type 0 where
-  pub outcome : Outcome Unit
-  pub calculator : CoefficientCalculator
-  pub store : List Float
-
--- an outcome, and the state and the store that are left
-abbrev pub processEffect : Outcome Unit → Measuring → ProcessEffect
-processEffect o m = record { outcome = o; calculator = m .calculator; store = m .store }
-
--- an accepted piece is measured sample by sample; a refused one changes nothing
-abbrev pub processBy : Outcome Unit → Measuring → List ℤ → ProcessEffect
-processBy (accepted u) m xs = processEffect (accepted u) (foldl push m xs)
-processBy (refused n) m xs = processEffect (refused n) m
-
--- a piece on a store
-unfoldable pub process : CoefficientCalculator → List ℤ → List Float → ProcessEffect
-process c xs s = processBy (processAnswer (c .samples) (c .records) (length xs) (length s)) (measuring c s) xs
+-- a piece on a store: outcome, state and store; an accepted piece is measured sample by sample, a refused one changes nothing
+unfoldable pub process : CoefficientCalculator → List ℤ → List Float → Effect (Outcome Unit) Measuring
+process c xs s =
+    let o = processAnswer (c .samples) (c .records) (length xs) (length s) in
+    effect o (ifAccepted o (foldl push (measuring c s) xs) (measuring c s))
 
 -- ---- coefficients are asked for
 
@@ -129,10 +115,7 @@ paddedCount c =
 
 -- codes 1 and 3
 unfoldable pub finishAnswer : ℕ → ℕ → ℕ → Outcome Unit
-finishAnswer n r size =
-    cond (not (valid n r)) (refused 1)
-    (cond (ltb size (needed n)) (refused 3)
-    (accepted tt))
+finishAnswer n r size = cond (not (valid n r)) (refused 1) (cond (ltb size (needed n)) (refused 3) (accepted tt))
 
 -- what `finish` answers and leaves
 pub record FinishEffect : Type 0 where

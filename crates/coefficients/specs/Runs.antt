@@ -5,8 +5,8 @@ use mathlib.Core.Bool.{cond}
 use lib.Dec.{ltb}
 use lib.IntN.{ℤ, pos}
 use lib.ListN.{length, take, drop, replicate}
-use Rattle.whole.specs.Frames.{frameAt, most, framesOf}
-use Rattle.whole.specs.Outcome.{Outcome, accepted, refused}
+use Rattle.whole.specs.Frames.{frameAt, most, frameCount}
+use Rattle.whole.specs.Outcome.{Outcome, accepted, refused, withValues}
 use Rattle.coefficients.specs.declared.framing.Found.{Found}
 use Rattle.coefficients.specs.declared.framing.Found.the-variants.{Nothing, One}
 use Rattle.coefficients.specs.declared.merging.Record.{Record}
@@ -37,7 +37,7 @@ recordsOf xs (suc k) = recordsOf xs k ++ recordOf (analyse (holding (leftAt xs k
 
 -- the coefficients of X: those of all its frames' records
 unfoldable pub coefficientsOf : List ℤ → List ℤ
-coefficientsOf xs = recordCoefficients (recordsOf xs (framesOf (length xs)))
+coefficientsOf xs = recordCoefficients (recordsOf xs (frameCount (length xs)))
 
 -- ---- the plain machine
 
@@ -66,11 +66,6 @@ plainRun size xs (c ∷ cs) =
 
 -- ---- the calls' own definitions, one after the other
 
--- the outcome of a call that has values where it is accepted
-abbrev pub withValues : Outcome Unit → List ℤ → Outcome (List ℤ)
-withValues (accepted u) cs = accepted cs
-withValues (refused n) cs = refused n
-
 -- what a call answers
 abbrev pub callOutcome : Measuring → Call → Outcome (List ℤ)
 callOutcome m (measures p) = withValues (process (m .calculator) p (m .store) .outcome) []
@@ -78,7 +73,7 @@ callOutcome m asks = let e = finish (m .calculator) (m .store) in withValues (e 
 
 -- the state and the store after it
 abbrev pub callNext : Measuring → Call → Measuring
-callNext m (measures p) = let e = process (m .calculator) p (m .store) in measuring (e .calculator) (e .store)
+callNext m (measures p) = process (m .calculator) p (m .store) .left
 callNext m asks = let e = finish (m .calculator) (m .store) in measuring (e .calculator) (e .store)
 
 -- what a list of calls answers

@@ -5,7 +5,7 @@ use lib.Ieee.{Float}
 use lib.IntN.{ℤ}
 use lib.ListN.{length, drop}
 use lib.Seq.{sets}
-use Rattle.whole.specs.Frames.{framesOf}
+use Rattle.whole.specs.Frames.{frameCount}
 use Rattle.whole.specs.Outcome.{Outcome, accepted, refused}
 use Rattle.coefficients.specs.declared.CoefficientCalculator.{CoefficientCalculator}
 use Rattle.coefficients.specs.declared.merging.Record.{Record}
@@ -36,7 +36,7 @@ withRecords s rs = sets s 0 (numbersOf rs)
 -- the first store with what askings wrote: for each, the records of all frames of what had been measured by then, its last frame filled with zeros
 unfoldable pub askedOf : List Float → List (List ℤ) → List Float
 askedOf s [] = s
-askedOf s (w ∷ ws) = askedOf (withRecords s (recordsOf w (framesOf (length w)))) ws
+askedOf s (w ∷ ws) = askedOf (withRecords s (recordsOf w (frameCount (length w)))) ws
 
 -- and with the records of X's full frames
 unfoldable pub storeOf : List Float → List (List ℤ) → List ℤ → List Float

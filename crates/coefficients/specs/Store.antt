@@ -1,5 +1,5 @@
 -- The lent store: a record is two numbers, in order. Definitions only.
-use mathlib.Core.List.{List, [], _∷_, _++_}
+use mathlib.Core.List.{List, [], _∷_, _++_, foldl}
 use Prim.Native.Nat.{ℕ, zero, suc, _+_, _*_}
 use lib.Ieee.{Float, nan, ofInt, binary64}
 use lib.IntN.{pos}
@@ -21,11 +21,6 @@ records s (suc k) = records s k ++ (readRecord s k ∷ [])
 -- the store with the record r at place k
 unfoldable pub writeRecord : List Float → ℕ → Record → List Float
 writeRecord s k r = set (set s (2 * k) (r .v1)) (2 * k + 1) (r .v2)
-
--- a fold over records from the left
-unfoldable pub foldl : {S : Type 0} → (S → Record → S) → S → List Record → S
-foldl f z [] = z
-foldl f z (r ∷ rs) = foldl f (f z r) rs
 
 -- what matrix_filter makes of a record, added
 unfoldable pub addFiltered : Vec3 → Record → Vec3

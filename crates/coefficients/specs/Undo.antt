@@ -29,7 +29,6 @@ kept (undone u t) = kept t
 
 -- what these answered
 unfoldable pub stepRun : Measuring → Steps → List (Outcome (List ℤ))
-unfolding reached
 stepRun m done = []
 stepRun m (call c t) = callOutcome m c ∷ stepRun (callNext m c) t
 stepRun m (undone u t) = stepRun (measuring (m .calculator) (reached m u .store)) t

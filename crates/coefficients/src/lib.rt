@@ -1,5 +1,6 @@
 // Measuring samples and asking for coefficients.
 ghost use mathlib.Core.Path.{_≡_};
+ghost use Rattle.whole.specs.Outcome.{effect};
 ghost use Rattle.coefficients.specs.Measure as Measure;
 
 mod clusters;
@@ -76,7 +77,7 @@ impl CoefficientCalculator {
 
     // Measures a piece: the record of each frame that it fills goes to the store.
     pub fn process(self, samples: &[i16], records: &mut [f64]) -> Processed
-        ensures { λ r. ⌜ Measure.processEffect (Measure.outcome (r .answer)) (Measure.measuring (r .calculator) (now (records .exit)))
+        ensures { λ r. ⌜ effect (Measure.outcome (r .answer)) (Measure.measuring (r .calculator) (now (records .exit)))
             ≡ Measure.process self (now (samples .entry)) (now (records .entry)) ⌝ }
     {
         let n = self.samples;

@@ -6,65 +6,59 @@ use lib.Ieee.{Float}
 use lib.IntN.{ℤ, pos}
 use Rattle.block.specs.declared.FrameContext.{FrameContext}
 use Rattle.block.specs.Context.{newContext}
-use Rattle.block.specs.Frame.{lent}
-use Rattle.block.specs.Join.{JoinEffect, joinEffect}
-use Rattle.block.specs.Play.{PlayEffect, playEffect}
-use Rattle.whole.specs.Outcome.{Outcome, accepted, refused}
+use Rattle.block.specs.Frame.{Playing, playing}
+use Rattle.whole.specs.Outcome.{Outcome, accepted, refused, Effect, effect}
 use Rattle.clip.specs.declared.Encoder.{Encoder}
 use Rattle.clip.specs.Encoding as Clip
 use Rattle.coefficients.specs.declared.CoefficientCalculator.{CoefficientCalculator}
-use Rattle.coefficients.specs.Measure.{ProcessEffect, processEffect, measuring, FinishEffect, finishEffect}
+use Rattle.coefficients.specs.Measure.{Measuring, measuring, FinishEffect, finishEffect}
 use Rattle.frame.specs.declared.OneFrame.{OneFrame}
 use Rattle.frame.specs.Frame as OneFrames
 use Rattle.image.specs.Bodies.{blockAnswer, bodyIn, blockBody}
 use Rattle.image.specs.declared.Head.{Head}
-use Rattle.image.specs.Opening.{OpenEffect, openEffect}
 use Rattle.image.specs.Reading.{offsetIn, lengthIn}
 use Rattle.image.specs.Playing.{contextIn}
-use Rattle.image.specs.Playing as Image
 use Rattle.doilycairn.specs.declared.blocks.Joining.{Joining}
 use Rattle.doilycairn.specs.declared.blocks.Playback.{Playback}
 use Rattle.doilycairn.specs.declared.reading.Body.{Body}
 use Rattle.doilycairn.specs.declared.reading.Opening.{Opening}
 use Rattle.doilycairn.specs.declared.writing.Frame.{Frame}
 use Rattle.doilycairn.specs.Blocks as Blocks
-use Rattle.doilycairn.specs.Blocks.{playbackEffect, joiningEffect, joinedAnswer, joinSeen}
+use Rattle.doilycairn.specs.Blocks.{joinedAnswer, playSeen, joinSeen}
 use Rattle.doilycairn.specs.Codes.{outcomeCode}
-use Rattle.doilycairn.specs.Measuring.{processing, processSeen, finishing, finishSeen}
-use Rattle.doilycairn.specs.Reading as Reading
+use Rattle.doilycairn.specs.Measuring.{processSeen, finishSeen}
 use Rattle.doilycairn.specs.Reading.{openSeen, bodyAt, handed, bodyInC}
-use Rattle.doilycairn.specs.Writing as Writing
-use Rattle.doilycairn.specs.Writing.{frameCode, frameSeen, encoded, clipSeen}
+use Rattle.doilycairn.specs.Writing.{frameCode, frameSeen, clipSeen}
 
 -- ---- measuring
 
-pub process-seen : (a : Outcome Unit) (d : CoefficientCalculator) (t : List Float) {o : ProcessEffect} {k : ℕ}
-    → k ≡ outcomeCode a → processEffect a (measuring d t) ≡ o → processing (record { code = k; calculator = d }) t ≡ processSeen o
-process-seen a d t p q = ap (λ (k : ℕ). processing (record { code = k; calculator = d }) t) p ∙ ap processSeen q
+pub process-seen : (a : Outcome Unit) (d : CoefficientCalculator) (t : List Float) {o : Effect (Outcome Unit) Measuring} {k : ℕ}
+    → k ≡ outcomeCode a → effect a (measuring d t) ≡ o → effect (record { code = k; calculator = d }) t ≡ processSeen o
+process-seen a d t p q = ap (λ (k : ℕ). effect (record { code = k; calculator = d }) t) p ∙ ap processSeen q
 
 pub finish-seen : (a : Outcome Unit) (cs : List ℤ) (d : CoefficientCalculator) (t : List Float) {o : FinishEffect} {k : ℕ}
-    → k ≡ outcomeCode a → finishEffect a cs d t ≡ o → finishing (record { code = k; coefficients = cs; calculator = d }) t ≡ finishSeen o
-finish-seen a cs d t p q = ap (λ (k : ℕ). finishing (record { code = k; coefficients = cs; calculator = d }) t) p ∙ ap finishSeen q
+    → k ≡ outcomeCode a → finishEffect a cs d t ≡ o → effect (record { code = k; coefficients = cs; calculator = d }) t ≡ finishSeen o
+finish-seen a cs d t p q = ap (λ (k : ℕ). effect (record { code = k; coefficients = cs; calculator = d }) t) p ∙ ap finishSeen q
 
 -- ---- a frame, a clip
 
-pub frame-seen : (f : OneFrame) {o : OneFrames.Effect} {k : ℕ}
-    → k ≡ frameCode (f .verdict) → OneFrames.effect f ≡ o → _≡_ {A = Frame} (record { code = k; bytes = f .bytes; passes = f .passes; history = f .history }) (frameSeen o)
+pub frame-seen : (f : OneFrame) {o : OneFrames.FrameEffect} {k : ℕ}
+    → k ≡ frameCode (f .verdict) → OneFrames.frameEffect f ≡ o → _≡_ {A = Frame} (record { code = k; bytes = f .bytes; passes = f .passes; history = f .history }) (frameSeen o)
 frame-seen f p q = ap (λ (k : ℕ). record { code = k; bytes = f .bytes; passes = f .passes; history = f .history }) p ∙ ap frameSeen q
 
-pub clip-seen : (o : Outcome Unit) (e : Encoder) (l : List ℕ) {f : Clip.Effect} {k : ℕ}
-    → k ≡ outcomeCode o → Clip.effect o (Clip.left e l) ≡ f → encoded (record { code = k; encoder = e }) l ≡ clipSeen f
-clip-seen o e l p q = ap (λ (k : ℕ). encoded (record { code = k; encoder = e }) l) p ∙ ap clipSeen q
+pub clip-seen : (o : Outcome Unit) (e : Encoder) (l : List ℕ) {f : Effect (Outcome Unit) Clip.Left} {k : ℕ}
+    → k ≡ outcomeCode o → effect o (Clip.left e l) ≡ f → effect (record { code = k; encoder = e }) l ≡ clipSeen f
+clip-seen o e l p q = ap (λ (k : ℕ). effect (record { code = k; encoder = e }) l) p ∙ ap clipSeen q
 
 -- ---- an image
 
-pub open-seen : (o : Outcome Unit) (h : Head) {e : OpenEffect} {k : ℕ}
-    → k ≡ outcomeCode o → openEffect o h ≡ e → _≡_ {A = Opening} (record { code = k; head = h }) (openSeen e)
+pub open-seen : (o : Outcome Unit) (h : Head) {e : Effect (Outcome Unit) Head} {k : ℕ}
+    → k ≡ outcomeCode o → effect o h ≡ e → _≡_ {A = Opening} (record { code = k; head = h }) (openSeen e)
 open-seen o h p q = ap (λ (k : ℕ). record { code = k; head = h }) p ∙ ap openSeen q
 
-pub play-seen : (o : Outcome ℕ) (c : FrameContext) (out : List ℤ) {e : Image.PlayEffect} {r : Playback}
-    → r ≡ Blocks.playedAnswer o c → Image.playEffect o (lent c out) ≡ e → playbackEffect r out ≡ Reading.playSeen e
-play-seen o c out p q = ap (λ (r : Playback). playbackEffect r out) p ∙ ap Reading.playSeen q
+pub play-seen : (o : Outcome ℕ) (c : FrameContext) (out : List ℤ) {e : Effect (Outcome ℕ) Playing} {r : Playback}
+    → r ≡ Blocks.playedAnswer o c → effect o (playing c out) ≡ e → effect r out ≡ playSeen e
+play-seen o c out p q = ap (λ (r : Playback). effect r out) p ∙ ap playSeen q
 
 -- the entry's numbers, and two nibbles a byte
 pub body-told : (l : List ℕ) (k offset bytes nibbles : ℕ) (c : FrameContext) → offset ≡ offsetIn l k → nibbles ≡ lengthIn l k → bytes ≡ (nibbles + 1) / 2 → c ≡ contextIn l k
@@ -85,10 +79,6 @@ body-refused l k n p z q = rw (p, z, q)
 
 -- ---- blocks
 
-pub bytes-seen : (o : Outcome ℕ) (c : FrameContext) (out : List ℤ) {e : PlayEffect} {r : Playback}
-    → r ≡ Blocks.playedAnswer o c → playEffect o (lent c out) ≡ e → playbackEffect r out ≡ Blocks.playSeen e
-bytes-seen o c out p q = ap (λ (r : Playback). playbackEffect r out) p ∙ ap Blocks.playSeen q
-
-pub join-seen : (o : Outcome ℕ) (out : List ℕ) {e : JoinEffect} {r : Joining}
-    → r ≡ joinedAnswer o → joinEffect o out ≡ e → joiningEffect r out ≡ joinSeen e
-join-seen o out p q = ap (λ (r : Joining). joiningEffect r out) p ∙ ap joinSeen q
+pub join-seen : (o : Outcome ℕ) (out : List ℕ) {e : Effect (Outcome ℕ) (List ℕ)} {r : Joining}
+    → r ≡ joinedAnswer o → effect o out ≡ e → effect r out ≡ joinSeen e
+join-seen o out p q = ap (λ (r : Joining). effect r out) p ∙ ap joinSeen q

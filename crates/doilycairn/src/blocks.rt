@@ -1,9 +1,10 @@
 // Blocks without an image: playing bytes, joining, addresses (sections 4 and 5).
 ghost use mathlib.Core.Path.{_≡_};
 ghost use Rattle.block.specs.Address.{addressToSample, sampleToAddress};
-ghost use Rattle.block.specs.Join.{joinOutcome};
-ghost use Rattle.block.specs.Play.{playOutcome};
-ghost use Rattle.doilycairn.specs.Blocks.{playedAnswer, playbackEffect, playBytesInC, joinedAnswer, joiningEffect, joinInC};
+ghost use Rattle.block.specs.Join.{joinOutcome, extendSamples};
+ghost use Rattle.block.specs.Play.{playOutcome, playBytes};
+ghost use Rattle.doilycairn.specs.Blocks.{playedAnswer, playSeen, joinedAnswer, joinSeen};
+ghost use Rattle.whole.specs.Outcome.{effect};
 use block::FrameContext;
 use block::JoinAnswer;
 use block::PlayAnswer;
@@ -66,7 +67,7 @@ pub extern "C" fn doilycairn_play_bytes(
     context: FrameContext,
     out: &mut [i16],
 ) -> Playback
-    ensures { λ r. ⌜ playbackEffect r (now (out .exit)) ≡ playBytesInC (now (bytes .entry)) nibbles (now (coefficients .entry)) context (now (out .entry)) ⌝ }
+    ensures { λ r. ⌜ effect r (now (out .exit)) ≡ playSeen (playBytes (now (bytes .entry)) nibbles (now (coefficients .entry)) context (now (out .entry))) ⌝ }
 {
     let done = block::play_bytes(bytes, nibbles, *coefficients, context, out);
     let answer = done.answer;
@@ -85,7 +86,7 @@ pub extern "C" fn doilycairn_join(
     second_coefficients: &[i16; 16],
     out: &mut [u8],
 ) -> Joining
-    ensures { λ r. ⌜ joiningEffect r (now (out .exit)) ≡ joinInC (now (first .entry)) «first_nibbles» (now («first_coefficients» .entry)) (now (second .entry)) «second_nibbles» (now («second_coefficients» .entry)) (now (out .entry)) ⌝ }
+    ensures { λ r. ⌜ effect r (now (out .exit)) ≡ joinSeen (extendSamples (now (first .entry)) «first_nibbles» (now («first_coefficients» .entry)) (now (second .entry)) «second_nibbles» (now («second_coefficients» .entry)) (now (out .entry))) ⌝ }
 {
     let answer = block::extend_samples(
         first,

@@ -1,8 +1,9 @@
 // Measuring samples and asking for coefficients (section 1).
 ghost use mathlib.Core.Path.{_≡_};
-ghost use Rattle.coefficients.specs.Measure.{fresh, outcome};
+ghost use Rattle.coefficients.specs.Measure.{fresh, outcome, process, finish};
 ghost use Rattle.doilycairn.specs.Codes.{outcomeCode};
-ghost use Rattle.doilycairn.specs.Measuring.{processing, processInC, finishing, finishInC};
+ghost use Rattle.doilycairn.specs.Measuring.{processSeen, finishSeen};
+ghost use Rattle.whole.specs.Outcome.{effect};
 use coefficients::Answer;
 use coefficients::CoefficientCalculator;
 
@@ -46,7 +47,7 @@ pub extern "C" fn doilycairn_process(
     samples: &[i16],
     records: &mut [f64],
 ) -> Processed
-    ensures { λ r. ⌜ processing r (now (records .exit)) ≡ processInC calculator (now (samples .entry)) (now (records .entry)) ⌝ }
+    ensures { λ r. ⌜ effect r (now (records .exit)) ≡ processSeen (process calculator (now (samples .entry)) (now (records .entry))) ⌝ }
 {
     let done = calculator.process(samples, records);
     let answer = done.answer;
@@ -63,7 +64,7 @@ pub extern "C" fn doilycairn_finish(
     calculator: CoefficientCalculator,
     records: &mut [f64],
 ) -> Finished
-    ensures { λ r. ⌜ finishing r (now (records .exit)) ≡ finishInC calculator (now (records .entry)) ⌝ }
+    ensures { λ r. ⌜ effect r (now (records .exit)) ≡ finishSeen (finish calculator (now (records .entry))) ⌝ }
 {
     let done = calculator.finish(records);
     let answer = done.answer;

@@ -1,11 +1,13 @@
 // Reading an image: opening, the place of a block's body, playing a block or the whole, sameness (sections 4 and 5).
 ghost use mathlib.Core.Path.{_≡_};
 ghost use Rattle.image.specs.inner.Asked.{Found};
-ghost use Rattle.image.specs.Opening.{outcome};
-ghost use Rattle.image.specs.Playing.{playOutcome};
-ghost use Rattle.image.specs.Sameness.{sameOutcome};
-ghost use Rattle.doilycairn.specs.Blocks.{playbackEffect, playedAnswer};
-ghost use Rattle.doilycairn.specs.Reading.{codeOf, openInC, bodyAt, handed, bodyInC, playInC, playAllInC, comparedAnswer, sameInC};
+ghost use Rattle.image.specs.Opening.{outcome, openImage};
+ghost use Rattle.image.specs.Playing.{playOutcome, play};
+ghost use Rattle.image.specs.Sameness.{sameOutcome, same};
+ghost use Rattle.image.specs.WholeImage.{playAll};
+ghost use Rattle.whole.specs.Outcome.{effect};
+ghost use Rattle.doilycairn.specs.Blocks.{playedAnswer, playSeen};
+ghost use Rattle.doilycairn.specs.Reading.{codeOf, openSeen, bodyAt, handed, bodyInC, comparedAnswer};
 use crate::blocks::Playback;
 use block::FrameContext;
 use image::Answer;
@@ -106,7 +108,7 @@ fn body_at(image: &[u8], k: usize) -> Body
 // Opens an image.
 #[no_mangle]
 pub extern "C" fn doilycairn_open(image: &[u8]) -> Opening
-    ensures { λ r. ⌜ r ≡ openInC (now (image .entry)) ⌝ }
+    ensures { λ r. ⌜ r ≡ openSeen (openImage (now (image .entry))) ⌝ }
 {
     let done = image::open(image);
     let answer = done.answer;
@@ -141,7 +143,7 @@ pub extern "C" fn doilycairn_block_body(image: &[u8], k: u32) -> Body
 // Plays block k.
 #[no_mangle]
 pub extern "C" fn doilycairn_play(image: &[u8], k: u32, out: &mut [i16]) -> Playback
-    ensures { λ r. ⌜ playbackEffect r (now (out .exit)) ≡ playInC (now (image .entry)) k (now (out .entry)) ⌝ }
+    ensures { λ r. ⌜ effect r (now (out .exit)) ≡ playSeen (play (now (image .entry)) k (now (out .entry))) ⌝ }
 {
     let done = image::play(image, k, out);
     let answer = done.answer;
@@ -152,7 +154,7 @@ pub extern "C" fn doilycairn_play(image: &[u8], k: u32, out: &mut [i16]) -> Play
 // Plays the whole image.
 #[no_mangle]
 pub extern "C" fn doilycairn_play_all(image: &[u8], out: &mut [i16]) -> Playback
-    ensures { λ r. ⌜ playbackEffect r (now (out .exit)) ≡ playAllInC (now (image .entry)) (now (out .entry)) ⌝ }
+    ensures { λ r. ⌜ effect r (now (out .exit)) ≡ playSeen (playAll (now (image .entry)) (now (out .entry))) ⌝ }
 {
     let done = image::play_all(image, out);
     let answer = done.answer;
@@ -163,7 +165,7 @@ pub extern "C" fn doilycairn_play_all(image: &[u8], out: &mut [i16]) -> Playback
 // Compares two images.
 #[no_mangle]
 pub extern "C" fn doilycairn_same(first: &[u8], second: &[u8]) -> Comparison
-    ensures { λ r. ⌜ r ≡ sameInC (now (first .entry)) (now (second .entry)) ⌝ }
+    ensures { λ r. ⌜ r ≡ comparedAnswer (same (now (first .entry)) (now (second .entry))) ⌝ }
 {
     let answer = image::same(first, second);
     compared_answer(answer)

@@ -1,6 +1,9 @@
 // Encoding a frame, and starting, feeding and closing a clip (sections 2 and 3).
 ghost use mathlib.Core.Path.{_≡_};
-ghost use Rattle.doilycairn.specs.Writing.{frameCode, codeOf, frameInC, encoded, startInC, feedInC, closeInC};
+ghost use Rattle.doilycairn.specs.Writing.{frameCode, codeOf, frameSeen, clipSeen, given};
+ghost use Rattle.whole.specs.Outcome.{effect};
+ghost use Rattle.frame.specs.Frame.{encodeOneFrame};
+ghost use Rattle.clip.specs.Encoding.{start, feed, close};
 use clip::Answer;
 use clip::Encoder;
 use clip::starting::Start;
@@ -50,7 +53,7 @@ pub extern "C" fn doilycairn_encode_frame(
     samples: &[i16; 14],
     coefficients: &[i16; 16],
 ) -> Frame
-    ensures { λ r. ⌜ r ≡ frameInC history (now (samples .entry)) (now (coefficients .entry)) ⌝ }
+    ensures { λ r. ⌜ r ≡ frameSeen (encodeOneFrame history (now (samples .entry)) (now (coefficients .entry))) ⌝ }
 {
     let done = frame::encode_one_frame(history, *samples, *coefficients);
     let verdict = done.verdict;
@@ -75,7 +78,7 @@ pub extern "C" fn doilycairn_start(
     history: History,
     image: &mut [u8],
 ) -> Encoding
-    ensures { λ r. ⌜ encoded r (now (image .exit)) ≡ startInC total rate «block_size» gain (now (coefficients .entry)) history (now (image .entry)) ⌝ }
+    ensures { λ r. ⌜ effect r (now (image .exit)) ≡ clipSeen (start (given total rate «block_size» gain (now (coefficients .entry)) history) (now (image .entry))) ⌝ }
 {
     let given = Start {
         total: total,
@@ -97,7 +100,7 @@ pub extern "C" fn doilycairn_start(
 // Feeds a piece.
 #[no_mangle]
 pub extern "C" fn doilycairn_feed(encoder: Encoder, piece: &[i16], image: &mut [u8]) -> Encoding
-    ensures { λ r. ⌜ encoded r (now (image .exit)) ≡ feedInC encoder (now (piece .entry)) (now (image .entry)) ⌝ }
+    ensures { λ r. ⌜ effect r (now (image .exit)) ≡ clipSeen (feed encoder (now (piece .entry)) (now (image .entry))) ⌝ }
 {
     let done = clip::feed(encoder, piece, image);
     let answer = done.answer;
@@ -111,7 +114,7 @@ pub extern "C" fn doilycairn_feed(encoder: Encoder, piece: &[i16], image: &mut [
 // Closes a clip.
 #[no_mangle]
 pub extern "C" fn doilycairn_close(encoder: Encoder, image: &mut [u8]) -> Encoding
-    ensures { λ r. ⌜ encoded r (now (image .exit)) ≡ closeInC encoder (now (image .entry)) ⌝ }
+    ensures { λ r. ⌜ effect r (now (image .exit)) ≡ clipSeen (close encoder (now (image .entry))) ⌝ }
 {
     let done = clip::close(encoder, image);
     let answer = done.answer;

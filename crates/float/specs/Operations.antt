@@ -33,5 +33,4 @@ minimumNumber x y = cond (ne x x) y (cond (isLess y x) y x)
 unfoldable pub roundToIntegralTiesToAway : Float → Float
 roundToIntegralTiesToAway nan = nan
 roundToIntegralTiesToAway (inf s) = inf s
-roundToIntegralTiesToAway (fin s m e) =
-    cond (ltb (m * up e) (2 ^ 52 * down e)) (round binary64 s ((2 * (m * up e) + down e) / (2 * down e)) 1) (fin s m e)
+roundToIntegralTiesToAway (fin s m e) = cond (ltb (m * up e) (2 ^ 52 * down e)) (round binary64 s ((2 * (m * up e) + down e) / (2 * down e)) 1) (fin s m e)

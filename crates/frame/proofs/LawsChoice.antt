@@ -18,7 +18,7 @@ use Rattle.frame.specs.declared.search.Candidate.{Candidate}
 use Rattle.frame.specs.declared.choice.Best.{Best}
 use Rattle.frame.specs.Pass.{Bounded, runPass}
 use Rattle.frame.specs.Search.{finished, tryCoefficients}
-use Rattle.frame.specs.Choice.{c0At, c1At, candidateAt, winner, passesOf}
+use Rattle.frame.specs.Choice.{c0At, c1At, candidateAt, winner, passesUpTo}
 use Rattle.frame.specs.inner.Chosen.{choose}
 use Rattle.frame.specs.inner.Nibbles.{InNibble}
 use Rattle.frame.specs.inner.Lanes.{candidateOf}
@@ -91,8 +91,8 @@ module _ (h : History) (xs : List ℤ) (cs : List ℤ) where
       go false e m r = r m
 
   -- ---- the passes
-  pub passes-le : (k : ℕ) → passesOf h xs cs k ≤ k * 13
-  unfolding passesOf
+  pub passes-le : (k : ℕ) → passesUpTo h xs cs k ≤ k * 13
+  unfolding passesUpTo
   passes-le zero = omega arith
   passes-le (suc k) = omega (arith, passes-le k, candidate-shape k .passes-le)
 
@@ -108,25 +108,25 @@ module _ (h : History) (xs : List ℤ) (cs : List ℤ) where
     unfolding choose
     index-was = ap (λ (x : Best). x .index) e
 
-    passes-were : n ≡ passesOf h xs cs (suc k)
+    passes-were : n ≡ passesUpTo h xs cs (suc k)
     unfolding choose
     passes-were = ap (λ (x : Best). x .passes) e
 
     pub taken : c .distance < b .distance → best c (suc k) (n + c .passes) ≡ choose h xs cs (suc k)
-    unfolding choose winner passesOf
+    unfolding choose winner passesUpTo
     taken l =
         let t : ltb (distanceAt (suc k)) (distanceAt (winner h xs cs k)) ≡ true = lt-ltb _ _ (rw (f, was) at l) in
         rw (f, passes-were, t)
 
     pub left : b .distance ≤ c .distance → best b j (n + c .passes) ≡ choose h xs cs (suc k)
-    unfolding choose winner passesOf
+    unfolding choose winner passesUpTo
     left l =
         let t : ltb (distanceAt (suc k)) (distanceAt (winner h xs cs k)) ≡ false = le-ltb _ _ (rw (f, was) at l) in
         rw (f, passes-were, was, index-was, t)
 
   -- the first pair alone
   pub best-first : (c : Coded) → c ≡ candidateAt h xs cs 0 → best c 0 (c .passes) ≡ choose h xs cs 0
-  unfolding choose winner passesOf
+  unfolding choose winner passesUpTo
   best-first c e = rw (e, zero-add)
 
   -- the same at the loop's i

@@ -18,7 +18,7 @@ use Rattle.frame.specs.Estimate.{weigh}
 use Rattle.frame.specs.Quantise.{scale}
 use Rattle.frame.specs.Pass.{Bounded, reconstruct, codeSample, upto, runPass}
 use Rattle.frame.specs.Search.{finished, tryCoefficients}
-use Rattle.frame.specs.Choice.{c0At, c1At, AllBounded, candidateAt, winner, passesOf}
+use Rattle.frame.specs.Choice.{c0At, c1At, AllBounded, candidateAt, winner, passesUpTo}
 use Rattle.frame.specs.Frame.{header, lowFour, nibbleAt, packFrame, preceded, historyAfter, encodeFrame}
 use Rattle.frame.specs.inner.Nibbles.{InNibble}
 use Rattle.frame.specs.Fits.{Fit, FitHistory}
@@ -61,7 +61,7 @@ module _ (h : History) (xs : List ℤ) (cs : List ℤ) where
   unfolding chosen
   exponent-le = candidate-shape h xs cs index .exponent-le
 
-  pub frame-is : encodeFrame h xs cs ≡ record { bytes = packFrame (header index (chosen .exponent)) (chosen .nibbles) 7; passes = passesOf h xs cs 8; samples = chosen .samples }
+  pub frame-is : encodeFrame h xs cs ≡ record { bytes = packFrame (header index (chosen .exponent)) (chosen .nibbles) 7; passes = passesUpTo h xs cs 8; samples = chosen .samples }
   unfolding encodeFrame index chosen
   frame-is = refl
 

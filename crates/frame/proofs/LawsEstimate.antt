@@ -14,7 +14,7 @@ use borrow.Author.Tests.{lt-ltb, le-ltb, ltb-true, ltb-false}
 use mir.Syntax.{w16}
 use mir.Val.{SFits}
 use Rattle.whole.specs.Whole.{towardsZero}
-use Rattle.whole.proofs.Values.{abs-add, abs-mul, abs-sfits}
+use Rattle.whole.proofs.SignedLocals.{abs-add, abs-mul, abs-sfits}
 use Rattle.whole.proofs.Differences.{diff-pos, diff-sub, diff-eq}
 use Rattle.whole.proofs.Clamping.{clamp-fits}
 use Rattle.whole.specs.declared.History.{History}

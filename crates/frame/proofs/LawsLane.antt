@@ -16,7 +16,7 @@ use mir.Syntax.{Width, w16, w32}
 use mir.Val.{SFits, ofZ, hbits}
 use Rattle.whole.specs.Whole.{floored}
 use Rattle.whole.proofs.Clamping.{clamp-low, clamp-high, clamp-mid}
-use Rattle.whole.proofs.Values.{Is, is-sized, sfits-abs, abs-add, abs-sub, abs-mul, abs-shr, not-below-zero}
+use Rattle.whole.proofs.SignedLocals.{Is, is-sized, sfits-abs, abs-add, abs-sub, abs-mul, abs-shr, not-below-zero}
 use Rattle.whole.proofs.Differences.{Diff, diff-of, diff-pos, diff-neg, diff-add, diff-sub, diff-times, diff-move, diff-same, diff-eq}
 use Rattle.whole.proofs.Differences.{diff-lt, diff-le, lt-diff, le-diff, diff-abs, abs-diff, over, under, left, floor-law}
 use Rattle.frame.specs.Quantise.{unit24, round24, scale, nearestDown, withSign, quantise, clamp4}

@@ -18,7 +18,7 @@ use mir.Syntax.{w16, w32}
 use mir.Val.{SFits, toZ, ofZ}
 use mir.Facts.{toZ-ofZ}
 use Rattle.whole.specs.Whole.{clamp16, floored}
-use Rattle.whole.proofs.Values.{abs-sfits}
+use Rattle.whole.proofs.SignedLocals.{abs-sfits}
 use Rattle.whole.proofs.Clamping.{clamp-fits}
 use Rattle.whole.specs.declared.History.{History}
 use Rattle.frame.specs.declared.pass.Pass.{Pass}

@@ -15,7 +15,7 @@ use lib.Seq.{take-suc-set, take-all, getD-at}
 use mir.Syntax.{w16}
 use mir.Val.{SFits}
 use Rattle.whole.specs.Whole.{clamp16, floored}
-use Rattle.whole.proofs.Values.{abs-add, abs-sub, abs-mul, abs-sfits}
+use Rattle.whole.proofs.SignedLocals.{abs-add, abs-sub, abs-mul, abs-sfits}
 use Rattle.whole.proofs.FloorDivision.{floor-scaled}
 use Rattle.whole.proofs.Clamping.{clamp-fits, clamp-low, clamp-high, clamp-mid}
 use Rattle.whole.specs.declared.History.{History}

@@ -17,7 +17,7 @@ use lib.Ieee.Fits.{nearest-le}
 use lib.Ieee.Digits.{size-lt, size-reaches, size-le}
 use lib.Ieee.Nearest.{closest}
 use Rattle.whole.proofs.Clamping.{clamp-low, clamp-high, clamp-mid, clamp-size}
-use Rattle.whole.proofs.Values.{abs-neg}
+use Rattle.whole.proofs.SignedLocals.{abs-neg}
 use Rattle.whole.proofs.Differences.{diff-of, diff-pos, diff-neg, diff-add, diff-sub, diff-eq, diff-lt, diff-abs, abs-diff, over, under}
 use Rattle.frame.specs.Quantise.{unit24, round24, scale, nearestDown, withSign, quantise, clamp4}
 use Rattle.frame.proofs.LawsOrder.{none-below}

@@ -34,6 +34,6 @@ winner h xs cs (suc k) =
     cond (ltb (candidateAt h xs cs (suc k) .distance) (candidateAt h xs cs i .distance)) (suc k) i
 
 -- "The passes made over" the first k candidates
-unfoldable pub passesOf : History → List ℤ → List ℤ → ℕ → ℕ
-passesOf h xs cs zero = 0
-passesOf h xs cs (suc k) = passesOf h xs cs k + candidateAt h xs cs k .passes
+unfoldable pub passesUpTo : History → List ℤ → List ℤ → ℕ → ℕ
+passesUpTo h xs cs zero = 0
+passesUpTo h xs cs (suc k) = passesUpTo h xs cs k + candidateAt h xs cs k .passes

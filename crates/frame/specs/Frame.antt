@@ -13,7 +13,7 @@ use Rattle.frame.specs.declared.Refusal.the-variants.{CoefficientOutside
 use Rattle.frame.specs.declared.Verdict.{Verdict}
 use Rattle.frame.specs.declared.Verdict.the-variants.{Encoded, Refused}
 use Rattle.whole.specs.Outcome.{Outcome, accepted, refused}
-use Rattle.frame.specs.Choice.{c0At, c1At, candidateAt, winner, passesOf}
+use Rattle.frame.specs.Choice.{c0At, c1At, candidateAt, winner, passesUpTo}
 
 -- "Header = index × 16 + p"
 abbrev pub header : ℕ → ℕ → ℕ
@@ -42,7 +42,7 @@ unfoldable pub encodeFrame : History → List ℤ → List ℤ → EncodedFrame
 encodeFrame h xs cs =
     let i = winner h xs cs 7 in
     let c = candidateAt h xs cs i in
-    record { bytes = packFrame (header i (c .exponent)) (c .nibbles) 7; passes = passesOf h xs cs 8; samples = c .samples }
+    record { bytes = packFrame (header i (c .exponent)) (c .nibbles) 7; passes = passesUpTo h xs cs 8; samples = c .samples }
 
 -- samples with the two before them, oldest first
 unfoldable pub preceded : History → List ℤ → List ℤ
@@ -75,18 +75,18 @@ outcome Encoded = accepted tt
 outcome (Refused r) = refused (code r)
 
 -- what the one-frame call answers: its outcome, and the bytes, passes and history that come with it
-pub record Effect : Type 0 where
+pub record FrameEffect : Type 0 where
   pub outcome : Outcome Unit
   pub bytes : List ℕ
   pub passes : ℕ
   pub history : History
 
 -- what an answer is, by document 01's numbers and values
-abbrev pub effect : OneFrame → Effect
-effect o = record { outcome = outcome (o .verdict); bytes = o .bytes; passes = o .passes; history = o .history }
+abbrev pub frameEffect : OneFrame → FrameEffect
+frameEffect o = record { outcome = outcome (o .verdict); bytes = o .bytes; passes = o .passes; history = o .history }
 
 -- "answers the eight bytes, the passes and the new history"; a refusal answers no bytes, no passes and the history given
-unfoldable pub encodeOneFrame : History → List ℤ → List ℤ → Effect
+unfoldable pub encodeOneFrame : History → List ℤ → List ℤ → FrameEffect
 encodeOneFrame h xs cs =
     let e = encodeFrame h xs cs in
     cond (coefficientsOk cs)

@@ -45,14 +45,8 @@ pub record Carried : Type 0 where
 unfoldable pub next : ℤ → ℤ → ℕ → Carried → ℤ → Carried
 next c0 c1 p r x =
     let t = codeSample c0 c1 (r .s0) (r .s1) x p in
-    record {
-      s0 = t .sample;
-      s1 = r .s0;
-      nibbles = r .nibbles ++ (t .nibble ∷ []);
-      samples = r .samples ++ (t .sample ∷ []);
-      overflow = max (r .overflow) (t .overflow);
-      distance = r .distance + squaredDifference x (t .sample);
-    }
+    let d = r .distance + squaredDifference x (t .sample) in
+    record { s0 = t .sample; s1 = r .s0; nibbles = r .nibbles ++ (t .nibble ∷ []); samples = r .samples ++ (t .sample ∷ []); overflow = max (r .overflow) (t .overflow); distance = d }
 
 -- after i samples of xs
 unfoldable pub upto : ℤ → ℤ → History → List ℤ → ℕ → ℕ → Carried

@@ -3,7 +3,7 @@ ghost use mathlib.Core.Path.{_≡_};
 ghost use Prim.Native.Nat.{_≤_};
 ghost use lib.IntN.{natAbs};
 ghost use Rattle.frame.specs.Choice.{AllBounded};
-ghost use Rattle.frame.specs.Frame.{code, coefficientsOk, effect, encodeFrame, encodeOneFrame, historyAfter, pairOk};
+ghost use Rattle.frame.specs.Frame.{code, coefficientsOk, encodeFrame, encodeOneFrame, frameEffect, historyAfter, pairOk};
 
 mod choice;
 mod estimate;
@@ -111,7 +111,7 @@ pub fn history_after(history: History, samples: [i16; 14], m: usize) -> History
 
 // Encodes one frame, or refuses its coefficients.
 pub fn encode_one_frame(history: History, samples: [i16; 14], coefficients: [i16; 16]) -> OneFrame
-    ensures { λ r. ⌜ effect r ≡ encodeOneFrame history samples coefficients ⌝ }
+    ensures { λ r. ⌜ frameEffect r ≡ encodeOneFrame history samples coefficients ⌝ }
 {
     if !coefficients_ok(coefficients) {
         return OneFrame {

@@ -11,7 +11,7 @@ use Rattle.block.specs.Frame.{Playing, playing}
 use Rattle.block.specs.inner.Frames.{playFrame, playFrames}
 use Rattle.block.specs.Play.{takeHeader, play}
 use Rattle.block.proofs.LawsPlay.{onto, frame-onto, repeats}
-use Rattle.layout.specs.Sizes.{blockOffset}
+use Rattle.layout.specs.Sizes.{blockOffset, blockCount}
 use Rattle.layout.proofs.SizeLaws.{block-place}
 use Rattle.image.specs.Reading.{shapeIn, totalIn, blockIn, coefficientsIn, offsetIn, lengthIn}
 use Rattle.image.specs.inner.Asked.{Found}
@@ -23,9 +23,11 @@ use Rattle.image.proofs.FramePlaces.{count-whole}
 use Rattle.image.proofs.LawsBody.{found-offset, found-length}
 use Rattle.image.proofs.Parts.{part-at, frame-part}
 use Rattle.image.proofs.BlockShape.{BlockShape, block-shape}
+use Rattle.whole.specs.Frames.{frameCount}
 
 -- the turn of a frame
-pub frames-next : (l : List ℕ) (i : ℕ) → framesIn l (suc i) ≡ playFrame l (framePlaceIn l i) (frameSamples (totalIn l) i) (coefficientsIn l) (playing (contextBefore l i (framesIn l i .context)) (framesIn l i .samples))
+pub frames-next : (l : List ℕ) (i : ℕ) → framesIn l (suc i) ≡ playFrame l (framePlaceIn l i) (frameSamples (totalIn l) i) (coefficientsIn l)
+    (playing (contextBefore l i (framesIn l i .context)) (framesIn l i .samples))
 unfolding framesIn
 frames-next l i = refl
 
@@ -46,7 +48,7 @@ module _ (l : List ℕ) (j : ℕ) (f : Found l j) where
 
   -- where the block's frame s stands
   place : (s : ℕ) → offsetIn l j + 8 * s ≡ framePlaceIn l (first + s)
-  unfolding framePlaceIn blockOffset
+  unfolding framePlaceIn blockOffset blockCount frameCount
   place s =
       let e = found-offset l j f in
       let p = block-place (blockIn l) j (f .opens .head .limits .eights) in

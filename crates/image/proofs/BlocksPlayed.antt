@@ -9,11 +9,12 @@ use lib.Seq.{sets}
 use Rattle.block.specs.declared.FrameContext.{FrameContext}
 use Rattle.block.specs.Context.{newContext}
 use Rattle.block.specs.Play.{playInto}
-use Rattle.whole.specs.Outcome.{Outcome, accepted, refused}
-use Rattle.image.specs.BlocksInTurn.{Turns, answered, afterCall, turns}
+use Rattle.whole.specs.Outcome.{accepted, Effect, effect}
+use Rattle.block.specs.Frame.{Playing, playing}
+use Rattle.image.specs.BlocksInTurn.{afterCall, turns}
 use Rattle.image.specs.Reading.{totalIn, blocksIn, lengthIn}
 use Rattle.image.specs.inner.Asked.{AllPlayable}
-use Rattle.image.specs.Playing.{playAnswer, PlayEffect, play}
+use Rattle.image.specs.Playing.{playAnswer, play}
 use Rattle.image.specs.Sameness.{blockSamples, samplesFrom, samplesIn}
 use Rattle.image.specs.WholeImage.{allAnswer, contextAfter, allInto, playAll}
 use Rattle.image.proofs.Joined.{samples-count}
@@ -23,8 +24,8 @@ use Rattle.image.proofs.LawsPlayed.{play-leaves}
 
 module _ (l : List ℕ) (out : List ℤ) (p : AllPlayable l (length out)) where
   -- what those calls leave
-  abbrev stand : ℕ → Turns
-  stand k = record { count = length (samplesFrom l 0 k); context = contextOn l k; out = written l out p k }
+  abbrev stand : ℕ → Effect ℕ Playing
+  stand k = effect (length (samplesFrom l 0 k)) (playing (contextOn l k) (written l out p k))
 
   call : (k : ℕ) → k < blocksIn l → afterCall (stand k) (play l k (drop (length (samplesFrom l 0 k)) (written l out p k))) ≡ stand (suc k)
   unfolding blockSamples contextAfter playInto
@@ -40,19 +41,19 @@ module _ (l : List ℕ) (out : List ℤ) (p : AllPlayable l (length out)) where
   unfolding turns samplesFrom
   calls zero h = refl
   calls (suc k) h =
-      ap (λ (t : Turns). afterCall t (play l k (drop (t .count) (t .out)))) (calls k (omega arith))
+      ap (λ (t : Effect ℕ Playing). afterCall t (play l k (drop (t .outcome) (t .left .samples)))) (calls k (omega arith))
       ∙ call k (omega arith)
 
 -- no call is refused
 pub each-accepted : (l : List ℕ) (out : List ℤ) (k : ℕ) → allAnswer l (length out) ≡ accepted tt → k < blocksIn l
-    → (let t = turns l k out in playAnswer l k (length (drop (t .count) (t .out))) ≡ accepted tt)
+    → (let t = turns l k out in playAnswer l k (length (drop (t .outcome) (t .left .samples))) ≡ accepted tt)
 each-accepted l out k e h =
     let p = all-accepted l (length out) e in
     rw (calls l out p k (omega arith)) (play-accepts l k _ (turn-playable l out p k h))
 
 -- blocks 0 to K−1 by a call of `play` each leave what playing the whole image leaves
 pub all-in-turn : (l : List ℕ) (out : List ℤ) → allAnswer l (length out) ≡ accepted tt
-    → turns l (blocksIn l) out ≡ record { count = totalIn l; context = playAll l out .context; out = playAll l out .out }
+    → turns l (blocksIn l) out ≡ effect (totalIn l) (playAll l out .left)
 unfolding samplesIn
 all-in-turn l out e =
     let p = all-accepted l (length out) e in

@@ -9,35 +9,35 @@ use lib.Dec.{ltb}
 use lib.ListN.{length}
 use Rattle.layout.specs.Limits.{Limits}
 use Rattle.layout.specs.Sizes.{shape, bodiesPlace, lastSamples, blockCount, bodyBytes, imageSize}
-use Rattle.whole.specs.Frames.{framesOf}
+use Rattle.whole.specs.Frames.{frameCount}
 use Rattle.layout.proofs.SizeLaws.{frames-some, frames-le, blocks-most, first-block}
 use Rattle.image.specs.declared.Head.{Head}
 use Rattle.image.specs.Reading.{shapeIn, totalIn, blockIn, headIn}
 use Rattle.image.specs.inner.Asked.{Found, Source, Turn}
 use Rattle.image.specs.inner.ByFrames.{frameSamples, framePlaceIn}
 
-pub count-whole : (n i : ℕ) → i + 1 < framesOf n → frameSamples n i ≡ 14
+pub count-whole : (n i : ℕ) → i + 1 < frameCount n → frameSamples n i ≡ 14
 unfolding frameSamples
-count-whole n i h = rw (lt-ltb (i + 1) (framesOf n) h)
+count-whole n i h = rw (lt-ltb (i + 1) (frameCount n) h)
 
-pub count-last : (n i : ℕ) → framesOf n ≤ i + 1 → frameSamples n i ≡ lastSamples n
+pub count-last : (n i : ℕ) → frameCount n ≤ i + 1 → frameSamples n i ≡ lastSamples n
 unfolding frameSamples
-count-last n i h = rw (le-ltb (i + 1) (framesOf n) h)
+count-last n i h = rw (le-ltb (i + 1) (frameCount n) h)
 
 pub last-most : (n : ℕ) → 1 ≤ n → lastSamples n ≤ 14
-unfolding lastSamples
+unfolding lastSamples frameCount
 last-most n h = frames-some n h .2
 
 -- a frame's count is at most fourteen, and its bytes are within the bodies
-frame-fits : (n i : ℕ) → 1 ≤ n → i < framesOf n → (frameSamples n i ≤ 14) × (16 * i + 2 + frameSamples n i ≤ 2 * bodyBytes n)
-unfolding frameSamples bodyBytes
-frame-fits n i s h = go (ltb (i + 1) (framesOf n)) refl
+frame-fits : (n i : ℕ) → 1 ≤ n → i < frameCount n → (frameSamples n i ≤ 14) × (16 * i + 2 + frameSamples n i ≤ 2 * bodyBytes n)
+unfolding frameSamples bodyBytes frameCount lastSamples
+frame-fits n i s h = go (ltb (i + 1) (frameCount n)) refl
   where
-    go : (t : Bool) → ltb (i + 1) (framesOf n) ≡ t → (cond t 14 (lastSamples n) ≤ 14) × (16 * i + 2 + cond t 14 (lastSamples n) ≤ 2 * (8 * (framesOf n - 1) + 1 + (lastSamples n + 1) / 2))
-    go true e = let q = ltb-true (i + 1) (framesOf n) e in (omega arith, omega arith)
-    go false e = let q = ltb-false (i + 1) (framesOf n) e in (last-most n s, omega arith)
+    go : (t : Bool) → ltb (i + 1) (frameCount n) ≡ t → (cond t 14 (lastSamples n) ≤ 14) × (16 * i + 2 + cond t 14 (lastSamples n) ≤ 2 * (8 * (frameCount n - 1) + 1 + (lastSamples n + 1) / 2))
+    go true e = let q = ltb-true (i + 1) (frameCount n) e in (omega arith, omega arith)
+    go false e = let q = ltb-false (i + 1) (frameCount n) e in (last-most n s, omega arith)
 
-pub count-most : (n i : ℕ) → 1 ≤ n → i < framesOf n → frameSamples n i ≤ 14
+pub count-most : (n i : ℕ) → 1 ≤ n → i < frameCount n → frameSamples n i ≤ 14
 count-most n i s h = frame-fits n i s h .0
 
 -- what is known of frame i's place
@@ -50,7 +50,7 @@ pub record Placed (l : List ℕ) (i : ℕ) : Type 0 where
 
 module _ (l : List ℕ) (block bodies i : ℕ) (s : Source l block bodies i) where
   pub placed : Placed l i
-  unfolding framePlaceIn imageSize
+  unfolding framePlaceIn imageSize blockCount bodyBytes frameCount lastSamples
   placed =
       let L = s .opens .head .limits in
       let z = s .opens .head .size in

@@ -10,7 +10,7 @@ use Rattle.block.specs.Frame.{Playing, playing}
 use Rattle.block.specs.inner.Frames.{playFrame}
 use Rattle.block.proofs.LawsPlay.{onto, frame-onto, frame-count}
 use Rattle.layout.specs.Sizes.{lastSamples, blockCount}
-use Rattle.whole.specs.Frames.{framesOf}
+use Rattle.whole.specs.Frames.{frameCount}
 use Rattle.layout.proofs.SizeLaws.{blocks-all, frames-some, block-first}
 use Rattle.image.specs.Reading.{shapeIn, totalIn, blockIn, coefficientsIn}
 use Rattle.image.specs.inner.Asked.{Opens, Found}
@@ -32,28 +32,28 @@ samples-snoc l j (suc k) t e =
 
 module _ (l : List ℕ) (o : Opens l) where
   -- the frames of the first j blocks
-  frames-blocks : (j : ℕ) → j ≤ blockCount (shapeIn l) → framesIn l (min (j * (blockIn l / 8)) (framesOf (totalIn l))) .samples ≡ samplesFrom l 0 j
+  frames-blocks : (j : ℕ) → j ≤ blockCount (shapeIn l) → framesIn l (min (j * (blockIn l / 8)) (frameCount (totalIn l))) .samples ≡ samplesFrom l 0 j
   unfolding framesIn samplesFrom
   frames-blocks zero h =
-      let z : min (0 * (blockIn l / 8)) (framesOf (totalIn l)) ≡ 0 = omega arith in
+      let z : min (0 * (blockIn l / 8)) (frameCount (totalIn l)) ≡ 0 = omega arith in
       ap (λ (x : ℕ). framesIn l x .samples) z
   frames-blocks (suc j) h =
       let L = o .head .limits in
       let f : Found l j = record { opens = o; block = omega arith } in
       let s = block-shape (shapeIn l) L j (f .block) in
       let b = block-first (shapeIn l) j L (f .block) in
-      let e : min (j * (blockIn l / 8)) (framesOf (totalIn l)) ≡ j * (blockIn l / 8) = omega arith in
+      let e : min (j * (blockIn l / 8)) (frameCount (totalIn l)) ≡ j * (blockIn l / 8) = omega arith in
       ap (λ (x : ℕ). framesIn l x .samples) (s .ends)
       ∙ block-frames l j f
       ∙ ap (λ (x : List ℤ). x ++ blockSamples l j) (ap (λ (x : ℕ). framesIn l x .samples) (sym e) ∙ frames-blocks j (omega arith))
       ∙ sym (samples-snoc l 0 j j (omega arith))
 
   -- all the frames in turn are the blocks 0 to K−1 in turn
-  pub frames-all : framesIn l (framesOf (totalIn l)) .samples ≡ samplesIn l
+  pub frames-all : framesIn l (frameCount (totalIn l)) .samples ≡ samplesIn l
   unfolding samplesIn
   frames-all =
       let c = blocks-all (shapeIn l) (o .head .limits) in
-      let e : framesOf (totalIn l) ≡ min (blockCount (shapeIn l) * (blockIn l / 8)) (framesOf (totalIn l)) = omega arith in
+      let e : frameCount (totalIn l) ≡ min (blockCount (shapeIn l) * (blockIn l / 8)) (frameCount (totalIn l)) = omega arith in
       ap (λ (x : ℕ). framesIn l x .samples) e
       ∙ frames-blocks (blockCount (shapeIn l)) (omega arith)
       ∙ ap (samplesFrom l 0) (sym (o .head .blocks))
@@ -67,7 +67,8 @@ turnOf l i = playFrame l (framePlaceIn l i) (frameSamples (totalIn l) i) (coeffi
 pub frames-grow : (l : List ℕ) (i : ℕ) → framesIn l (suc i) ≡ onto (framesIn l i .samples) (turnOf l i)
 frames-grow l i =
     frames-next l i
-    ∙ ap (λ (xs : List ℤ). playFrame l (framePlaceIn l i) (frameSamples (totalIn l) i) (coefficientsIn l) (playing (contextBefore l i (framesIn l i .context)) xs)) (sym (append-nil (framesIn l i .samples)))
+    ∙ ap (λ (xs : List ℤ). playFrame l (framePlaceIn l i) (frameSamples (totalIn l) i) (coefficientsIn l) (playing (contextBefore l i (framesIn l i .context)) xs))
+    (sym (append-nil (framesIn l i .samples)))
     ∙ frame-onto l (framePlaceIn l i) (frameSamples (totalIn l) i) (coefficientsIn l) (framesIn l i .samples) (playing (contextBefore l i (framesIn l i .context)) [])
 
 pub turn-count : (l : List ℕ) (i : ℕ) → length (turnOf l i .samples) ≡ frameSamples (totalIn l) i
@@ -79,7 +80,8 @@ frames-more l i =
     ∙ frame-count l (framePlaceIn l i) (frameSamples (totalIn l) i) (coefficientsIn l) (playing (contextBefore l i (framesIn l i .context)) (framesIn l i .samples))
 
 -- the samples of earlier frames stand before those of later ones
-pub frames-prefix : (l : List ℕ) (i d : ℕ) → (take (length (framesIn l i .samples)) (framesIn l (d + i) .samples) ≡ framesIn l i .samples) × (length (framesIn l i .samples) ≤ length (framesIn l (d + i) .samples))
+pub frames-prefix : (l : List ℕ) (i d : ℕ) → (take (length (framesIn l i .samples)) (framesIn l (d + i) .samples) ≡ framesIn l i .samples)
+    × (length (framesIn l i .samples) ≤ length (framesIn l (d + i) .samples))
 frames-prefix l i zero =
     let z : 0 + i ≡ i = omega arith in
     (rw z (take-length (framesIn l i .samples)), rw z (omega arith))
@@ -93,7 +95,7 @@ frames-prefix l i (suc d) =
 
 -- ---- counts
 
-pub frames-before : (l : List ℕ) (i : ℕ) → i < framesOf (totalIn l) → length (framesIn l i .samples) ≡ 14 * i
+pub frames-before : (l : List ℕ) (i : ℕ) → i < frameCount (totalIn l) → length (framesIn l i .samples) ≡ 14 * i
 unfolding framesIn
 frames-before l zero h = refl
 frames-before l (suc i) h =
@@ -104,12 +106,12 @@ frames-before l (suc i) h =
 
 -- the samples of an image that opens are N
 pub samples-count : (l : List ℕ) → Opens l → length (samplesIn l) ≡ totalIn l
-unfolding lastSamples
+unfolding lastSamples frameCount
 samples-count l o =
     let n = totalIn l in
     let s = frames-some n (o .head .limits .some) in
-    let e : framesOf n ≡ suc (framesOf n - 1) = omega arith in
-    let c = count-last n (framesOf n - 1) (omega arith) in
-    let m = frames-more l (framesOf n - 1) in
-    let r = frames-before l (framesOf n - 1) (omega arith) in
+    let e : frameCount n ≡ suc (frameCount n - 1) = omega arith in
+    let c = count-last n (frameCount n - 1) (omega arith) in
+    let m = frames-more l (frameCount n - 1) in
+    let r = frames-before l (frameCount n - 1) (omega arith) in
     ap length (sym (frames-all l o)) ∙ ap (λ (x : ℕ). length (framesIn l x .samples)) e ∙ m ∙ omega (arith, s, c, r)

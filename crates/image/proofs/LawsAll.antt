@@ -12,21 +12,22 @@ use lib.Seq.{sets, sets-eq, length-sets, take-all, take-append-seam, drop-append
 use Rattle.block.specs.declared.FrameContext.{FrameContext}
 use Rattle.block.specs.Address.{addressToSample}
 use Rattle.block.specs.Context.{newContext}
-use Rattle.block.specs.Frame.{Lent, lent}
+use Rattle.block.specs.Frame.{Playing, playing}
 use Rattle.block.specs.Play.{playInto}
 use Rattle.block.specs.Refusals.{lowestPair}
 use Rattle.layout.specs.Sizes.{blockCount}
-use Rattle.whole.specs.Frames.{framesOf}
+use Rattle.whole.specs.Frames.{frameCount}
 use Rattle.layout.proofs.SizeLaws.{frames-some, blocks-all}
-use Rattle.whole.specs.Outcome.{Outcome, accepted, refused}
+use Rattle.whole.specs.Outcome.{Outcome, accepted, refused, Effect, effect}
 use Rattle.whole.proofs.Outcomes.{failed}
 use Rattle.image.specs.Opening.{openAnswer}
 use Rattle.image.specs.Reading.{shapeIn, totalIn, blockIn, blocksIn, coefficientsIn, lengthIn}
 use Rattle.image.specs.inner.Asked.{Opens, Found, Playable, AllPlayable}
 use Rattle.image.specs.Bodies.{bodyIn}
-use Rattle.image.specs.Playing.{contextIn, PlayEffect, playEffect, roomAnswer}
+use Rattle.image.specs.Playing.{contextIn, roomAnswer}
+use Rattle.image.specs.inner.Played.{playAllBy}
 use Rattle.image.specs.Sameness.{blockSamples, samplesFrom, samplesIn, compareAnswer}
-use Rattle.image.specs.WholeImage.{allAnswer, contextAfter, allInto, playAll, playAllBy}
+use Rattle.image.specs.WholeImage.{allAnswer, contextAfter, allInto, playAll}
 use Rattle.image.proofs.OpenImages.{opened, opens}
 use Rattle.image.proofs.Joined.{samples-snoc, samples-count}
 use Rattle.image.proofs.LawsBody.{room-accepted, room-accepts, and-then}
@@ -35,14 +36,14 @@ use Rattle.image.proofs.LawsPlayed.{block-count}
 -- ---- what an accepted call tells
 
 pub all-accepted : (l : List ℕ) (room : ℕ) → allAnswer l room ≡ accepted tt → AllPlayable l room
-unfolding allAnswer
+unfolding allAnswer roomAnswer
 all-accepted l room p =
     let a = and-then (openAnswer l) _ p in
     let r = room-accepted (coefficientsIn l) (totalIn l) room (a .1) in
     record { opens = opened l (a .0); pairs = r .0; enough = r .1 }
 
 pub all-accepts : (l : List ℕ) (room : ℕ) → AllPlayable l room → allAnswer l room ≡ accepted tt
-unfolding allAnswer
+unfolding allAnswer roomAnswer
 all-accepts l room p = rw (opens l (p .opens), room-accepts (coefficientsIn l) (totalIn l) room (p .pairs) (p .enough))
 
 -- ---- runs of stores from the start
@@ -59,7 +60,13 @@ module _ {A : Type 0} where
   part-sets l u v h =
       let d = length-drop (length u) l in
       let n = length-append u v in
-      rw (spread u l (omega arith), take-append-seam u (drop (length u) l), drop-append-seam u (drop (length u) l), spread v (drop (length u) l) (omega (arith, d, h)), drop-drop (length v) (length u) l)
+      rw (
+        spread u l (omega arith),
+        take-append-seam u (drop (length u) l),
+        drop-append-seam u (drop (length u) l),
+        spread v (drop (length u) l) (omega (arith, d, h)),
+        drop-drop (length v) (length u) l,
+      )
       (sym (spread (u ++ v) l (omega (arith, n, h)) ∙ rw n (append-assoc u v (drop (length u + length v) l))))
 
   -- a part to the end, beyond which nothing lies
@@ -85,7 +92,7 @@ module _ (l : List ℕ) (o : Opens l) where
   pub blocks-some : 1 ≤ blocksIn l
   blocks-some = go (blockCount (shapeIn l)) (o .head .blocks) (blocks-all (shapeIn l) (o .head .limits))
     where
-      go : (k : ℕ) → blocksIn l ≡ k → framesOf (totalIn l) ≤ k * (blockIn l / 8) → 1 ≤ blocksIn l
+      go : (k : ℕ) → blocksIn l ≡ k → frameCount (totalIn l) ≤ k * (blockIn l / 8) → 1 ≤ blocksIn l
       go zero e h = let s = frames-some (totalIn l) (o .head .limits .some) in omega (arith, s .0, h)
       go (suc k) e h = omega arith
 
@@ -159,22 +166,22 @@ module _ (l : List ℕ) (out : List ℤ) (p : AllPlayable l (length out)) where
       pub place-counted : (s n : ℕ) → s ≡ addressToSample n → n ≡ lengthIn l k → at + s ≡ length (samplesFrom l 0 (k + 1))
       place-counted s n es en = rw (ea, es, en, add-one k) turn-counted
 
-      module _ (after : FrameContext) (ys : List ℤ) (e : lent after ys ≡ playInto (bodyIn l k) (coefficientsIn l) (lengthIn l k) (contextIn l k) (take (length cur - at) (drop at cur))) where
+      module _ (after : FrameContext) (ys : List ℤ) (e : playing after ys ≡ playInto (bodyIn l k) (coefficientsIn l) (lengthIn l k) (contextIn l k) (take (length cur - at) (drop at cur))) where
         pub place-context : after ≡ contextOn l (k + 1)
         unfolding contextAfter playInto
-        place-context = ap (λ (x : Lent). x .context) e ∙ ap (contextOn l) (sym (add-one k))
+        place-context = ap (λ (x : Playing). x .context) e ∙ ap (contextOn l) (sym (add-one k))
 
         pub place-written : take at cur ++ (ys ++ drop (length cur - at) (drop at cur)) ≡ written (k + 1)
         unfolding blockSamples playInto
         place-written =
-            let w : ys ≡ sets (drop at cur) 0 (blockSamples l k) = rw (part-all cur at) at (ap (λ (x : Lent). x .out) e) in
+            let w : ys ≡ sets (drop at cur) 0 (blockSamples l k) = rw (part-all cur at) at (ap (λ (x : Playing). x .samples) e) in
             ap (λ (x : List ℤ). take at cur ++ (ys ++ x)) (part-end cur at)
             ∙ ap (λ (x : List ℤ). take at cur ++ x) (append-nil ys ∙ w)
             ∙ rw (ea, ec) turn-written
             ∙ ap written (sym (add-one k))
 
   -- all of them
-  pub all-written : (k : ℕ) (c : FrameContext) (left : List ℤ) → k ≡ blocksIn l → c ≡ contextOn l k → left ≡ written k → lent c left ≡ allInto l out
+  pub all-written : (k : ℕ) (c : FrameContext) (left : List ℤ) → k ≡ blocksIn l → c ≡ contextOn l k → left ≡ written k → playing c left ≡ allInto l out
   unfolding allInto samplesIn
   all-written zero c left e f g = let s = blocks-some l (p .opens) in absurd (omega (arith, s, e))
   all-written (suc k) c left e f g =
@@ -182,24 +189,24 @@ module _ (l : List ℕ) (out : List ℤ) (p : AllPlayable l (length out)) where
       rw (f, g, z, ← e)
 
   -- an accepted call's effect, with N as it was read
-  pub all-made : (n : ℕ) (x : Lent) → n ≡ totalIn l → x ≡ allInto l out → playEffect (accepted n) x ≡ playAll l out
+  pub all-made : (n : ℕ) (x : Playing) → n ≡ totalIn l → x ≡ allInto l out → effect (accepted n) x ≡ playAll l out
   unfolding playAll
   all-made n x en e = rw (all-accepts l (length out) p, en, e)
 
   -- the same of an image that opens
-  pub opened-made : (n : ℕ) (x : Lent) → n ≡ totalIn l → x ≡ allInto l out
-      → playEffect (accepted n) x ≡ playAllBy (roomAnswer (coefficientsIn l) (totalIn l) (length out)) l out
+  pub opened-made : (n : ℕ) (x : Playing) → n ≡ totalIn l → x ≡ allInto l out
+      → effect (accepted n) x ≡ playAllBy (roomAnswer (coefficientsIn l) (totalIn l) (length out)) l out
   opened-made n x en e = rw (en, e, room-accepts (coefficientsIn l) (totalIn l) (length out) (p .pairs) (p .enough))
 
   -- its answer, and the output after it: the samples, and what stood beyond them
   pub all-answered : playAll l out .outcome ≡ accepted (totalIn l)
-  all-answered = ap (λ (e : PlayEffect). e .outcome) (sym (all-made (totalIn l) (allInto l out) refl refl))
+  all-answered = ap (λ (e : Effect (Outcome ℕ) Playing). e .outcome) (sym (all-made (totalIn l) (allInto l out) refl refl))
 
-  pub all-output : playAll l out .out ≡ samplesIn l ++ drop (totalIn l) out
+  pub all-output : playAll l out .left .samples ≡ samplesIn l ++ drop (totalIn l) out
   unfolding allInto
   all-output =
       let n = samples-count l (p .opens) in
       let e = p .enough in
-      ap (λ (x : PlayEffect). x .out) (sym (all-made (totalIn l) (allInto l out) refl refl))
+      ap (λ (x : Effect (Outcome ℕ) Playing). x .left .samples) (sym (all-made (totalIn l) (allInto l out) refl refl))
       ∙ spread (samplesIn l) out (omega (arith, n, e))
       ∙ ap (λ (k : ℕ). samplesIn l ++ drop k out) n

@@ -18,7 +18,7 @@ use Rattle.block.specs.Refusals.{badLength, lowestPair}
 use Rattle.layout.specs.declared.Shape.{Shape}
 use Rattle.layout.specs.Limits.{Limits}
 use Rattle.layout.specs.Sizes.{bodiesPlace, lastSamples, blockCount, bodyBytes, imageSize, blockOffset, blockLength}
-use Rattle.whole.specs.Frames.{framesOf}
+use Rattle.whole.specs.Frames.{frameCount}
 use Rattle.layout.proofs.SizeLaws.{block-place, block-first}
 use Rattle.whole.specs.Outcome.{Outcome, accepted, refused}
 use Rattle.image.specs.Reading.{shapeIn, totalIn, blockIn, blocksIn, coefficientsIn, offsetIn, lengthIn, headerIn, newestIn, olderIn}
@@ -32,8 +32,8 @@ use Rattle.image.proofs.Places.{Within, within}
 
 -- ---- where a body ends
 
-last-some : (m : ℕ) → 1 ≤ m → 14 * (framesOf m - 1) < m
-unfolding framesOf
+last-some : (m : ℕ) → 1 ≤ m → 14 * (frameCount m - 1) < m
+unfolding frameCount
 last-some m i = omega arith
 
 module _ (s : Shape) (k : ℕ) (L : Limits s) (h : k < blockCount s) where
@@ -43,15 +43,15 @@ module _ (s : Shape) (k : ℕ) (L : Limits s) (h : k < blockCount s) where
 
   -- a body ends within the image, at its end where the block is the last
   pub body-end : blockOffset s k + (blockLength s k + 1) / 2 ≤ imageSize s
-  unfolding blockOffset blockLength imageSize bodyBytes
-  body-end = go (ltb (first + s .block / 8) (framesOf (s .total))) refl
+  unfolding blockOffset blockLength imageSize bodyBytes blockCount frameCount lastSamples
+  body-end = go (ltb (first + s .block / 8) (frameCount (s .total))) refl
     where
-      go : (t : Bool) → ltb (first + s .block / 8) (framesOf (s .total)) ≡ t
-          → bodiesPlace s + k * s .block + (cond t (16 * (s .block / 8)) (16 * (framesOf (s .total) - 1 - first) + (lastSamples (s .total) + 2)) + 1) / 2
-          ≤ bodiesPlace s + (8 * (framesOf (s .total) - 1) + 1 + (lastSamples (s .total) + 1) / 2)
+      go : (t : Bool) → ltb (first + s .block / 8) (frameCount (s .total)) ≡ t
+          → bodiesPlace s + k * s .block + (cond t (16 * (s .block / 8)) (16 * (frameCount (s .total) - 1 - first) + (lastSamples (s .total) + 2)) + 1) / 2
+          ≤ bodiesPlace s + (8 * (frameCount (s .total) - 1) + 1 + (lastSamples (s .total) + 1) / 2)
       go true e =
           let p = block-place (s .block) k (L .eights) in
-          let q = ltb-true (first + s .block / 8) (framesOf (s .total)) e in
+          let q = ltb-true (first + s .block / 8) (frameCount (s .total)) e in
           omega arith
       go false e =
           let p = block-place (s .block) k (L .eights) in
@@ -60,10 +60,11 @@ module _ (s : Shape) (k : ℕ) (L : Limits s) (h : k < blockCount s) where
 
   -- a block has at least one sample
   pub length-some : 3 ≤ blockLength s k
-  unfolding blockLength lastSamples
-  length-some = go (ltb (first + s .block / 8) (framesOf (s .total))) refl
+  unfolding blockLength lastSamples frameCount
+  length-some = go (ltb (first + s .block / 8) (frameCount (s .total))) refl
     where
-      go : (t : Bool) → ltb (first + s .block / 8) (framesOf (s .total)) ≡ t → 3 ≤ cond t (16 * (s .block / 8)) (16 * (framesOf (s .total) - 1 - first) + (s .total - 14 * (framesOf (s .total) - 1) + 2))
+      go : (t : Bool) → ltb (first + s .block / 8) (frameCount (s .total)) ≡ t
+          → 3 ≤ cond t (16 * (s .block / 8)) (16 * (frameCount (s .total) - 1 - first) + (s .total - 14 * (frameCount (s .total) - 1) + 2))
       go true e = let w = L .wide in omega arith
       go false e =
           let o = L .some in
@@ -102,14 +103,14 @@ unfolding roomAnswer
 room-accepts cs n room p h = rw (p, le-ltb room n h)
 
 pub play-accepted : (l : List ℕ) (k room : ℕ) → playAnswer l k room ≡ accepted tt → Playable l k room
-unfolding playAnswer
+unfolding playAnswer roomAnswer
 play-accepted l k room p =
     let a = and-then (blockAnswer l k) _ p in
     let r = room-accepted (coefficientsIn l) (addressToSample (lengthIn l k)) room (a .1) in
     record { found = block-accepted l k (a .0); pairs = r .0; enough = r .1 }
 
 pub play-accepts : (l : List ℕ) (k room : ℕ) → Playable l k room → playAnswer l k room ≡ accepted tt
-unfolding playAnswer
+unfolding playAnswer roomAnswer
 play-accepts l k room p = rw (block-accepts l k (p .found), room-accepts (coefficientsIn l) (addressToSample (lengthIn l k)) room (p .pairs) (p .enough))
 
 -- ---- a block that was found

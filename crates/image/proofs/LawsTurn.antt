@@ -11,7 +11,7 @@ use lib.Seq.{sets, sets-eq, length-sets, take-append-seam, drop-append-seam}
 use Rattle.block.specs.declared.FrameContext.{FrameContext}
 use Rattle.block.specs.Frame.{Playing}
 use Rattle.block.specs.Refusals.{equalUpTo}
-use Rattle.whole.specs.Frames.{framesOf}
+use Rattle.whole.specs.Frames.{frameCount}
 use Rattle.image.specs.declared.comparing.Frame.{Frame}
 use Rattle.image.specs.Reading.{totalIn}
 use Rattle.image.specs.inner.Asked.{Opens}
@@ -51,12 +51,12 @@ module _ (l : List ℕ) (i : ℕ) (c : FrameContext) (e : c ≡ framesIn l i .co
 
 module _ (a b : List ℕ) (A : Opens a) (B : Opens b) (t : totalIn a ≡ totalIn b) where
   -- all frames compared
-  pub all-equal : framesIn a (framesOf (totalIn a)) .samples ≡ framesIn b (framesOf (totalIn a)) .samples → true ≡ equalSamples (samplesIn a) (samplesIn b)
+  pub all-equal : framesIn a (frameCount (totalIn a)) .samples ≡ framesIn b (frameCount (totalIn a)) .samples → true ≡ equalSamples (samplesIn a) (samplesIn b)
   all-equal e =
-      let s : samplesIn a ≡ samplesIn b = sym (frames-all a A) ∙ e ∙ ap (λ (n : ℕ). framesIn b (framesOf n) .samples) t ∙ frames-all b B in
+      let s : samplesIn a ≡ samplesIn b = sym (frames-all a A) ∙ e ∙ ap (λ (n : ℕ). framesIn b (frameCount n) .samples) t ∙ frames-all b B in
       sym (ap (equalSamples (samplesIn a)) (sym s) ∙ equal-refl (samplesIn a))
 
-  module _ (i count : ℕ) (lt : i < framesOf (totalIn a)) (n : count ≡ frameSamples (totalIn a) i)
+  module _ (i count : ℕ) (lt : i < frameCount (totalIn a)) (n : count ≡ frameSamples (totalIn a) i)
       (s : framesIn a i .samples ≡ framesIn b i .samples) (xs ys : List ℤ) (ex : xs ≡ over (turnOf a i .samples)) (ey : ys ≡ over (turnOf b i .samples)) where
     few : count ≤ 14
     few = let m = count-most (totalIn a) i (A .head .limits .some) lt in omega arith
@@ -87,11 +87,12 @@ module _ (a b : List ℕ) (A : Opens a) (B : Opens b) (t : totalIn a ≡ totalIn
     -- where all the samples are equal, those of this frame are
     same-turn : samplesIn a ≡ samplesIn b → turnOf a i .samples ≡ turnOf b i .samples
     same-turn e =
-        let F : ℕ = framesOf (totalIn a) in
+        let F : ℕ = frameCount (totalIn a) in
         let d : ℕ = F - suc i in
         let w : d + suc i ≡ F = omega arith in
         let whole : framesIn a (d + suc i) .samples ≡ framesIn b (d + suc i) .samples =
-        ap (λ (k : ℕ). framesIn a k .samples) w ∙ frames-all a A ∙ e ∙ sym (frames-all b B) ∙ ap (λ (k : ℕ). framesIn b (framesOf k) .samples) (sym t) ∙ ap (λ (k : ℕ). framesIn b k .samples) (sym w) in
+        ap (λ (k : ℕ). framesIn a k .samples) w ∙ frames-all a A ∙ e ∙ sym (frames-all b B) ∙ ap (λ (k : ℕ). framesIn b (frameCount k) .samples) (sym t)
+        ∙ ap (λ (k : ℕ). framesIn b k .samples) (sym w) in
         let m : length (framesIn a (suc i) .samples) ≡ length (framesIn b (suc i) .samples) =
         frames-more a i ∙ ap₂ (λ (u v : ℕ). u + v) (ap length s) (ap (λ (k : ℕ). frameSamples k i) t) ∙ sym (frames-more b i) in
         let part : framesIn a (suc i) .samples ≡ framesIn b (suc i) .samples =

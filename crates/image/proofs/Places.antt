@@ -3,12 +3,13 @@ use Prim.Native.Nat.{ℕ, _+_, _-_, _*_, _≤_, _<_}
 use native.Mathlib.Omega.{arith}
 use Rattle.layout.specs.declared.Shape.{Shape}
 use Rattle.layout.specs.Limits.{Limits}
-use Rattle.layout.specs.Sizes.{blockCount, entryPlace, bodiesPlace, bodyBytes, imageSize}
+use Rattle.layout.specs.Sizes.{blockCount, entryPlace, bodiesPlace, bodyBytes, imageSize, lastSamples}
 use Rattle.layout.proofs.SizeLaws.{block-first, block-place, frames-le, blocks-most}
+use Rattle.whole.specs.Frames.{frameCount}
 
 -- a block's first byte is within the bodies
 pub start-body : (s : Shape) (j : ℕ) → Limits s → j < blockCount s → j * s .block < bodyBytes (s .total)
-unfolding bodyBytes
+unfolding bodyBytes frameCount lastSamples
 start-body s j L h =
     let f = block-first s j L h in
     let p = block-place (s .block) j (L .eights) in
@@ -25,7 +26,7 @@ pub record Within (s : Shape) (j len : ℕ) : Type 0 where
 
 -- an entry and its body's first byte are within the image
 pub within : (s : Shape) (j len : ℕ) → Limits s → j < blockCount s → imageSize s ≤ len → Within s j len
-unfolding imageSize bodyBytes
+unfolding imageSize bodyBytes blockCount frameCount lastSamples
 within s j len L h z =
     let a = start-body s j L h in
     let k = blocks-most s L in

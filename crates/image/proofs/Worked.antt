@@ -11,7 +11,7 @@ use Rattle.block.specs.Sample.{decodeSample}
 use Rattle.whole.specs.Whole.{signedNibble, clamp}
 use Rattle.layout.specs.Limits.{numbersOk}
 use Rattle.layout.specs.Sizes.{lastSamples, blockCount, bodyBytes, imageSize, blockOffset, blockLength}
-use Rattle.whole.specs.Frames.{framesOf}
+use Rattle.whole.specs.Frames.{frameCount}
 use Rattle.whole.specs.Outcome.{Outcome, accepted, refused}
 use Rattle.image.specs.Reading.{totalIn, rateIn, blockIn, zeroIn, blocksIn, signedAt, coefficientsUpTo, coefficientsIn, offsetIn, lengthIn, headerIn, newestIn, olderIn, entryZeroIn}
 use Rattle.image.specs.Opening.{markOk, numbersFit, headOk, entryOk, entriesOk, openAnswer}
@@ -29,9 +29,11 @@ clip mark told header =
 
 -- it opens, and plays 8
 pub opens : openAnswer (clip (0x44 ∷ 0x53 ∷ 0x50 ∷ 0x43 ∷ []) 1 1) ≡ accepted tt
-unfolding openAnswer headOk numbersFit markOk entriesOk entryOk totalIn rateIn blockIn zeroIn blocksIn offsetIn lengthIn headerIn entryZeroIn numbersOk framesOf lastSamples blockCount bodyBytes imageSize blockOffset blockLength
+unfolding openAnswer headOk numbersFit markOk entriesOk entryOk totalIn rateIn blockIn zeroIn blocksIn offsetIn lengthIn headerIn entryZeroIn
+    numbersOk frameCount lastSamples blockCount bodyBytes imageSize blockOffset blockLength
 opens = refl
 
 pub plays : samplesIn (clip (0x44 ∷ 0x53 ∷ 0x50 ∷ 0x43 ∷ []) 1 1) ≡ pos 8 ∷ []
-unfolding samplesIn samplesFrom blockSamples bodyIn contextIn blocksIn offsetIn lengthIn headerIn newestIn olderIn coefficientsIn coefficientsUpTo signedAt play playFrom takeHeader takeNibble nextSample nibbleAt pushSample withHeader predictor scale decodeSample signedNibble clamp
+unfolding samplesIn samplesFrom blockSamples bodyIn contextIn blocksIn offsetIn lengthIn headerIn newestIn olderIn coefficientsIn coefficientsUpTo
+    signedAt play playFrom takeHeader takeNibble nextSample nibbleAt pushSample withHeader predictor scale decodeSample signedNibble clamp
 plays = refl

@@ -3,27 +3,16 @@ use mathlib.Core.List.{List, _++_}
 use Prim.Native.Nat.{ℕ, zero, suc, _+_}
 use lib.IntN.{ℤ}
 use lib.ListN.{take, drop}
-use Rattle.whole.specs.Outcome.{Outcome, accepted, refused}
-use Rattle.block.specs.declared.FrameContext.{FrameContext}
+use Rattle.whole.specs.Outcome.{Outcome, valueOr, Effect, effect}
 use Rattle.block.specs.Context.{newContext}
-use Rattle.image.specs.Playing.{PlayEffect, play}
+use Rattle.block.specs.Frame.{Playing, playing}
+use Rattle.image.specs.Playing.{play}
 
--- after some calls: how many samples they answered, the last one's context, and the output
-pub record Turns : Type 0 where
-  pub count : ℕ
-  pub context : FrameContext
-  pub out : List ℤ
-
--- the samples that a call answered
-abbrev pub answered : Outcome ℕ → ℕ
-answered (accepted n) = n
-answered (refused n) = 0
-
--- a call on the output from a place on
-abbrev pub afterCall : Turns → PlayEffect → Turns
-afterCall t e = record { count = t .count + answered (e .outcome); context = e .context; out = take (t .count) (t .out) ++ e .out }
+-- a call on the output from a place on, after others: how many samples they answered, the last one's context, and the output
+abbrev pub afterCall : Effect ℕ Playing → Effect (Outcome ℕ) Playing → Effect ℕ Playing
+afterCall t e = let n = t .outcome in effect (n + valueOr (e .outcome) 0) (playing (e .left .context) (take n (t .left .samples) ++ e .left .samples))
 
 -- the first k blocks, by a call of `play` each
-unfoldable pub turns : List ℕ → ℕ → List ℤ → Turns
-turns l zero out = record { count = 0; context = newContext; out = out }
-turns l (suc k) out = let t = turns l k out in afterCall t (play l k (drop (t .count) (t .out)))
+unfoldable pub turns : List ℕ → ℕ → List ℤ → Effect ℕ Playing
+turns l zero out = effect 0 (playing newContext out)
+turns l (suc k) out = let t = turns l k out in afterCall t (play l k (drop (t .outcome) (t .left .samples)))

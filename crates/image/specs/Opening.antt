@@ -5,7 +5,7 @@ use Prim.Native.Nat.{ℕ, zero, suc}
 use lib.Dec.{eqb, leb}
 use lib.IntN.{pos}
 use lib.ListN.{length, getD, replicate}
-use Rattle.whole.specs.Outcome.{Outcome, accepted, refused}
+use Rattle.whole.specs.Outcome.{Outcome, accepted, refused, ifAccepted, Effect, effect}
 use Rattle.layout.specs.declared.Shape.{Shape}
 use Rattle.layout.specs.Fields.{mark}
 use Rattle.layout.specs.Limits.{numbersOk}
@@ -50,8 +50,7 @@ markOk l = holds l 0 mark
 
 -- "N, rate, B, K or the zero bytes not as in 2 or outside the limits of 1, 4 and 5, or under S bytes"
 unfoldable pub numbersFit : ℕ → ℕ → ℕ → ℕ → ℕ → ℕ → Bool
-numbersFit total rate block kk zeros len =
-    numbersOk 0 total block rate && (eqb kk (blockCount (shape total block)) && (eqb zeros 0 && leb (imageSize (shape total block)) len))
+numbersFit total rate block kk zeros len = numbersOk 0 total block rate && (eqb kk (blockCount (shape total block)) && (eqb zeros 0 && leb (imageSize (shape total block)) len))
 
 -- "under 56 bytes", and the rest
 unfoldable pub headOk : List ℕ → Bool
@@ -61,8 +60,7 @@ headOk l = leb 56 (length l) && (markOk l && numbersFit (totalIn l) (rateIn l) (
 
 -- "an entry's offset, length or zero bytes are not as in 2, or its predictor-and-scale isn't its body's first byte"
 unfoldable pub entryOk : List ℕ → Shape → ℕ → Bool
-entryOk l s j =
-    eqb (offsetIn l j) (blockOffset s j) && (eqb (lengthIn l j) (blockLength s j) && (eqb (entryZeroIn l j) 0 && eqb (headerIn l j) (getD l (blockOffset s j) 0)))
+entryOk l s j = eqb (offsetIn l j) (blockOffset s j) && (eqb (lengthIn l j) (blockLength s j) && (eqb (entryZeroIn l j) 0 && eqb (headerIn l j) (getD l (blockOffset s j) 0)))
 
 -- k entries from block j's on
 unfoldable pub entriesOk : List ℕ → Shape → ℕ → ℕ → Bool
@@ -82,18 +80,6 @@ openAnswer l =
 abbrev pub noHead : Head
 noHead = record { total = 0; rate = 0; block = 0; gain = 0; coefficients = replicate 16 (pos 0); blocks = 0 }
 
--- what opening answers, and the head's values
-pub record OpenEffect : Type 0 where
-  pub outcome : Outcome Unit
-  pub head : Head
-
-abbrev pub openEffect : Outcome Unit → Head → OpenEffect
-openEffect o h = record { outcome = o; head = h }
-
-abbrev pub openBy : Outcome Unit → List ℕ → OpenEffect
-openBy (accepted u) l = openEffect (accepted u) (headIn l)
-openBy (refused n) l = openEffect (refused n) noHead
-
--- an image is opened
-unfoldable pub openImage : List ℕ → OpenEffect
-openImage l = openBy (openAnswer l) l
+-- an image is opened: the outcome, and the head's values
+unfoldable pub openImage : List ℕ → Effect (Outcome Unit) Head
+openImage l = let o = openAnswer l in effect o (ifAccepted o (headIn l) noHead)

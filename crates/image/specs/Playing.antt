@@ -5,11 +5,11 @@ use Prim.Native.Nat.{ℕ}
 use lib.Dec.{ltb}
 use lib.IntN.{ℤ}
 use lib.ListN.{length}
-use Rattle.whole.specs.Outcome.{Outcome, accepted, refused}
+use Rattle.whole.specs.Outcome.{Outcome, accepted, refused, withValues, ifAccepted, Effect, effect}
 use Rattle.block.specs.declared.FrameContext.{FrameContext}
 use Rattle.block.specs.Address.{addressToSample}
 use Rattle.block.specs.Context.{historyWith, contextWith, newContext}
-use Rattle.block.specs.Frame.{Lent, lent}
+use Rattle.block.specs.Frame.{Playing, playing}
 use Rattle.block.specs.Play.{playInto}
 use Rattle.block.specs.Refusals.{lowestPair}
 use Rattle.image.specs.declared.bodies.Entry.{Entry}
@@ -33,7 +33,6 @@ roomAnswer cs n room = cond (lowestPair cs) (refused 13) (cond (ltb room n) (ref
 
 -- codes 15, 16, 17, 13, 14
 unfoldable pub playAnswer : List ℕ → ℕ → ℕ → Outcome Unit
-unfolding roomAnswer
 playAnswer l k room = andThen (blockAnswer l k) (roomAnswer (coefficientsIn l) (addressToSample (lengthIn l k)) room)
 
 -- what an answer of playing says: the sample count, or the refusal's number
@@ -41,21 +40,10 @@ abbrev pub playOutcome : PlayAnswer → Outcome ℕ
 playOutcome (Played n) = accepted n
 playOutcome (Refused r) = refused (code r)
 
--- what playing answers and leaves: the context and the output
-pub record PlayEffect : Type 0 where
-  pub outcome : Outcome ℕ
-  pub context : FrameContext
-  pub out : List ℤ
+-- n samples as they are left in the output; refused, no context and the output unaltered
+abbrev pub played : Outcome Unit → ℕ → Playing → List ℤ → Effect (Outcome ℕ) Playing
+played o n left out = effect (withValues o n) (ifAccepted o left (playing newContext out))
 
-abbrev pub playEffect : Outcome ℕ → Lent → PlayEffect
-playEffect o l = record { outcome = o; context = l .context; out = l .out }
-
--- the block's samples as section 4 plays its body with the entry's length and context; refused, no context and the output unaltered
-abbrev pub playBy : Outcome Unit → List ℕ → ℕ → List ℤ → PlayEffect
-playBy (accepted u) l k out =
-    playEffect (accepted (addressToSample (lengthIn l k))) (playInto (bodyIn l k) (coefficientsIn l) (lengthIn l k) (contextIn l k) out)
-playBy (refused n) l k out = playEffect (refused n) (lent newContext out)
-
--- block k is played
-unfoldable pub play : List ℕ → ℕ → List ℤ → PlayEffect
-play l k out = playBy (playAnswer l k (length out)) l k out
+-- block k is played: its samples as section 4 plays its body with the entry's length and context
+unfoldable pub play : List ℕ → ℕ → List ℤ → Effect (Outcome ℕ) Playing
+play l k out = played (playAnswer l k (length out)) (addressToSample (lengthIn l k)) (playInto (bodyIn l k) (coefficientsIn l) (lengthIn l k) (contextIn l k) out) out

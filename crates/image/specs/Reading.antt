@@ -43,8 +43,7 @@ coefficientsIn l = coefficientsUpTo l 16
 
 -- all the values of a head
 unfoldable pub headIn : List ℕ → Head
-headIn l =
-    record { total = totalIn l; rate = rateIn l; block = blockIn l; gain = gainIn l; coefficients = coefficientsIn l; blocks = blocksIn l }
+headIn l = record { total = totalIn l; rate = rateIn l; block = blockIn l; gain = gainIn l; coefficients = coefficientsIn l; blocks = blocksIn l }
 
 -- N and B say what the shape of the clip is
 abbrev pub shapeIn : List ℕ → Shape

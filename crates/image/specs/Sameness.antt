@@ -4,7 +4,7 @@ use mathlib.Core.List.{List, [], _∷_, _++_}
 use Prim.Native.Nat.{ℕ, zero, suc}
 use lib.Dec.{eqb}
 use lib.IntN.{ℤ}
-use Rattle.whole.specs.Outcome.{Outcome, accepted, refused}
+use Rattle.whole.specs.Outcome.{Outcome, accepted, refused, withValues}
 use Rattle.block.specs.Play as Block
 use Rattle.block.specs.Refusals as Tests
 use Rattle.image.specs.declared.SameAnswer.{SameAnswer}
@@ -52,10 +52,6 @@ sameOutcome Same = accepted true
 sameOutcome Different = accepted false
 sameOutcome (Refused r) = refused (code r)
 
-abbrev pub sameBy : Outcome Unit → Bool → Outcome Bool
-sameBy (accepted u) t = accepted t
-sameBy (refused n) t = refused n
-
 -- "Two images are the same when both open, N is equal and the played samples are equal"
 unfoldable pub same : List ℕ → List ℕ → Outcome Bool
-same a b = sameBy (bothAnswer a b) (sameSound a b)
+same a b = withValues (bothAnswer a b) (sameSound a b)

@@ -57,6 +57,7 @@ pub fn read_entry(image: &[u8], k: usize) -> Entry
 pub(crate) fn find_body<'a>(image: &'a [u8], offset: usize, nibbles: usize) -> &'a [u8]
     requires { ⌜ offset + (nibbles + 1) / 2 ≤ length (now image) ⌝ }
     ensures { λ r. ⌜ now r ≡ take ((nibbles + 1) / 2) (drop offset (now (image .entry))) ⌝ }
+    ensures { λ r. ⌜ r .ptr ≡ (image .entry .ptr .0, image .entry .ptr .1 + offset) ⌝ }
 {
     let end = offset + (nibbles + 1) / 2;
     &image[offset..end]

@@ -8,9 +8,9 @@ use crate::Refusal;
 use crate::entries::entries_ok;
 use crate::heading::head_ok;
 use crate::heading::read_coefficients;
-use crate::heading::shape_of;
 use block::coefficients::lowest_pair;
 use layout::fields::get32;
+use layout::sizes::shape_of;
 
 // Codes 15 and 16.
 pub(crate) fn open_answer(image: &[u8]) -> Answer

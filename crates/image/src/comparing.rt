@@ -3,20 +3,20 @@ ghost use mathlib.Core.Path.{_≡_};
 ghost use Prim.Native.Nat.{_+_, _*_, _≤_, _<_};
 ghost use lib.ListN.{length};
 ghost use Rattle.block.specs.Refusals.{equalUpTo};
-ghost use Rattle.whole.specs.Frames.{framesOf};
+ghost use Rattle.whole.specs.Frames.{frameCount};
 ghost use Rattle.image.specs.inner.Asked.{Opens, Source, Turn, Pair};
 ghost use Rattle.image.specs.inner.ByFrames.{frameSamples, contextBefore, playedFrame, nextFrame};
 ghost use Rattle.image.specs.Sameness.{equalSamples, samplesIn, sameSound};
 use crate::Head;
 use crate::bodies::read_entry;
 use crate::heading::read_head;
-use crate::heading::shape_of;
 use block::FrameContext;
 use block::coefficients::equal;
 use block::play_frame;
 use layout::sizes::bodies_place;
-use layout::sizes::frames;
+use layout::sizes::frame_count;
 use layout::sizes::last_samples;
+use layout::sizes::shape_of;
 use whole::BYTES_PER_FRAME;
 use whole::SAMPLES_PER_FRAME;
 
@@ -28,11 +28,11 @@ pub(crate) struct Frame {
 
 // The samples in frame i of a clip of `total` samples.
 fn frame_samples(total: usize, i: usize) -> usize
-    requires { ⌜ (1 ≤ total) × (total ≤ 14680064) × (i < framesOf total) ⌝ }
+    requires { ⌜ (1 ≤ total) × (total ≤ 14680064) × (i < frameCount total) ⌝ }
     ensures same { λ r. ⌜ r ≡ frameSamples total i ⌝ }
     ensures most { λ r. ⌜ r ≤ 14 ⌝ }
 {
-    let f = frames(total);
+    let f = frame_count(total);
     if i + 1 < f {
         return SAMPLES_PER_FRAME;
     }
@@ -117,7 +117,7 @@ fn equal_frames(a: &[u8], b: &[u8], first: Head, second: Head) -> bool
     ensures { λ r. ⌜ r ≡ equalSamples (samplesIn (now (a .entry))) (samplesIn (now (b .entry))) ⌝ }
 {
     let total = first.total as usize;
-    let f = frames(total);
+    let f = frame_count(total);
     let mut one = FrameContext::new();
     let mut other = FrameContext::new();
     let mut i: usize = 0;

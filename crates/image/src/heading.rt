@@ -3,19 +3,18 @@ ghost use mathlib.Core.Path.{_≡_};
 ghost use Prim.Native.Nat.{_+_, _≤_};
 ghost use lib.ListN.{length};
 ghost use Rattle.layout.specs.Fields.{at16};
-ghost use Rattle.layout.specs.Sizes.{shape};
 ghost use Rattle.image.specs.Reading.{signedAt, coefficientsIn, headIn};
 ghost use Rattle.image.specs.Opening.{markOk, numbersFit, headOk};
 use crate::Head;
 use layout::HEAD_BYTES;
 use layout::MARK;
-use layout::Shape;
 use layout::fields::get16;
 use layout::fields::get32;
 use layout::fields::signed16;
 use layout::limits::numbers_ok;
 use layout::sizes::block_count;
 use layout::sizes::image_size;
+use layout::sizes::shape_of;
 
 // Whether the image starts with the mark.
 fn mark_ok(image: &[u8]) -> bool
@@ -33,17 +32,6 @@ fn mark_ok(image: &[u8]) -> bool
         return false;
     }
     image[3] == m[3]
-}
-
-// The shape of a clip of N samples in blocks of B bytes, with no entries after those of its blocks.
-pub(crate) fn shape_of(total: u32, block: u32) -> Shape
-    ensures { λ r. ⌜ r ≡ shape total block ⌝ }
-{
-    Shape {
-        total: total as usize,
-        block: block as usize,
-        extra: 0,
-    }
 }
 
 // Whether N, rate, B, K and the zero bytes are right, and an image of `len` bytes has all of its bytes.

@@ -1,9 +1,10 @@
 // Reading a clip image: opening, the body of a block, playing, sameness.
 ghost use mathlib.Core.Path.{_≡_};
-ghost use Rattle.block.specs.Frame.{lent};
-ghost use Rattle.image.specs.Opening.{code, outcome, noHead, openEffect, openImage};
-ghost use Rattle.image.specs.Bodies.{blockAnswer, blockBody};
-ghost use Rattle.image.specs.Playing.{playOutcome, playEffect, play};
+ghost use Rattle.block.specs.Frame.{playing};
+ghost use Rattle.image.specs.Opening.{code, outcome, noHead, openImage};
+ghost use Rattle.whole.specs.Outcome.{effect};
+ghost use Rattle.image.specs.Bodies.{blockAnswer, blockPart};
+ghost use Rattle.image.specs.Playing.{playOutcome, play};
 ghost use Rattle.image.specs.Sameness.{sameOutcome, same};
 ghost use Rattle.image.specs.WholeImage.{playAll};
 
@@ -105,7 +106,7 @@ fn no_head() -> Head
 
 // Opens an image: checks its head and its entries, and gives the head's values.
 pub fn open(image: &[u8]) -> Opening
-    ensures { λ r. ⌜ openEffect (outcome (r .answer)) (r .head) ≡ openImage (now (image .entry)) ⌝ }
+    ensures { λ r. ⌜ effect (outcome (r .answer)) (r .head) ≡ openImage (now (image .entry)) ⌝ }
 {
     let answer = open_answer(image);
     match answer {
@@ -144,7 +145,7 @@ pub fn block_answer(image: &[u8], k: u32) -> Answer
 
 // Block k's body, as that part of the image; where `block_answer` refuses, no bytes.
 pub fn block_body<'a>(image: &'a [u8], k: u32) -> &'a [u8]
-    ensures { λ r. ⌜ now r ≡ blockBody (now (image .entry)) k ⌝ }
+    ensures { λ r. ⌜ effect (r .ptr) (now r) ≡ blockPart (image .entry .ptr) (now (image .entry)) k ⌝ }
 {
     let answer = block_answer(image, k);
     match answer {
@@ -158,7 +159,7 @@ pub fn block_body<'a>(image: &'a [u8], k: u32) -> &'a [u8]
 
 // Plays block k of an image to the output.
 pub fn play(image: &[u8], k: u32, out: &mut [i16]) -> Playback
-    ensures { λ r. ⌜ playEffect (playOutcome (r .answer)) (lent (r .context) (now (out .exit))) ≡ play (now (image .entry)) k (now (out .entry)) ⌝ }
+    ensures { λ r. ⌜ effect (playOutcome (r .answer)) (playing (r .context) (now (out .exit))) ≡ play (now (image .entry)) k (now (out .entry)) ⌝ }
 {
     let answer = block_answer(image, k);
     match answer {
@@ -169,7 +170,7 @@ pub fn play(image: &[u8], k: u32, out: &mut [i16]) -> Playback
 
 // Plays a whole image to the output: blocks 0 to K-1 in turn, joined. The table is tested once.
 pub fn play_all(image: &[u8], out: &mut [i16]) -> Playback
-    ensures { λ r. ⌜ playEffect (playOutcome (r .answer)) (lent (r .context) (now (out .exit))) ≡ playAll (now (image .entry)) (now (out .entry)) ⌝ }
+    ensures { λ r. ⌜ effect (playOutcome (r .answer)) (playing (r .context) (now (out .exit))) ≡ playAll (now (image .entry)) (now (out .entry)) ⌝ }
 {
     let answer = open_answer(image);
     match answer {

@@ -3,15 +3,16 @@ ghost use mathlib.Core.Path.{_≡_};
 ghost use lib.ListN.{length};
 ghost use Rattle.block.specs.Address.{addressToSample};
 ghost use Rattle.block.specs.Context.{newContext};
-ghost use Rattle.block.specs.Frame.{lent};
+ghost use Rattle.block.specs.Frame.{playing};
 ghost use Rattle.block.specs.Play.{playInto};
 ghost use Rattle.image.specs.inner.Asked.{Opens, Found, Playable, AllPlayable};
 ghost use Rattle.image.specs.Opening.{outcome, code};
 ghost use Rattle.image.specs.Reading.{totalIn, coefficientsIn, lengthIn};
 ghost use Rattle.image.specs.Bodies.{bodyIn};
-ghost use Rattle.image.specs.Playing.{contextIn, readEntry, roomAnswer, playOutcome, playEffect, playBy};
-ghost use Rattle.image.specs.WholeImage.{allInto, playAllBy};
-ghost use Rattle.whole.specs.Outcome.{refused};
+ghost use Rattle.image.specs.Playing.{contextIn, readEntry, roomAnswer, playOutcome};
+ghost use Rattle.image.specs.inner.Played.{playBy, playAllBy};
+ghost use Rattle.image.specs.WholeImage.{allInto};
+ghost use Rattle.whole.specs.Outcome.{refused, effect};
 use crate::Answer;
 use crate::PlayAnswer;
 use crate::Playback;
@@ -46,7 +47,7 @@ fn play_block(
     out: &mut [i16],
 ) -> FrameContext
     requires { ⌜ Playable (now image) k (length (now out)) × (entry ≡ readEntry (now image) k) × (coefficients ≡ coefficientsIn (now image)) ⌝ }
-    ensures { λ r. ⌜ lent r (now (out .exit)) ≡ playInto (bodyIn (now (image .entry)) k) (coefficientsIn (now (image .entry))) (lengthIn (now (image .entry)) k) (contextIn (now (image .entry)) k) (now (out .entry)) ⌝ }
+    ensures { λ r. ⌜ playing r (now (out .exit)) ≡ playInto (bodyIn (now (image .entry)) k) (coefficientsIn (now (image .entry))) (lengthIn (now (image .entry)) k) (contextIn (now (image .entry)) k) (now (out .entry)) ⌝ }
 {
     let offset = entry.offset as usize;
     let nibbles = entry.nibbles as usize;
@@ -58,7 +59,7 @@ fn play_block(
 // Plays block k of an image that has it.
 pub(crate) fn play_found(image: &[u8], k: usize, out: &mut [i16]) -> Playback
     requires { ⌜ Found (now image) k ⌝ }
-    ensures { λ r. ⌜ playEffect (playOutcome (r .answer)) (lent (r .context) (now (out .exit))) ≡ playBy (roomAnswer (coefficientsIn (now (image .entry))) (addressToSample (lengthIn (now (image .entry)) k)) (length (now (out .entry)))) (now (image .entry)) k (now (out .entry)) ⌝ }
+    ensures { λ r. ⌜ effect (playOutcome (r .answer)) (playing (r .context) (now (out .exit))) ≡ playBy (roomAnswer (coefficientsIn (now (image .entry))) (addressToSample (lengthIn (now (image .entry)) k)) (length (now (out .entry)))) (now (image .entry)) k (now (out .entry)) ⌝ }
 {
     let coefficients = read_coefficients(image);
     let entry = read_entry(image, k);
@@ -79,7 +80,7 @@ pub(crate) fn play_found(image: &[u8], k: usize, out: &mut [i16]) -> Playback
 // Blocks 0 to K-1 in turn to the output, each after the one before: the context after the last.
 fn play_blocks(image: &[u8], coefficients: [i16; 16], out: &mut [i16]) -> FrameContext
     requires { ⌜ AllPlayable (now image) (length (now out)) × (coefficients ≡ coefficientsIn (now image)) ⌝ }
-    ensures { λ r. ⌜ lent r (now (out .exit)) ≡ allInto (now (image .entry)) (now (out .entry)) ⌝ }
+    ensures { λ r. ⌜ playing r (now (out .exit)) ≡ allInto (now (image .entry)) (now (out .entry)) ⌝ }
 {
     let blocks = get32(image, 52) as usize;
     let mut context = FrameContext::new();
@@ -98,7 +99,7 @@ fn play_blocks(image: &[u8], coefficients: [i16; 16], out: &mut [i16]) -> FrameC
 // Plays the whole of an image that opens.
 pub(crate) fn play_opened(image: &[u8], out: &mut [i16]) -> Playback
     requires { ⌜ Opens (now image) ⌝ }
-    ensures { λ r. ⌜ playEffect (playOutcome (r .answer)) (lent (r .context) (now (out .exit))) ≡ playAllBy (roomAnswer (coefficientsIn (now (image .entry))) (totalIn (now (image .entry))) (length (now (out .entry)))) (now (image .entry)) (now (out .entry)) ⌝ }
+    ensures { λ r. ⌜ effect (playOutcome (r .answer)) (playing (r .context) (now (out .exit))) ≡ playAllBy (roomAnswer (coefficientsIn (now (image .entry))) (totalIn (now (image .entry))) (length (now (out .entry)))) (now (image .entry)) (now (out .entry)) ⌝ }
 {
     let coefficients = read_coefficients(image);
     let samples = get32(image, 4) as u64;

@@ -1,6 +1,6 @@
 // Replays a list of calls on two images of which the answers are known. A line of the input is a letter and numbers in hexadecimal digits of
 // lower case, here with their first digit's place. b, f and g put bytes into both images, the first or the second: 1 the bytes' place
-// (four digits), 5 how many (two), 7 the bytes. The others are calls: 1 and 5 the lengths of the two images that are lent (four each), 9 the
+// (four digits), 5 how many (two), 7 the bytes. The others are calls: 1 and 5 the lengths of the two images that are playing (four each), 9 the
 // block's number (eight), 17 the output's length (four). o opens the first image, k finds the body of a block of it, p plays that block, a
 // plays all blocks, s compares the first with the second, r the second with the first. A call is answered by a line: 00 or the refusal's
 // number; then the head's values, the body, the count, the context and the whole output, which has 5A in each byte at first, or 1 where the

@@ -2,7 +2,7 @@
 use mathlib.Core.Bool.{cond}
 use Prim.Native.Nat.{ℕ, _+_, _-_, _*_, _/_}
 use lib.Dec.{ltb}
-use Rattle.whole.specs.Frames.{framesOf}
+use Rattle.whole.specs.Frames.{frameCount}
 use Rattle.layout.specs.declared.Shape.{Shape}
 
 -- a clip of N samples in blocks of B bytes, with no entries after those of its blocks
@@ -11,18 +11,15 @@ shape n b = record { total = n; block = b; extra = 0 }
 
 -- "m = N − 14(F−1) the samples in its last frame"
 unfoldable pub lastSamples : ℕ → ℕ
-unfolding framesOf
-lastSamples n = n - 14 * (framesOf n - 1)
+lastSamples n = n - 14 * (frameCount n - 1)
 
 -- "Blocks K = ⌈8F/B⌉"
 unfoldable pub blockCount : Shape → ℕ
-unfolding framesOf
-blockCount s = (8 * framesOf (s .total) + s .block - 1) / s .block
+blockCount s = (8 * frameCount (s .total) + s .block - 1) / s .block
 
 -- "Body bytes T = 8(F−1) + 1 + ⌈m/2⌉"
 unfoldable pub bodyBytes : ℕ → ℕ
-unfolding framesOf lastSamples
-bodyBytes n = 8 * (framesOf n - 1) + 1 + (lastSamples n + 1) / 2
+bodyBytes n = 8 * (frameCount n - 1) + 1 + (lastSamples n + 1) / 2
 
 -- where block j's entry stands: after the head of 56 bytes, 16 bytes each
 abbrev pub entryPlace : ℕ → ℕ
@@ -34,7 +31,6 @@ bodiesPlace s = entryPlace (blockCount s + s .extra)
 
 -- "Image size S = 56 + 16K + T"
 unfoldable pub imageSize : Shape → ℕ
-unfolding blockCount bodyBytes
 imageSize s = bodiesPlace s + bodyBytes (s .total)
 
 -- "The block size is cut down to a multiple of 8, B"
@@ -43,15 +39,13 @@ cutDown size = size / 8 * 8
 
 -- where block j's body begins: the bodies stand back to back
 unfoldable pub blockOffset : Shape → ℕ → ℕ
-unfolding blockCount
 blockOffset s j = bodiesPlace s + j * s .block
 
 -- "A length is 16 for each whole frame and m + 2 for the last": B / 8 frames in every block but the last
 unfoldable pub blockLength : Shape → ℕ → ℕ
-unfolding framesOf lastSamples
 blockLength s j =
     let per = s .block / 8 in
-    let f = framesOf (s .total) in
+    let f = frameCount (s .total) in
     cond (ltb (j * per + per) f) (16 * per) (16 * (f - 1 - j * per) + (lastSamples (s .total) + 2))
 
 -- where frame q's bytes stand

@@ -1,19 +1,30 @@
 // The sizes of a clip and the places in its image.
 ghost use Prim.Native.Nat.{_≤_, _<_};
 ghost use Rattle.layout.specs.Limits.{Limits};
-ghost use Rattle.layout.specs.Sizes.{lastSamples, blockCount, bodyBytes, bodiesPlace, entryPlace, imageSize, cutDown, blockLength};
+ghost use Rattle.layout.specs.Sizes.{shape, lastSamples, blockCount, bodyBytes, bodiesPlace, entryPlace, imageSize, cutDown, blockLength};
 ghost use mathlib.Core.Path.{_≡_};
-ghost use Rattle.whole.specs.Frames.{framesOf};
+ghost use Rattle.whole.specs.Frames.{frameCount};
 use crate::ENTRY_BYTES;
 use crate::HEAD_BYTES;
 use crate::Shape;
 use whole::BYTES_PER_FRAME;
 use whole::SAMPLES_PER_FRAME;
 
+// The shape of a clip of N samples in blocks of B bytes, with no entries after those of its blocks. It is internal: clip and image call it.
+pub fn shape_of(total: u32, block: u32) -> Shape
+    ensures { λ r. ⌜ r ≡ shape total block ⌝ }
+{
+    Shape {
+        total: total as usize,
+        block: block as usize,
+        extra: 0,
+    }
+}
+
 // Frames of n samples, the last one filled. It is internal: clip and image call it.
-pub fn frames(n: usize) -> usize
+pub fn frame_count(n: usize) -> usize
     requires { ⌜ n ≤ 14680064 ⌝ }
-    ensures same { λ r. ⌜ r ≡ framesOf n ⌝ }
+    ensures same { λ r. ⌜ r ≡ frameCount n ⌝ }
     ensures most { λ r. ⌜ r ≤ 1048576 ⌝ }
 {
     (n + 13) / SAMPLES_PER_FRAME
@@ -25,7 +36,7 @@ pub fn last_samples(total: usize) -> usize
     ensures same { λ r. ⌜ r ≡ lastSamples total ⌝ }
     ensures most { λ r. ⌜ r ≤ 14 ⌝ }
 {
-    total - SAMPLES_PER_FRAME * (frames(total) - 1)
+    total - SAMPLES_PER_FRAME * (frame_count(total) - 1)
 }
 
 // Blocks of a clip. It is internal: clip and image call it.
@@ -35,7 +46,7 @@ pub fn block_count(shape: Shape) -> usize
     ensures most { λ r. ⌜ r ≤ 1048576 ⌝ }
 {
     let block = shape.block;
-    (BYTES_PER_FRAME * frames(shape.total) + block - 1) / block
+    (BYTES_PER_FRAME * frame_count(shape.total) + block - 1) / block
 }
 
 // Bytes of a clip's bodies. It is internal: clip calls it.
@@ -44,7 +55,7 @@ pub fn body_bytes(total: usize) -> usize
     ensures same { λ r. ⌜ r ≡ bodyBytes total ⌝ }
     ensures most { λ r. ⌜ r ≤ 8388608 ⌝ }
 {
-    BYTES_PER_FRAME * (frames(total) - 1) + 1 + (last_samples(total) + 1) / 2
+    BYTES_PER_FRAME * (frame_count(total) - 1) + 1 + (last_samples(total) + 1) / 2
 }
 
 // Where block j's entry stands. It is internal: clip, image and doilycairn call it.
@@ -86,7 +97,7 @@ pub fn block_length(shape: Shape, j: usize) -> usize
 {
     let per = shape.block / BYTES_PER_FRAME;
     let total = shape.total;
-    let f = frames(total);
+    let f = frame_count(total);
     let first = j * per;
     if first + per < f {
         return 16 * per;

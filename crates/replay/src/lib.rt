@@ -5,14 +5,14 @@ ghost use lib.Seq.{sets};
 ghost use lib.ListN.{length};
 ghost use Rattle.replay.specs.Digits.{digit, byte, word, doubleWord, quadWord, sampleAt, samplesAt, least, beginning, ending, floatBits};
 
-// The smaller of two numbers.
+// internal: the smaller of two numbers.
 pub fn least(a: usize, b: usize) -> usize
     ensures { λ r. ⌜ (r ≤ a) × (r ≤ b) × (r ≡ least a b) ⌝ }
 {
     if a < b { a } else { b }
 }
 
-// The number of a hexadecimal digit: 0 to 9 for the characters 48 to 57, 10 to 15 for the characters 97 to 102.
+// internal: the number of a hexadecimal digit: 0 to 9 for the characters 48 to 57, 10 to 15 for the characters 97 to 102.
 pub fn digit(c: u8) -> u8
     ensures value { λ r. ⌜ r ≡ digit c ⌝ }
     ensures below { λ r. ⌜ r < 16 ⌝ }
@@ -89,7 +89,7 @@ pub fn add_samples(line: &[u8], at: usize, count: usize, piece: &mut [i16], pend
     end
 }
 
-// The pattern of a float, one and the same for every NaN.
+// internal: the pattern of a float, one and the same for every NaN.
 pub fn float_bits(x: f64) -> u64
     ensures { λ r. ⌜ r ≡ floatBits x ⌝ }
 {

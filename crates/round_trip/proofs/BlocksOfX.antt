@@ -13,7 +13,7 @@ use lib.Seq.{take-all, getD-append-add, length-take-le, getD-take}
 use Rattle.block.specs.Frame.{playing}
 use Rattle.block.specs.Play.{play}
 use Rattle.layout.specs.Sizes.{shape, bodiesPlace, lastSamples, blockCount, bodyBytes, blockOffset, blockLength}
-use Rattle.whole.specs.Frames.{framesOf}
+use Rattle.whole.specs.Frames.{frameCount}
 use Rattle.layout.specs.Fields.{mark}
 use Rattle.layout.specs.Limits.{Limits}
 use Rattle.clip.specs.Image.{startShape}
@@ -27,38 +27,39 @@ use Rattle.round_trip.proofs.FramesPlayed.{Audible, Holding, soundFrom,
 -- ---- the frames of a block
 
 -- a frame's first byte is among the bodies
-pub frame-place : (n q : ℕ) → q < framesOf n → 8 * q + 0 < bodyBytes n
-unfolding bodyBytes
+pub frame-place : (n q : ℕ) → q < frameCount n → 8 * q + 0 < bodyBytes n
+unfolding bodyBytes frameCount lastSamples
 frame-place n q h = omega arith
 
 -- whole frames before the last one of block j, and the samples of that last one
 unfoldable pub wholes : ℕ → ℕ → ℕ → ℕ
-wholes n b j = cond (ltb (j * (b / 8) + b / 8) (framesOf n)) (b / 8 - 1) (framesOf n - 1 - j * (b / 8))
+wholes n b j = cond (ltb (j * (b / 8) + b / 8) (frameCount n)) (b / 8 - 1) (frameCount n - 1 - j * (b / 8))
 
 unfoldable pub ending : ℕ → ℕ → ℕ → ℕ
-ending n b j = cond (ltb (j * (b / 8) + b / 8) (framesOf n)) 14 (lastSamples n)
+ending n b j = cond (ltb (j * (b / 8) + b / 8) (frameCount n)) 14 (lastSamples n)
 
 last-few : (n : ℕ) → lastSamples n ≤ 14
-unfolding lastSamples framesOf
+unfolding lastSamples frameCount
 last-few n = omega arith
 
-body-is : (n : ℕ) → bodyBytes n ≡ 8 * (framesOf n - 1) + (lastSamples n + 3) / 2
-unfolding bodyBytes
+body-is : (n : ℕ) → bodyBytes n ≡ 8 * (frameCount n - 1) + (lastSamples n + 3) / 2
+unfolding bodyBytes frameCount lastSamples
 body-is n = omega arith
 
 module _ (n b j : ℕ) (L : Limits (shape n b)) (few : j < blockCount (shape n b)) where
   -- what block j is, where another comes after it and where it is the last
-  pub block-parts : (blockLength (shape n b) j ≡ 16 * wholes n b j + (ending n b j + 2)) × (ending n b j ≤ 14) × (8 * (j * (b / 8)) + (8 * wholes n b j + (ending n b j + 3) / 2) ≤ bodyBytes n) × (j * (b / 8) + wholes n b j < framesOf n)
-  unfolding blockLength wholes ending
-  block-parts = go (ltb (j * (b / 8) + b / 8) (framesOf n)) refl
+  pub block-parts : (blockLength (shape n b) j ≡ 16 * wholes n b j + (ending n b j + 2)) × (ending n b j ≤ 14) × (8 * (j * (b / 8)) + (8 * wholes n b j + (ending n b j + 3) / 2) ≤ bodyBytes n)
+      × (j * (b / 8) + wholes n b j < frameCount n)
+  unfolding blockLength wholes ending frameCount lastSamples
+  block-parts = go (ltb (j * (b / 8) + b / 8) (frameCount n)) refl
     where
-      go : (t : Bool) → ltb (j * (b / 8) + b / 8) (framesOf n) ≡ t
-          → (cond t (16 * (b / 8)) (16 * (framesOf n - 1 - j * (b / 8)) + (lastSamples n + 2)) ≡ 16 * cond t (b / 8 - 1) (framesOf n - 1 - j * (b / 8)) + (cond t 14 (lastSamples n) + 2))
+      go : (t : Bool) → ltb (j * (b / 8) + b / 8) (frameCount n) ≡ t
+          → (cond t (16 * (b / 8)) (16 * (frameCount n - 1 - j * (b / 8)) + (lastSamples n + 2)) ≡ 16 * cond t (b / 8 - 1) (frameCount n - 1 - j * (b / 8)) + (cond t 14 (lastSamples n) + 2))
           × (cond t 14 (lastSamples n) ≤ 14)
-          × (8 * (j * (b / 8)) + (8 * cond t (b / 8 - 1) (framesOf n - 1 - j * (b / 8)) + (cond t 14 (lastSamples n) + 3) / 2) ≤ bodyBytes n)
-          × (j * (b / 8) + cond t (b / 8 - 1) (framesOf n - 1 - j * (b / 8)) < framesOf n)
+          × (8 * (j * (b / 8)) + (8 * cond t (b / 8 - 1) (frameCount n - 1 - j * (b / 8)) + (cond t 14 (lastSamples n) + 3) / 2) ≤ bodyBytes n)
+          × (j * (b / 8) + cond t (b / 8 - 1) (frameCount n - 1 - j * (b / 8)) < frameCount n)
       go true e =
-          let h = ltb-true (j * (b / 8) + b / 8) (framesOf n) e in
+          let h = ltb-true (j * (b / 8) + b / 8) (frameCount n) e in
           let w = L .wide in
           let m = last-few n in
           (omega arith, omega arith, omega (arith, body-is n), omega arith)
@@ -68,13 +69,13 @@ module _ (n b j : ℕ) (L : Limits (shape n b)) (few : j < blockCount (shape n b
           (refl, m, omega (arith, body-is n), omega arith)
 
 -- the frame of a sample
-pub frame-of : (n i : ℕ) → i < n → i / 14 < framesOf n
-unfolding framesOf
+pub frame-of : (n i : ℕ) → i < n → i / 14 < frameCount n
+unfolding frameCount
 frame-of n i h = omega arith
 
 -- a sample of the last frame
-last-place : (n i : ℕ) → i < n → framesOf n - 1 ≤ i / 14 → (i / 14 ≡ framesOf n - 1) × (i % 14 < lastSamples n)
-unfolding lastSamples framesOf
+last-place : (n i : ℕ) → i < n → frameCount n - 1 ≤ i / 14 → (i / 14 ≡ frameCount n - 1) × (i % 14 < lastSamples n)
+unfolding lastSamples frameCount
 last-place n i h l = (omega arith, omega arith)
 
 -- ---- a block
@@ -94,13 +95,13 @@ module _ (g : Start) (F : Fine g) (xs : List ℤ) (rest : List ℕ) where
   b = g .block
 
   abbrev image : List ℕ
-  image = built g mark xs (framesOf (g .total)) ++ rest
+  image = built g mark xs (frameCount (g .total)) ++ rest
 
   module _ (j : ℕ) (few : j < blockCount (startShape g)) (bytes : List ℕ)
-      (same : (i : ℕ) → i < (blockLength (startShape g) j + 1) / 2 → getD bytes i 0 ≡ getD (built g mark xs (framesOf (g .total)) ++ rest) (blockOffset (startShape g) j + i) 0) where
+      (same : (i : ℕ) → i < (blockLength (startShape g) j + 1) / 2 → getD bytes i 0 ≡ getD (built g mark xs (frameCount (g .total)) ++ rest) (blockOffset (startShape g) j + i) 0) where
     -- its bytes hold its frames
     holds : Holding g xs bytes (j * (g .block / 8)) (8 * wholes (g .total) (g .block) j + (ending (g .total) (g .block) j + 3) / 2)
-    unfolding blockOffset
+    unfolding blockOffset blockCount frameCount
     holds =
         record {
           at = λ i r l h.
@@ -109,7 +110,7 @@ module _ (g : Start) (F : Fine g) (xs : List ℤ) (rest : List ℕ) where
               let e : bodiesPlace (shape n b) + j * b + (8 * i + r) ≡ bodiesPlace (shape n b) + (8 * (j * (b / 8) + i) + r) = omega (arith, block-place b j (F .limits .eights)) in
               same (8 * i + r) (omega (arith, p .0))
               ∙ ap (λ (k : ℕ). getD image k 0) e
-              ∙ body-at g F xs (framesOf n) rest (j * (b / 8) + i) r (omega (arith, p .1, p .3)) l (omega (arith, p .2));
+              ∙ body-at g F xs (frameCount n) rest (j * (b / 8) + i) r (omega (arith, p .1, p .3)) l (omega (arith, p .2));
         }
 
     -- it plays its frames
@@ -131,26 +132,27 @@ blocksSound g xs (suc j) = blocksSound g xs j ++ blockSound g xs j
 
 -- X's reconstruction: all whole frames and the samples of the last one
 unfoldable pub soundOf : Start → List ℤ → List ℤ
-soundOf g xs = soundFrom g xs 0 (framesOf (g .total) - 1) ++ take (lastSamples (g .total)) (encodedAt g xs (framesOf (g .total) - 1) .samples)
+soundOf g xs = soundFrom g xs 0 (frameCount (g .total) - 1) ++ take (lastSamples (g .total)) (encodedAt g xs (frameCount (g .total) - 1) .samples)
 
 module _ (g : Start) (F : Fine g) (xs : List ℤ) where
   -- a block that another comes after
-  block-whole : (j : ℕ) → j * (g .block / 8) + g .block / 8 < framesOf (g .total) → blockSound g xs j ≡ soundFrom g xs (j * (g .block / 8)) (g .block / 8)
+  block-whole : (j : ℕ) → j * (g .block / 8) + g .block / 8 < frameCount (g .total) → blockSound g xs j ≡ soundFrom g xs (j * (g .block / 8)) (g .block / 8)
   unfolding blockSound wholes ending soundFrom
   block-whole j h =
       let q = j * (g .block / 8) in
       let per = g .block / 8 in
       let e : suc (per - 1) ≡ per = omega (arith, F .limits .wide) in
-      let t : take 14 (encodedAt g xs (q + (per - 1)) .samples) ≡ encodedAt g xs (q + (per - 1)) .samples = take-all 14 (encodedAt g xs (q + (per - 1)) .samples) (omega (arith, samples-length g xs (q + (per - 1)))) in
-      rw (lt-ltb (q + per) (framesOf (g .total)) h, t) (ap (soundFrom g xs q) e)
+      let t : take 14 (encodedAt g xs (q + (per - 1)) .samples) ≡ encodedAt g xs (q + (per - 1)) .samples =
+      take-all 14 (encodedAt g xs (q + (per - 1)) .samples) (omega (arith, samples-length g xs (q + (per - 1)))) in
+      rw (lt-ltb (q + per) (frameCount (g .total)) h, t) (ap (soundFrom g xs q) e)
 
   -- the last block
-  block-last : (j : ℕ) → j < blockCount (startShape g) → framesOf (g .total) ≤ j * (g .block / 8) + g .block / 8
+  block-last : (j : ℕ) → j < blockCount (startShape g) → frameCount (g .total) ≤ j * (g .block / 8) + g .block / 8
       → soundFrom g xs 0 (j * (g .block / 8)) ++ blockSound g xs j ≡ soundOf g xs
   unfolding blockSound wholes ending soundOf
   block-last j few h =
       let q = j * (g .block / 8) in
-      let f = framesOf (g .total) in
+      let f = frameCount (g .total) in
       let first = block-first (startShape g) j (F .limits) few in
       let e : q + (f - 1 - q) ≡ f - 1 = omega arith in
       let z : 0 + q ≡ q = zero-add q in
@@ -178,7 +180,7 @@ module _ (g : Start) (F : Fine g) (xs : List ℤ) where
       let kk = blockCount (startShape g) in
       let all = blocks-all (startShape g) (F .limits) in
       let some = frames-some (g .total) (F .limits .some) .0 in
-      let e : suc (kk - 1) ≡ kk = omega (arith, pos-of kk (g .block / 8) (framesOf (g .total)) some all) in
+      let e : suc (kk - 1) ≡ kk = omega (arith, pos-of kk (g .block / 8) (frameCount (g .total)) some all) in
       let s = suc-mul (kk - 1) (g .block / 8) in
       let w = ap (λ (a : ℕ). a * (g .block / 8)) e in
       ap (blocksSound g xs) (sym e)
@@ -191,9 +193,9 @@ module _ (g : Start) (F : Fine g) (xs : List ℤ) where
 
   -- as many samples as X has
   pub sound-count : length (soundOf g xs) ≡ g .total
-  unfolding soundOf lastSamples framesOf
+  unfolding soundOf lastSamples frameCount
   sound-count =
-      let f = framesOf (g .total) - 1 in
+      let f = frameCount (g .total) - 1 in
       let t = length-take-le (lastSamples (g .total)) (encodedAt g xs f .samples) (omega (arith, samples-length g xs f, last-few (g .total))) in
       length-append (soundFrom g xs 0 f) (take (lastSamples (g .total)) (encodedAt g xs f .samples)) ∙ omega (arith, sound-length g xs 0 f, t, F .limits .some)
 
@@ -203,7 +205,7 @@ module _ (g : Start) (F : Fine g) (xs : List ℤ) where
   sound-is i h = go (ltb (i / 14) f) refl
     where
       f : ℕ
-      f = framesOf (g .total) - 1
+      f = frameCount (g .total) - 1
 
       m : ℕ
       m = lastSamples (g .total)
@@ -235,4 +237,5 @@ module _ (g : Start) (F : Fine g) (xs : List ℤ) where
   sound-near A i h p =
       let place : 14 * (i / 14) + i % 14 ≡ i = omega arith in
       let r : i % 14 < 14 = omega arith in
-      rw (sound-is i h) (subst (λ (k : ℕ). natAbs (getD (encodedAt g xs (i / 14) .samples) (i % 14) (pos 0) -ℤ getD xs k (pos 0)) ≤ (3 * 2 ^ (getD (encodedAt g xs (i / 14) .bytes) 0 0 % 16) + 1) / 2) place (sample-near g xs A (i / 14) (i % 14) r p))
+      rw (sound-is i h) (subst (λ (k : ℕ). natAbs (getD (encodedAt g xs (i / 14) .samples) (i % 14) (pos 0) -ℤ getD xs k (pos 0)) ≤
+      (3 * 2 ^ (getD (encodedAt g xs (i / 14) .bytes) 0 0 % 16) + 1) / 2) place (sample-near g xs A (i / 14) (i % 14) r p))

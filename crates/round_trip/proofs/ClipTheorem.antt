@@ -9,29 +9,30 @@ use lib.Ieee.{Float}
 use lib.IntN.{ℤ, pos, natAbs, _-ℤ_}
 use lib.ListN.{length, getD, drop, replicate}
 use Rattle.whole.specs.declared.History.{History}
+use Rattle.frame.specs.Fits.{FitHistory}
 use Rattle.frame.proofs.LawsFrame.{limits-bounded}
 use Rattle.coefficients.specs.Measure.{needed}
-use Rattle.whole.specs.Outcome.{Outcome, accepted}
+use Rattle.whole.specs.Outcome.{Outcome, accepted, ifAccepted, effect}
 use Rattle.coefficients.specs.Runs.{coefficientsOf}
 use Rattle.coefficients.proofs.WholeRuns.{measuring-runs}
 use Rattle.layout.specs.Sizes.{blockCount, imageSize, cutDown}
-use Rattle.whole.specs.Frames.{framesOf}
+use Rattle.whole.specs.Frames.{frameCount}
 use Rattle.layout.specs.Fields.{mark}
 use Rattle.clip.specs.Image.{cut, startShape}
 use Rattle.clip.specs.Encoding.{Left, start}
 use Rattle.layout.specs.Sizes.{framePlace}
 use Rattle.clip.specs.Runs as encoded
 use Rattle.clip.specs.declared.starting.Start.{Start}
-use Rattle.clip.specs.Runs.{imageAfter, leftAfter, Call, Plain, plain, plainAfter, leftBy, after}
-use Rattle.clip.proofs.Accepting.{start-accepted}
+use Rattle.clip.specs.Runs.{imageAfter, leftAfter, Call, Plain, plain, plainAfter, after}
+use Rattle.clip.proofs.AcceptedCalls.{start-accepted}
 use Rattle.clip.proofs.ImageByFrames.{Fine, built, image-built}
 use Rattle.round_trip.proofs.FramesPlayed.{Audible}
 use Rattle.round_trip.proofs.BlocksOfX.{sound-count, sound-near, frame-of}
 use Rattle.clip.proofs.WholeRuns.{open-legal, legal-after, start-answered, start-fine, encoding-runs, encoding-states}
 use Rattle.image.specs.Reading.{headIn}
-use Rattle.image.specs.Opening.{openEffect, openBy, openImage}
+use Rattle.image.specs.Opening.{noHead, openImage}
 use Rattle.image.specs.Sameness.{samplesIn}
-use Rattle.round_trip.specs.Job.{Sampled, Starting, joined, measuringCalls, encodingCalls, lastCoefficients, encodingAnswers}
+use Rattle.round_trip.specs.Job.{Sampled, joined, measuringCalls, encodingCalls, lastCoefficients, encodingAnswers}
 use Rattle.round_trip.specs.ClosedClip.{ClosedClip, seen, given, started, Done}
 use Rattle.round_trip.proofs.ImageOpens.{total-is, rate-is, block-is, gain-is, blocks-are, coefficients-are, image-opens}
 use Rattle.round_trip.proofs.ImagePlayed.{all-heard, block-plays, all-plays, header-heard}
@@ -44,14 +45,14 @@ module _ (g : Start) (F : Fine g) (xs : List ℤ) (l : List ℕ) (A : Audible g 
   rest = drop (imageSize (startShape g)) l
 
   abbrev image : List ℕ
-  image = built g mark xs (framesOf (g .total)) ++ rest
+  image = built g mark xs (frameCount (g .total)) ++ rest
 
   opened : openImage image
-      ≡ openEffect (accepted tt)
+      ≡ effect (accepted tt)
       (record { total = g .total; rate = g .rate; block = g .block; gain = g .gain; coefficients = g .coefficients; blocks = blockCount (startShape g) })
   unfolding openImage headIn
   opened =
-      ap (λ (a : Outcome Unit). openBy a image) (image-opens g F xs rest)
+      ap (λ (o : Outcome Unit). effect o (ifAccepted o (headIn image) noHead)) (image-opens g F xs rest)
       ∙ rw (total-is g F xs rest, rate-is g F xs rest, block-is g F xs rest, gain-is g F xs rest, coefficients-are g F xs rest, blocks-are g F xs rest)
 
   near : (i : ℕ) → i < length xs
@@ -61,9 +62,9 @@ module _ (g : Start) (F : Fine g) (xs : List ℤ) (l : List ℕ) (A : Audible g 
       rw (header-heard g F xs rest A (i / 14) (frame-of (g .total) i t), all-heard g F xs rest A) (sound-near g F xs A i t)
 
   outcome : ClosedClip g xs l (leftAfter g rest xs true)
-  unfolding leftAfter
+  unfolding leftAfter encoded.stateAfter imageAfter encoded.passesUpTo encoded.contextAt encoded.bodies encoded.encodedAt encoded.historyAt
   outcome =
-      let e : imageAfter g xs true ≡ built g mark xs (framesOf (g .total)) = image-built g xs true in
+      let e : imageAfter g xs true ≡ built g mark xs (frameCount (g .total)) = image-built g xs true in
       record {
         state = refl;
         image = refl;
@@ -77,8 +78,8 @@ module _ (g : Start) (F : Fine g) (xs : List ℤ) (l : List ℕ) (A : Audible g 
 -- The theorem on closed images. From an accepted start, with any coefficients that starting accepts, take any list of feedings and
 -- closings on its buffer, refused ones included, after which the clip is closed. Then the image is that of the samples accepted; it opens; its
 -- blocks play from their entries, exactly as many samples as were accepted, each within its distance of the original.
-pub closed-image : (g : Start) (l : List ℕ) → length (g .coefficients) ≡ 16 → Starting (g .history) → start g l .outcome ≡ accepted tt → (ks : List Call)
-    → (let m = plainAfter (cut g) (plain [] false) ks in m .closed ≡ true → Sampled (m .samples) → ClosedClip (cut g) (m .samples) l (after (leftBy (start g l)) ks))
+pub closed-image : (g : Start) (l : List ℕ) → length (g .coefficients) ≡ 16 → FitHistory (g .history) → start g l .outcome ≡ accepted tt → (ks : List Call)
+    → (let m = plainAfter (cut g) (plain [] false) ks in m .closed ≡ true → Sampled (m .samples) → ClosedClip (cut g) (m .samples) l (after (start g l .left) ks))
 closed-image g l sixteen hf ok ks closed fits =
     let F = start-fine g l sixteen ok in
     let m = plainAfter (cut g) (plain [] false) ks in
@@ -87,8 +88,8 @@ closed-image g l sixteen hf ok ks closed fits =
     let all = L .all closed in
     let rest = drop (imageSize (startShape (cut g))) l in
     let A : Audible (cut g) (m .samples) =
-    record { bounded = limits-bounded (g .coefficients) (F .within); history = record { newest-fits = hf .0; older-fits = hf .1 }; samples = fits } in
-    let e : after (leftBy (start g l)) ks ≡ leftAfter (cut g) rest (m .samples) true = encoding-states g l sixteen ok ks ∙ ap (leftAfter (cut g) rest (m .samples)) closed in
+    record { bounded = limits-bounded (g .coefficients) (F .within); history = hf; samples = fits } in
+    let e : after (start g l .left) ks ≡ leftAfter (cut g) rest (m .samples) true = encoding-states g l sixteen ok ks ∙ ap (leftAfter (cut g) rest (m .samples)) closed in
     subst (λ (s : Left). ClosedClip (cut g) (m .samples) l s) (sym e) (outcome (cut g) F (m .samples) l A (omega arith))
 
 -- The clip theorem. Take a recording X of 1 to 14,680,064 samples, cut in any way into pieces ps for measuring and in any way into
@@ -98,10 +99,10 @@ closed-image g l sixteen hf ok ks closed fits =
 -- sample in a frame of exponent p below 12 is within ⌊(3 × 2^p + 1) / 2⌋ of its original.
 pub clip-theorem : (ps qs : List (List ℤ)) → joined ps ≡ joined qs → Sampled (joined qs)
     → (store : List Float) → needed (length (joined qs)) ≤ length store
-    → (rate size gain : ℕ) (h : History) → Starting h → (l : List ℕ)
+    → (rate size gain : ℕ) (h : History) → FitHistory h → (l : List ℕ)
     → started ps qs store rate size gain h l .outcome ≡ accepted tt
     → Done ps qs store rate size gain h l
-unfolding framesOf
+unfolding frameCount
 clip-theorem ps qs same fits store room rate size gain h hf l ok =
     let xs = joined qs in
     let cs = lastCoefficients (seen ps qs store rate size gain h l) in
@@ -121,6 +122,6 @@ clip-theorem ps qs same fits store room rate size gain h hf l ok =
       coefficients = c;
       encoded-answers = rw add-one (ap encodingAnswers (encoding-runs g l sixteen ok (encodingCalls qs)) ∙ encoded-answers (cut g) qs [] (omega arith));
       closed =
-          subst (λ (ys : List ℤ). ClosedClip (cut g) ys l (after (leftBy (start g l)) (encodingCalls qs))) z
+          subst (λ (ys : List ℤ). ClosedClip (cut g) ys l (after (start g l .left) (encodingCalls qs))) z
           (closed-image g l sixteen hf ok (encodingCalls qs) (ap (λ (m : Plain). m .closed) a) (subst Sampled (sym z) fits));
     }

@@ -11,7 +11,7 @@ use lib.Seq.{getD-append-add, getD-take}
 use mir.Syntax.{w16}
 use mir.Val.{ofZ}
 use Rattle.layout.specs.declared.Shape.{Shape}
-use Rattle.layout.specs.Sizes.{blockCount, bodyBytes, entryPlace, bodiesPlace, blockOffset, blockLength}
+use Rattle.layout.specs.Sizes.{blockCount, bodyBytes, entryPlace, bodiesPlace, blockOffset, blockLength, lastSamples}
 use Rattle.layout.specs.Fields.{be16, be32, at16, at32, sample16, mark}
 use Rattle.clip.specs.Image.{startShape, coefficientBytes, headBytes, contextBytes, entryBytes, tableBytes}
 use Rattle.clip.specs.declared.starting.Start.{Start}
@@ -19,8 +19,9 @@ use Rattle.clip.specs.Runs.{historyAt, encodedAt, bodies, contextAt}
 use Rattle.clip.proofs.FieldRuns.{coefficient-length}
 use Rattle.round_trip.proofs.EqualParts.{row, row-at}
 use Rattle.clip.proofs.Tables.{table-length}
-use Rattle.clip.proofs.Stable.{encoded-length, bodies-length, context-length}
+use Rattle.clip.proofs.LaterSamples.{encoded-length, bodies-length, context-length}
 use Rattle.clip.proofs.ImageByFrames.{Fine, headed, listed, filled, headed-length, listed-length, filled-length, regroup, built}
+use Rattle.whole.specs.Frames.{frameCount}
 
 -- ---- fields after a known part
 
@@ -68,19 +69,19 @@ module _ (g : Start) (l : List ℕ) (sixteen : length (g .coefficients) ≡ 16) 
   trailing = be16 (g .gain) ++ (0 ∷ 0 ∷ be32 (blockCount (startShape g)))
 
   split : image ≡ leading ++ (coefficientBytes cs ++ (trailing ++ l))
-  unfolding headBytes
+  unfolding headBytes coefficientBytes blockCount frameCount
   split = ap (λ (r : List ℕ). leading ++ r) (append-assoc (coefficientBytes cs) trailing l)
 
   pub head-total : at32 image 4 ≡ g .total
-  unfolding headBytes
+  unfolding headBytes coefficientBytes blockCount frameCount
   head-total = whole32 (g .total)
 
   pub head-rate : at32 image 8 ≡ g .rate
-  unfolding headBytes
+  unfolding headBytes coefficientBytes blockCount frameCount
   head-rate = whole32 (g .rate)
 
   pub head-block : at32 image 12 ≡ g .block
-  unfolding headBytes
+  unfolding headBytes coefficientBytes blockCount frameCount
   head-block = whole32 (g .block)
 
   pub head-coefficient : (i : ℕ) → i < 16 → at16 image (16 + 2 * i) ≡ ofZ w16 (getD cs i (pos 0))
@@ -128,7 +129,7 @@ nested : (a t e r l : List ℕ) → a ++ ((t ++ (e ++ r)) ++ l) ≡ (a ++ t) ++ 
 nested a t e r l = simp append-assoc
 
 bodies-row : (g : Start) (xs : List ℤ) (k : ℕ) → bodies g xs k ≡ row (λ i. encodedAt g xs i .bytes) k
-unfolding bodies row
+unfolding bodies row encodedAt historyAt
 bodies-row g xs zero = refl
 bodies-row g xs (suc k) = ap (λ (l : List ℕ). l ++ encodedAt g xs k .bytes) (bodies-row g xs k)
 
@@ -154,7 +155,7 @@ module _ (g : Start) (F : Fine g) (xs : List ℤ) (k : ℕ) (rest : List ℕ) wh
     context = contextBytes (getD (encodedAt g xs first .bytes) 0 0) (historyAt g xs first)
 
     context-is : contextAt g xs k j ≡ context
-    unfolding contextAt
+    unfolding contextAt encodedAt historyAt
     context-is = rw (lt-ltb (j * (g .block / 8)) k some)
 
     abbrev before : List ℕ
@@ -175,19 +176,20 @@ module _ (g : Start) (F : Fine g) (xs : List ℤ) (k : ℕ) (rest : List ℕ) wh
         let z : 0 + j ≡ j = omega arith in
         let t = tableBytes f s 0 j in
         parts
-        ∙ ap (λ (l : List ℕ). headed g mark ++ (l ++ (filled g xs k ++ rest))) (table-split f s 0 (blockCount s) j few ∙ ap (λ (i : ℕ). t ++ (entryBytes s i (f i) ++ tableBytes f s (suc i) (blockCount s - suc j))) z)
+        ∙ ap (λ (l : List ℕ). headed g mark ++ (l ++ (filled g xs k ++ rest))) (table-split f s 0 (blockCount s) j few
+        ∙ ap (λ (i : ℕ). t ++ (entryBytes s i (f i) ++ tableBytes f s (suc i) (blockCount s - suc j))) z)
         ∙ ap (λ (c : List ℕ). headed g mark ++ ((t ++ (entryBytes s j c ++ tableBytes f s (suc j) (blockCount s - suc j))) ++ (filled g xs k ++ rest))) context-is
         ∙ nested (headed g mark) t (entryBytes s j context) (tableBytes f s (suc j) (blockCount s - suc j)) (filled g xs k ++ rest)
 
     pub entry-offset : at32 all (entryPlace j) ≡ blockOffset (startShape g) j
-    unfolding entryBytes
+    unfolding entryBytes blockOffset blockLength blockCount frameCount lastSamples
     entry-offset =
         ap (λ (l : List ℕ). at32 l (entryPlace j)) at-entry
         ∙ shift32 before (entryBytes (startShape g) j context ++ after) (entryPlace j) 0 (omega (arith, before-length))
         ∙ whole32 (blockOffset (startShape g) j)
 
     pub entry-nibbles : at32 all (entryPlace j + 4) ≡ blockLength (startShape g) j
-    unfolding entryBytes
+    unfolding entryBytes blockOffset blockLength blockCount frameCount lastSamples
     entry-nibbles =
         ap (λ (l : List ℕ). at32 l (entryPlace j + 4)) at-entry
         ∙ shift32 before (entryBytes (startShape g) j context ++ after) (entryPlace j + 4) 4 (omega (arith, before-length))
@@ -199,19 +201,19 @@ module _ (g : Start) (F : Fine g) (xs : List ℤ) (k : ℕ) (rest : List ℕ) wh
         ∙ shift16 before (entryBytes (startShape g) j context ++ after) (entryPlace j + i) i (omega (arith, before-length))
 
     pub entry-header : at16 all (entryPlace j + 8) ≡ getD (encodedAt g xs first .bytes) 0 0
-    unfolding entryBytes
+    unfolding entryBytes blockOffset blockLength blockCount frameCount lastSamples
     entry-header = field 8 ∙ whole16 (getD (encodedAt g xs first .bytes) 0 0)
 
     pub entry-newest : at16 all (entryPlace j + 10) ≡ ofZ w16 (historyAt g xs first .newest)
-    unfolding entryBytes
+    unfolding entryBytes blockOffset blockLength blockCount frameCount lastSamples
     entry-newest = field 10 ∙ whole16 (ofZ w16 (historyAt g xs first .newest))
 
     pub entry-older : at16 all (entryPlace j + 12) ≡ ofZ w16 (historyAt g xs first .older)
-    unfolding entryBytes
+    unfolding entryBytes blockOffset blockLength blockCount frameCount lastSamples
     entry-older = field 12 ∙ whole16 (ofZ w16 (historyAt g xs first .older))
 
     pub entry-zeros : at16 all (entryPlace j + 14) ≡ 0
-    unfolding entryBytes
+    unfolding entryBytes blockOffset blockLength blockCount frameCount lastSamples
     entry-zeros = field 14
 
   -- ---- the bodies

@@ -33,7 +33,8 @@ nibble-same bytes i =
 module _ (cs : List ℤ) (header : ℕ) (h : History) (n : ℕ) where
   -- the sample that a header's pair and scale give
   named : header / 16 ≤ 7
-      → nextSample cs (contextWith header h) n ≡ clamp16 (floored (weigh (c0At cs (header / 16)) (c1At cs (header / 16)) (h .newest) (h .older) +ℤ pos 1024) 2048 +ℤ signedNibble n *ℤ pos (2 ^ (header % 16)))
+      → nextSample cs (contextWith header h) n
+      ≡ clamp16 (floored (weigh (c0At cs (header / 16)) (c1At cs (header / 16)) (h .newest) (h .older) +ℤ pos 1024) 2048 +ℤ signedNibble n *ℤ pos (2 ^ (header % 16)))
   unfolding nextSample sample.decodeSample predictor scale weigh
   named l =
       let e : header / 16 % 8 ≡ header / 16 = omega arith in
@@ -49,7 +50,8 @@ module _ (h : History) (xs : List ℤ) (cs : List ℤ) (b : AllBounded cs) (f : 
 
   -- a sample more
   step : (m : ℕ) → m < 14
-      → takeNibble cs (playing (contextAfter m) (take m (encodeFrame h xs cs .samples))) (played.nibbleAt (encodeFrame h xs cs .bytes) (2 + m)) ≡ playing (contextAfter (suc m)) (take (suc m) (encodeFrame h xs cs .samples))
+      → takeNibble cs (playing (contextAfter m) (take m (encodeFrame h xs cs .samples))) (played.nibbleAt (encodeFrame h xs cs .bytes) (2 + m))
+      ≡ playing (contextAfter (suc m)) (take (suc m) (encodeFrame h xs cs .samples))
   unfolding takeNibble pushSample
   step m l =
       let t = historyAfter h (encodeFrame h xs cs .samples) m in

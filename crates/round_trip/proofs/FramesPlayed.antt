@@ -64,7 +64,7 @@ contextWithin g xs i m =
 
 module _ (g : Start) (xs : List ℤ) where
   pub samples-length : (i : ℕ) → length (encodedAt g xs i .samples) ≡ 14
-  unfolding encodedAt
+  unfolding encodedAt historyAt
   samples-length i = frame-lengths (historyAt g xs i) (frameAt xs i) (g .coefficients) .1
 
   pub sound-length : (q k : ℕ) → length (soundFrom g xs q k) ≡ 14 * k
@@ -73,8 +73,9 @@ module _ (g : Start) (xs : List ℤ) where
   sound-length q (suc k) = length-append (soundFrom g xs q k) (encodedAt g xs (q + k) .samples) ∙ omega (arith, sound-length q k, samples-length (q + k))
 
   -- a frame from its own bytes
-  alone : Audible g xs → (i m : ℕ) → m ≤ 14 → playFrame (encodedAt g xs i .bytes) 0 m (g .coefficients) (playing (contextBefore g xs i) []) ≡ playing (contextWithin g xs i m) (take m (encodedAt g xs i .samples))
-  unfolding encodedAt historyAfter preceded
+  alone : Audible g xs → (i m : ℕ) → m ≤ 14 → playFrame (encodedAt g xs i .bytes) 0 m (g .coefficients) (playing (contextBefore g xs i) [])
+      ≡ playing (contextWithin g xs i m) (take m (encodedAt g xs i .samples))
+  unfolding encodedAt historyAfter preceded historyAt
   alone A i m l = frame-replayed (historyAt g xs i) (frameAt xs i) (g .coefficients) (A .bounded) (history-sampled g xs A i) (frame-sampled g xs A i) m l
 
   -- the history after a whole frame is that before the next
@@ -171,7 +172,7 @@ module _ (g : Start) (xs : List ℤ) where
   -- a reconstructed sample is near its original
   pub sample-near : Audible g xs → (i r : ℕ) → r < 14 → getD (encodedAt g xs i .bytes) 0 0 % 16 < 12
       → natAbs (getD (encodedAt g xs i .samples) r (pos 0) -ℤ getD xs (14 * i + r) (pos 0)) ≤ (3 * 2 ^ (getD (encodedAt g xs i .bytes) 0 0 % 16) + 1) / 2
-  unfolding encodedAt
+  unfolding encodedAt historyAt
   sample-near A i r l p =
       subst (λ (x : ℤ). natAbs (getD (encodedAt g xs i .samples) r (pos 0) -ℤ x) ≤ (3 * 2 ^ (getD (encodedAt g xs i .bytes) 0 0 % 16) + 1) / 2) (frame-at xs i r l)
       (frame-distance (historyAt g xs i) (frameAt xs i) (g .coefficients) (A .bounded) (history-sampled g xs A i) (frame-sampled g xs A i) r l p)

@@ -13,9 +13,9 @@ use mir.ValLaws.{toZ-ofZ}
 use Rattle.frame.specs.Frame.{pairsOk}
 use Rattle.frame.proofs.LawsFrame.{limits-fit}
 use Rattle.layout.specs.Fields.{at16, at32, mark}
-use Rattle.clip.specs.Image.{startShape, headBytes}
-use Rattle.layout.specs.Sizes.{bodiesPlace, blockCount, imageSize, blockOffset}
-use Rattle.whole.specs.Frames.{framesOf}
+use Rattle.clip.specs.Image.{startShape, headBytes, coefficientBytes}
+use Rattle.layout.specs.Sizes.{bodiesPlace, blockCount, imageSize, blockOffset, bodyBytes, lastSamples}
+use Rattle.whole.specs.Frames.{frameCount}
 use Rattle.clip.specs.declared.starting.Start.{Start}
 use Rattle.clip.specs.Runs.{historyAt, encodedAt}
 use Rattle.layout.proofs.SizeLaws.{block-first, block-place}
@@ -34,13 +34,13 @@ use Rattle.image.proofs.OpenImages.{opens}
 
 module _ (g : Start) (F : Fine g) (xs : List ℤ) (rest : List ℕ) where
   abbrev pub image : List ℕ
-  image = built g mark xs (framesOf (g .total)) ++ rest
+  image = built g mark xs (frameCount (g .total)) ++ rest
 
   abbrev tail : List ℕ
-  tail = listed g xs (framesOf (g .total)) ++ (filled g xs (framesOf (g .total)) ++ rest)
+  tail = listed g xs (frameCount (g .total)) ++ (filled g xs (frameCount (g .total)) ++ rest)
 
   parts : image ≡ headBytes mark g ++ tail
-  parts = read.parts g F xs (framesOf (g .total)) rest
+  parts = read.parts g F xs (frameCount (g .total)) rest
 
   pub total-is : totalIn image ≡ g .total
   unfolding totalIn
@@ -67,7 +67,7 @@ module _ (g : Start) (F : Fine g) (xs : List ℤ) (rest : List ℕ) where
   blocks-are = ap (λ (l : List ℕ). at32 l 52) parts ∙ read.head-blocks g tail (F .sixteen)
 
   marked : markOk image ≡ true
-  unfolding markOk headBytes
+  unfolding markOk headBytes coefficientBytes blockCount frameCount
   marked = ap markOk parts
 
   coefficients-upto : (k : ℕ) → k ≤ 16 → coefficientsUpTo image k ≡ take k (g .coefficients)
@@ -87,10 +87,10 @@ module _ (g : Start) (F : Fine g) (xs : List ℤ) (rest : List ℕ) where
   -- ---- head and entries
 
   long : imageSize (startShape g) ≤ length image
-  long = omega (arith, length-append (built g mark xs (framesOf (g .total))) rest, built-length g F mark refl xs (framesOf (g .total)))
+  long = omega (arith, length-append (built g mark xs (frameCount (g .total))) rest, built-length g F mark refl xs (frameCount (g .total)))
 
   head-made : Headed image
-  unfolding imageSize
+  unfolding imageSize blockCount bodyBytes frameCount lastSamples
   head-made =
       record {
         long = omega (arith, long);
@@ -106,29 +106,29 @@ module _ (g : Start) (F : Fine g) (xs : List ℤ) (rest : List ℕ) where
       some r h = omega arith
 
   module _ (j : ℕ) (few : j < blockCount (startShape g)) where
-    first-frame : j * (g .block / 8) < framesOf (g .total)
+    first-frame : j * (g .block / 8) < frameCount (g .total)
     first-frame = block-first (startShape g) j (F .limits) few
 
     pub header-is : headerIn image j ≡ getD (encodedAt g xs (j * (g .block / 8)) .bytes) 0 0
     unfolding headerIn
-    header-is = read.entry-header g F xs (framesOf (g .total)) rest j few first-frame
+    header-is = read.entry-header g F xs (frameCount (g .total)) rest j few first-frame
 
     -- the body's first byte
     first-byte : getD image (blockOffset (startShape g) j) 0 ≡ getD (encodedAt g xs (j * (g .block / 8)) .bytes) 0 0
-    unfolding blockOffset
+    unfolding blockOffset blockCount frameCount
     first-byte =
         let p = block-parts (g .total) (g .block) j (F .limits) few in
         let e : bodiesPlace (startShape g) + j * g .block ≡ bodiesPlace (startShape g) + (8 * (j * (g .block / 8)) + 0) = omega (arith, block-place (g .block) j (F .limits .eights)) in
         ap (λ (k : ℕ). getD image k 0) e
-        ∙ read.body-at g F xs (framesOf (g .total)) rest (j * (g .block / 8)) 0 first-frame (omega arith) (omega (arith, p .2))
+        ∙ read.body-at g F xs (frameCount (g .total)) rest (j * (g .block / 8)) 0 first-frame (omega arith) (omega (arith, p .2))
 
     pub entry-made : EntryFits image (startShape g) j
     unfolding offsetIn lengthIn entryZeroIn
     entry-made =
         record {
-          offset = read.entry-offset g F xs (framesOf (g .total)) rest j few first-frame;
-          nibbles = read.entry-nibbles g F xs (framesOf (g .total)) rest j few first-frame;
-          zeros = read.entry-zeros g F xs (framesOf (g .total)) rest j few first-frame;
+          offset = read.entry-offset g F xs (frameCount (g .total)) rest j few first-frame;
+          nibbles = read.entry-nibbles g F xs (frameCount (g .total)) rest j few first-frame;
+          zeros = read.entry-zeros g F xs (frameCount (g .total)) rest j few first-frame;
           header = header-is ∙ sym first-byte;
         }
 
@@ -138,8 +138,8 @@ module _ (g : Start) (F : Fine g) (xs : List ℤ) (rest : List ℕ) where
     context-is A =
         let h = historyAt g xs (j * (g .block / 8)) in
         let f = history-sampled g xs A (j * (g .block / 8)) in
-        let n = ap (toZ w16) (read.entry-newest g F xs (framesOf (g .total)) rest j few first-frame) ∙ toZ-ofZ w16 (h .newest) (f .newest-fits) in
-        let o = ap (toZ w16) (read.entry-older g F xs (framesOf (g .total)) rest j few first-frame) ∙ toZ-ofZ w16 (h .older) (f .older-fits) in
+        let n = ap (toZ w16) (read.entry-newest g F xs (frameCount (g .total)) rest j few first-frame) ∙ toZ-ofZ w16 (h .newest) (f .newest-fits) in
+        let o = ap (toZ w16) (read.entry-older g F xs (frameCount (g .total)) rest j few first-frame) ∙ toZ-ofZ w16 (h .older) (f .older-fits) in
         rw (header-is, n, o)
 
   pub image-made : Opens image

@@ -15,7 +15,7 @@ use Rattle.block.specs.Frame.{Playing}
 use Rattle.block.specs.Play as Block
 use Rattle.block.specs.Refusals.{equal, lowestAmong, lowestPair}
 use Rattle.layout.specs.Sizes.{bodiesPlace, blockCount, blockLength}
-use Rattle.whole.specs.Frames.{framesOf}
+use Rattle.whole.specs.Frames.{frameCount}
 use Rattle.layout.specs.Sizes.{framePlace}
 use Rattle.clip.specs.Image.{startShape}
 use Rattle.clip.specs.declared.starting.Start.{Start}
@@ -24,11 +24,11 @@ use Rattle.clip.proofs.ImageByFrames.{Fine}
 use Rattle.round_trip.proofs.FieldsReadBack as read
 use Rattle.round_trip.proofs.FramesPlayed.{Audible}
 use Rattle.round_trip.proofs.BlocksOfX.{blockSound, blocksSound, soundOf, block-played, all-blocks, frame-place}
-use Rattle.whole.specs.Outcome.{accepted}
+use Rattle.whole.specs.Outcome.{Outcome, accepted, Effect}
 use Rattle.image.specs.Reading.{coefficientsIn, offsetIn, lengthIn}
 use Rattle.image.specs.Bodies.{bodyIn}
 use Rattle.image.specs.inner.Asked.{Found, Playable, AllPlayable}
-use Rattle.image.specs.Playing.{PlayEffect, contextIn, play}
+use Rattle.image.specs.Playing.{contextIn, play}
 use Rattle.image.specs.Sameness.{blockSamples, samplesFrom, samplesIn}
 use Rattle.image.specs.WholeImage.{playAll}
 use Rattle.image.proofs.Joined.{samples-snoc}
@@ -68,7 +68,8 @@ module _ (g : Start) (F : Fine g) (xs : List ℤ) (rest : List ℕ) (A : Audible
   block-heard j few =
       let e = entry-made g F xs rest j few in
       let bytes = take ((lengthIn l j + 1) / 2) (drop (offsetIn l j) l) in
-      let at : (i : ℕ) → i < (blockLength (startShape g) j + 1) / 2 → getD bytes i 0 ≡ getD l (offsetIn l j + i) 0 = λ i h. part-at l (offsetIn l j) ((lengthIn l j + 1) / 2) i (omega (arith, e .nibbles)) in
+      let at : (i : ℕ) → i < (blockLength (startShape g) j + 1) / 2 → getD bytes i 0
+      ≡ getD l (offsetIn l j + i) 0 = λ i h. part-at l (offsetIn l j) ((lengthIn l j + 1) / 2) i (omega (arith, e .nibbles)) in
       let p = block-played g F xs rest j few bytes (λ i h. at i h ∙ ap (λ (o : ℕ). getD l (o + i) 0) (e .offset)) A in
       ap₂ (λ (cs : List ℤ) (n : ℕ). Block.play bytes cs n (contextIn l j) .samples) (coefficients-are g F xs rest) (e .nibbles)
       ∙ ap (λ (c : _). Block.play bytes (g .coefficients) (blockLength (startShape g) j) c .samples) (context-is g F xs rest j few A)
@@ -93,26 +94,26 @@ module _ (g : Start) (F : Fine g) (xs : List ℤ) (rest : List ℕ) (A : Audible
   -- a block plays to an output with enough room
   pub block-plays : (k : ℕ) (out : List ℤ) → k < blockCount (startShape g)
       → (let n = addressToSample (blockLength (startShape g) k) in
-      n ≤ length out → (play l k out .outcome ≡ accepted n) × (length (blockSamples l k) ≡ n) × (play l k out .out ≡ blockSamples l k ++ drop n out))
+      n ≤ length out → (play l k out .outcome ≡ accepted n) × (length (blockSamples l k) ≡ n) × (play l k out .left .samples ≡ blockSamples l k ++ drop n out))
   block-plays k out few room =
       let e = entry-made g F xs rest k few in
       let f : Found l k = record { opens = image-made g F xs rest; block = rw (total-is g F xs rest, block-is g F xs rest) few } in
       let p : Playable l k (length out) =
       record { found = f; pairs = pairs-heard; enough = rw (e .nibbles) room } in (
-        ap (λ (v : PlayEffect). v .outcome) (sym (play-leaves l k out p)) ∙ ap (λ (n : ℕ). accepted (addressToSample n)) (e .nibbles),
+        ap (λ (v : Effect (Outcome ℕ) Playing). v .outcome) (sym (play-leaves l k out p)) ∙ ap (λ (n : ℕ). accepted (addressToSample n)) (e .nibbles),
         block-count l k f ∙ ap addressToSample (e .nibbles),
         play-output l k out p ∙ ap (λ (n : ℕ). blockSamples l k ++ drop (addressToSample n) out) (e .nibbles),
       )
 
   -- the whole image plays to an output with enough room
-  pub all-plays : (out : List ℤ) → g .total ≤ length out → (playAll l out .outcome ≡ accepted (g .total)) × (playAll l out .out ≡ samplesIn l ++ drop (g .total) out)
+  pub all-plays : (out : List ℤ) → g .total ≤ length out → (playAll l out .outcome ≡ accepted (g .total)) × (playAll l out .left .samples ≡ samplesIn l ++ drop (g .total) out)
   all-plays out room =
       let n = total-is g F xs rest in
       let p : AllPlayable l (length out) = record { opens = image-made g F xs rest; pairs = pairs-heard; enough = rw n room } in
       (all-answered l out p ∙ ap accepted n, all-output l out p ∙ ap (λ (k : ℕ). samplesIn l ++ drop k out) n)
 
   -- a frame's header byte in the image
-  pub header-heard : (q : ℕ) → q < framesOf (g .total) → getD l (framePlace (startShape g) q) 0 ≡ getD (encodedAt g xs q .bytes) 0 0
+  pub header-heard : (q : ℕ) → q < frameCount (g .total) → getD l (framePlace (startShape g) q) 0 ≡ getD (encodedAt g xs q .bytes) 0 0
   header-heard q h =
       let e : framePlace (startShape g) q ≡ bodiesPlace (startShape g) + (8 * q + 0) = omega arith in
-      ap (λ (i : ℕ). getD l i 0) e ∙ read.body-at g F xs (framesOf (g .total)) rest q 0 h (omega arith) (frame-place (g .total) q h)
+      ap (λ (i : ℕ). getD l i 0) e ∙ read.body-at g F xs (frameCount (g .total)) rest q 0 h (omega arith) (frame-place (g .total) q h)

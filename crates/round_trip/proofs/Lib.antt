@@ -8,4 +8,5 @@ pub mod ImageOpens
 pub mod ImagePlayed
 pub mod Pieces
 pub mod ClipTheorem
+pub mod AnyCalls
 pub mod Worked

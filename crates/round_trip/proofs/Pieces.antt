@@ -9,7 +9,7 @@ use lib.IntN.{ℤ}
 use lib.ListN.{length, replicate, length-append}
 use Rattle.coefficients.specs.Measure.{needed}
 use Rattle.whole.specs.Outcome.{Outcome, accepted}
-use Rattle.whole.specs.Frames.{most, framesOf}
+use Rattle.whole.specs.Frames.{most, frameCount}
 use Rattle.coefficients.specs.Runs as measured
 use Rattle.coefficients.specs.Runs.{coefficientsOf, measures, asks}
 use Rattle.coefficients.proofs.EachCoefficient.{finish-length}
@@ -43,7 +43,7 @@ module _ (size : ℕ) where
 
   pub measured-answers : (ps : List (List ℤ)) (xs : List ℤ) → length xs + length (joined ps) ≤ most → needed (length xs + length (joined ps)) ≤ size
       → measured.plainRun size xs (measuringCalls ps) ≡ replicate (length ps) (accepted []) ++ (accepted (coefficientsOf (xs ++ joined ps)) ∷ [])
-  unfolding measuringCalls joined framesOf
+  unfolding measuringCalls joined frameCount
   measured-answers [] xs h k = answered-last xs (ask-fits xs (omega arith)) ∙ ap (λ (l : List ℤ). accepted (coefficientsOf l) ∷ []) (sym (append-nil xs))
   measured-answers (p ∷ ps) xs h k =
       let n = length-append p (joined ps) in
@@ -83,7 +83,7 @@ module _ (g : Start) where
 
   pub encoded-answers : (ps : List (List ℤ)) (xs : List ℤ) → length xs + length (joined ps) ≡ g .total
       → encodingAnswers (encoded.plainRun g (plain xs false) (encodingCalls ps)) ≡ replicate (suc (length ps)) (accepted tt)
-  unfolding encodingCalls joined encodingAnswers encoded.plainRun
+  unfolding encodingCalls joined encodingAnswers encoded.plainRun encoded.passesUpTo encoded.imageAfter encoded.encodedAt encoded.contextAt encoded.bodies encoded.historyAt
   encoded-answers [] xs h =
       let n : length xs ≡ g .total = omega arith in
       ap (λ (a : Outcome Unit). a ∷ []) (close-fits xs n)

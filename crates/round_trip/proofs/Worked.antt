@@ -8,7 +8,7 @@ use native.Mathlib.Omega.{arith}
 use borrow.Author.Tests.{le-ltb}
 use lib.IntN.{pos, negsuc}
 use lib.ListN.{length, drop, replicate}
-use Rattle.whole.specs.Frames.{frameAt, framesOf}
+use Rattle.whole.specs.Frames.{frameAt, frameCount}
 use Rattle.frame.specs.Frame.{pairOk, pairsOk, coefficientsOk}
 use Rattle.frame.proofs.Worked.{quotients, frames}
 use Rattle.block.specs.Context.{predictor, scale, pushSample, withHeader}
@@ -21,7 +21,7 @@ use Rattle.whole.specs.Outcome.{accepted}
 use Rattle.layout.specs.Sizes.{shape, lastSamples, blockCount, bodyBytes, imageSize, cutDown, blockOffset, blockLength}
 use Rattle.clip.specs.Image.{cut, coefficientBytes, headBytes, entryBytes, tableBytes}
 use Rattle.clip.specs.Encoding.{Left, startAnswer, start}
-use Rattle.clip.specs.Runs.{historyAt, encodedAt, bodies, contextAt, imageAfter, leftAfter, feeds, closes, plainAfter}
+use Rattle.clip.specs.Runs.{historyAt, encodedAt, bodies, contextAt, imageAfter, leftAfter, feeds, closes, plainAfter, stateAfter, passesUpTo}
 use Rattle.clip.proofs.WholeRuns.{encoding-states}
 use Rattle.image.proofs.Worked.{plays}
 use Rattle.round_trip.specs.Numbers.{silence, ofNine, nine, heard, WorkedNumbers}
@@ -39,23 +39,23 @@ one-block b h =
     omega arith
 
 sizes-any : (b : ℕ) → 8 ≤ b → (imageSize (shape 1 b) ≡ 74) × (imageSize (shape 14 b) ≡ 80)
-unfolding imageSize bodyBytes blockCount lastSamples framesOf
+unfolding imageSize bodyBytes blockCount lastSamples frameCount
 sizes-any b h = let k = one-block b h in (omega (arith, k), omega (arith, k))
 
 sizes-are : (imageSize (shape 15 8) ≡ 98) × (imageSize (shape 15 16) ≡ 82)
-unfolding imageSize bodyBytes blockCount lastSamples framesOf
+unfolding imageSize bodyBytes blockCount lastSamples frameCount
 sizes-are = (refl, refl)
 
 started : (l : List ℕ) → 74 ≤ length l → start ofNine l .outcome ≡ accepted tt
-unfolding start startAnswer coefficientsOk pairsOk pairOk imageSize bodyBytes blockCount lastSamples framesOf cutDown
+unfolding start startAnswer coefficientsOk pairsOk pairOk imageSize bodyBytes blockCount lastSamples frameCount cutDown
 started l h = rw (le-ltb (length l) 74 h)
 
 image-is : imageAfter (cut ofNine) (pos 9 ∷ []) true ≡ nine
-unfolding imageAfter headBytes coefficientBytes tableBytes entryBytes contextAt bodies encodedAt historyAt frameAt cutDown blockOffset blockLength imageSize bodyBytes blockCount lastSamples framesOf
+unfolding imageAfter headBytes coefficientBytes tableBytes entryBytes contextAt bodies encodedAt historyAt frameAt cutDown blockOffset blockLength imageSize bodyBytes blockCount lastSamples frameCount
 image-is = rw (frames .3)
 
 pub worked : WorkedNumbers
-unfolding leftAfter plainAfter imageSize bodyBytes blockCount lastSamples framesOf cutDown
+unfolding leftAfter plainAfter imageSize bodyBytes blockCount lastSamples frameCount cutDown stateAfter imageAfter passesUpTo contextAt bodies encodedAt historyAt
 worked =
     record {
       to-samples = (to-sample .0, to-sample .1, to-sample .2, to-sample .3, to-sample .4, to-sample .5, to-sample .6, to-sample .7);

@@ -1,6 +1,6 @@
 -- What is promised of the state and the image that a closed clip leaves. Definitions only.
 use mathlib.Core.Path.{_≡_}
-use mathlib.Core.Bool.{true}
+use mathlib.Core.Bool.{true, false}
 use mathlib.Core.List.{List, [], _∷_, _++_}
 use Prim.Native.Nat.{ℕ, _+_, _*_, _/_, _%_, _^_, _≤_, _<_}
 use lib.Ieee.{Float}
@@ -8,21 +8,22 @@ use lib.IntN.{ℤ, pos, natAbs, _-ℤ_}
 use lib.ListN.{length, getD, drop, replicate}
 use Rattle.whole.specs.declared.History.{History}
 use Rattle.block.specs.Address.{addressToSample}
-use Rattle.whole.specs.Outcome.{Outcome, accepted}
+use Rattle.whole.specs.Outcome.{Outcome, accepted, Effect, effect}
 use Rattle.coefficients.specs.Measure.{measuring, fresh}
 use Rattle.coefficients.specs.Runs as measured
-use Rattle.coefficients.specs.Runs.{coefficientsOf}
+use Rattle.coefficients.specs.Runs.{coefficientsOf, asks}
+use Rattle.coefficients.specs.StateOfSamples as measuredState
 use Rattle.layout.specs.Sizes.{blockCount, imageSize, blockLength, framePlace}
 use Rattle.clip.specs.Image.{cut, startShape}
-use Rattle.clip.specs.Encoding.{Left, Effect, start}
+use Rattle.clip.specs.Encoding.{Left, start}
 use Rattle.clip.specs.Runs as encoded
 use Rattle.clip.specs.declared.starting.Start.{Start}
-use Rattle.clip.specs.Runs.{stateAfter, imageAfter, leftBy, after}
-use Rattle.image.specs.Opening.{openEffect, openImage}
+use Rattle.clip.specs.Runs.{stateAfter, imageAfter, plain, after}
+use Rattle.image.specs.Opening.{openImage}
 use Rattle.image.specs.Playing.{play}
 use Rattle.image.specs.Sameness.{blockSamples, samplesIn}
 use Rattle.image.specs.WholeImage.{playAll}
-use Rattle.round_trip.specs.Job.{joined, measuringCalls, encodingCalls, lastCoefficients, encodingAnswers}
+use Rattle.round_trip.specs.Job.{Sampled, joined, measuringCalls, encodingCalls, lastCoefficients, encodingAnswers}
 
 -- of a clip of the samples xs that was started as g says on a buffer that held l: the state and the buffer once it is closed
 pub record ClosedClip (g : Start) (xs : List ℤ) (l : List ℕ) (closed : Left) : Type 0 where
@@ -31,21 +32,34 @@ pub record ClosedClip (g : Start) (xs : List ℤ) (l : List ℕ) (closed : Left)
   pub image : closed .bytes ≡ imageAfter g xs true ++ drop (imageSize (startShape g)) l
   -- "The closed image opens", and says what it was started with
   pub opens : openImage (closed .bytes)
-      ≡ openEffect (accepted tt)
+      ≡ effect (accepted tt)
       (record { total = g .total; rate = g .rate; block = g .block; gain = g .gain; coefficients = g .coefficients; blocks = blockCount (startShape g) })
   -- "blocks 0 to K−1 are played in turn from their entries with enough room": block k's samples, as many as its length says, and what stood beyond them
   pub plays : (k : ℕ) (out : List ℤ) → k < blockCount (startShape g)
       → (let n = addressToSample (blockLength (startShape g) k) in
-      n ≤ length out → (play (closed .bytes) k out .outcome ≡ accepted n) × (length (blockSamples (closed .bytes) k) ≡ n) × (play (closed .bytes) k out .out ≡ blockSamples (closed .bytes) k ++ drop n out))
+      n ≤ length out → (play (closed .bytes) k out .outcome ≡ accepted n) × (length (blockSamples (closed .bytes) k) ≡ n)
+      × (play (closed .bytes) k out .left .samples ≡ blockSamples (closed .bytes) k ++ drop n out))
   -- "and joined": exactly as many samples as were fed
   pub count : length (samplesIn (closed .bytes)) ≡ length xs
   -- the same by one call
   pub plays-all : (out : List ℤ) → length xs ≤ length out
-      → (playAll (closed .bytes) out .outcome ≡ accepted (length xs)) × (playAll (closed .bytes) out .out ≡ samplesIn (closed .bytes) ++ drop (length xs) out)
+      → (playAll (closed .bytes) out .outcome ≡ accepted (length xs)) × (playAll (closed .bytes) out .left .samples ≡ samplesIn (closed .bytes) ++ drop (length xs) out)
   -- each sample in a frame of exponent p below 12 is within ⌊(3 × 2^p + 1) / 2⌋ of its original; "p is its frame's header & 15"
   pub near : (i : ℕ) → i < length xs
       → (let p = getD (closed .bytes) (framePlace (startShape g) (i / 14)) 0 % 16 in
       p < 12 → natAbs (getD (samplesIn (closed .bytes)) i (pos 0) -ℤ getD xs i (pos 0)) ≤ (3 * 2 ^ p + 1) / 2)
+
+-- of any calls, refused ones included: measurings and askings ms on a store, then an asking; a clip started as g says, with the coefficients that it answered,
+-- on a buffer that held l; feedings and closings ks on that buffer
+pub record AnyCalls (store : List Float) (ms : List measured.Call) (g : Start) (l : List ℕ) (ks : List encoded.Call) : Type 0 where
+  -- each measuring and each asking answers what the plain machine does, and the coefficients are those of the pieces accepted so far, joined
+  pub measured-answers : measured.run (measuring fresh store) (ms ++ (asks ∷ [])) ≡ measured.plainRun (length store) [] (ms ++ (asks ∷ []))
+  pub coefficients : g .coefficients ≡ coefficientsOf (measuredState.plainAfter (length store) [] ms)
+  -- so does each feeding and each closing; the passes and the buffer's first S bytes after it are the plain machine's too
+  pub encoded-answers : encoded.run (imageSize (startShape (cut g))) (start g l .left) ks ≡ encoded.plainRun (cut g) (plain [] false) ks
+  -- and if they close the clip, the image is as promised, of the pieces accepted, joined
+  pub closed : (let m = encoded.plainAfter (cut g) (plain [] false) ks in
+      m .closed ≡ true → Sampled (m .samples) → ClosedClip (cut g) (m .samples) l (after (start g l .left) ks))
 
 -- of the whole job: a recording measured in pieces ps on a store, started with what the asking answered, fed in pieces qs and closed
 module _ (ps qs : List (List ℤ)) (store : List Float) (rate size gain : ℕ) (h : History) (l : List ℕ) where
@@ -58,7 +72,7 @@ module _ (ps qs : List (List ℤ)) (store : List Float) (rate size gain : ℕ) (
   given = record { total = length (joined qs); rate = rate; block = size; gain = gain; coefficients = lastCoefficients seen; history = h }
 
   -- what starting answers and leaves
-  abbrev pub started : Effect
+  abbrev pub started : Effect (Outcome Unit) Left
   started = start given l
 
   pub record Done : Type 0 where
@@ -66,6 +80,6 @@ module _ (ps qs : List (List ℤ)) (store : List Float) (rate size gain : ℕ) (
     pub measured-answers : seen ≡ replicate (length ps) (accepted []) ++ (accepted (coefficientsOf (joined qs)) ∷ [])
     pub coefficients : lastCoefficients seen ≡ coefficientsOf (joined qs)
     -- every feeding is accepted, and the closing
-    pub encoded-answers : encodingAnswers (encoded.run (imageSize (startShape (cut given))) (leftBy started) (encodingCalls qs)) ≡ replicate (length qs + 1) (accepted tt)
+    pub encoded-answers : encodingAnswers (encoded.run (imageSize (startShape (cut given))) (started .left) (encodingCalls qs)) ≡ replicate (length qs + 1) (accepted tt)
     -- and the image is as promised
-    pub closed : ClosedClip (cut given) (joined qs) l (after (leftBy started) (encodingCalls qs))
+    pub closed : ClosedClip (cut given) (joined qs) l (after (started .left) (encodingCalls qs))

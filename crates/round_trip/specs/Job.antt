@@ -5,7 +5,6 @@ use lib.IntN.{ℤ, pos}
 use lib.ListN.{getD}
 use mir.Syntax.{w16}
 use mir.Val.{SFits}
-use Rattle.whole.specs.declared.History.{History}
 use Rattle.whole.specs.Outcome.{Outcome, accepted, refused}
 use Rattle.coefficients.specs.Runs as measured
 use Rattle.coefficients.specs.Runs.{measures, asks}
@@ -15,10 +14,6 @@ use Rattle.clip.specs.Runs.{feeds, closes}
 -- "A sample is a signed 16-bit number"
 abbrev pub Sampled : List ℤ → Type 0
 Sampled xs = (i : ℕ) → SFits w16 (getD xs i (pos 0))
-
--- the starting history is of such numbers
-abbrev pub Starting : History → Type 0
-Starting h = SFits w16 (h .newest) × SFits w16 (h .older)
 
 -- pieces in turn, joined
 unfoldable pub joined : List (List ℤ) → List ℤ

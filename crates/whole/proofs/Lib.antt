@@ -1,5 +1,5 @@
 -- Laws that every crate's proofs cite: of signed values in locals, of differences of natural numbers, of the definitions, of runs of stores, of outcomes.
-pub mod Values
+pub mod SignedLocals
 pub mod Differences
 pub mod Clamping
 pub mod FloorDivision

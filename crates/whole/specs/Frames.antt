@@ -9,8 +9,8 @@ abbrev pub most : ℕ
 most = 14680064
 
 -- "F = ⌈N/14⌉ its frames"
-unfoldable pub framesOf : ℕ → ℕ
-framesOf n = (n + 13) / 14
+unfoldable pub frameCount : ℕ → ℕ
+frameCount n = (n + 13) / 14
 
 -- frame i of X, the last one filled with zeros
 unfoldable pub frameAt : List ℤ → ℕ → List ℤ

@@ -10,8 +10,7 @@ use borrow.Author.Tests.{not-true, not-false, ltb-false}
 use lib.Dec.{ltb}
 use lib.ListN.{length}
 use lib.Seq.{sets, length-sets}
-use Rattle.whole.specs.Outcome.{accepted}
-use Rattle.block.specs.Join.{joinEffect}
+use Rattle.whole.specs.Outcome.{accepted, effect}
 use Rattle.whole.proofs.Stores.{sets-then}
 use Rattle.block.proofs.LawsCalls.{join-14, join-18, join-done}
 use borrow.Author.Needs.{needs}
@@ -68,7 +67,7 @@ returns-3 c =
     let t = f .before .before in
     let e = t .before .before in
     let a = e .before .before .before .before .before .args in
-    ap (λ (o : List ℕ). joinEffect (accepted (a .first-len + a .second-len)) o)
+    ap (λ (o : List ℕ). effect (accepted (a .first-len + a .second-len)) o)
     (d .copy2 .ensures
     ∙ ap (λ (o : List ℕ). sets o (length (now (a .first))) (now (a .second))) (f .copy .ensures)
     ∙ sets-then (now (a .out)) 0 (length (now (a .first))) (now (a .first)) (now (a .second)) (sym (zero-add (length (now (a .first))))))

@@ -1,8 +1,8 @@
 -- `close` meets its contract. Assumes nothing.
 use mathlib.Core.Path.{_≡_, sym, ap, _∙_}
-use Rattle.whole.specs.Outcome.{Outcome, accepted, refused}
-use Rattle.clip.specs.Encoding.{outcome, Left, effect, close}
-use Rattle.clip.proofs.Accepting.{close-accepted}
+use Rattle.whole.specs.Outcome.{Outcome, accepted, refused, effect}
+use Rattle.clip.specs.Encoding.{outcome, Left, close}
+use Rattle.clip.proofs.AcceptedCalls.{close-accepted}
 use borrow.Author.Needs.{needs}
 use Rattle.clip.proofs.close.Statement.{statement}
 use Rattle.clip.proofs.close.Tie as tie
@@ -26,7 +26,8 @@ same-length c = search needs
 returns : tie.Need-returns
 unfolding close
 returns c =
-    rw (← c .before .before .before .before .before .before .close-answer .ensures, c .before .before .before .before .enum-told .given .1) (ap (λ (s : Left). effect (accepted tt) s) (c .before .before .finish .ensures))
+    rw (← c .before .before .before .before .before .before .close-answer .ensures, c .before .before .before .before .enum-told .given .1)
+    (ap (λ (s : Left). effect (accepted tt) s) (c .before .before .finish .ensures))
 
 returns-2 : tie.Need-returns-2
 unfolding close

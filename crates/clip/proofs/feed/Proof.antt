@@ -1,8 +1,8 @@
 -- `feed` meets its contract. Assumes nothing.
 use mathlib.Core.Path.{_≡_, sym, ap, _∙_}
-use Rattle.whole.specs.Outcome.{Outcome, accepted, refused}
-use Rattle.clip.specs.Encoding.{outcome, Left, effect, feed}
-use Rattle.clip.proofs.Accepting.{feed-accepted}
+use Rattle.whole.specs.Outcome.{Outcome, accepted, refused, effect}
+use Rattle.clip.specs.Encoding.{outcome, Left, feed}
+use Rattle.clip.proofs.AcceptedCalls.{feed-accepted}
 use borrow.Author.Needs.{needs}
 use Rattle.clip.proofs.feed.Statement.{statement}
 use Rattle.clip.proofs.feed.Tie as tie
@@ -26,7 +26,8 @@ same-length c = search needs
 returns : tie.Need-returns
 unfolding feed
 returns c =
-    rw (← c .before .before .before .before .before .before .feed-answer .ensures, c .before .before .before .before .enum-told .given .1) (ap (λ (s : Left). effect (accepted tt) s) (c .before .before .feed-all .ensures))
+    rw (← c .before .before .before .before .before .before .feed-answer .ensures, c .before .before .before .before .enum-told .given .1)
+    (ap (λ (s : Left). effect (accepted tt) s) (c .before .before .feed-all .ensures))
 
 returns-2 : tie.Need-returns-2
 unfolding feed

@@ -4,12 +4,12 @@ use mathlib.Core.Path.{sym, ap, ap₂, _∙_}
 use mathlib.Core.List.{List}
 use Prim.Native.Nat.{ℕ}
 use lib.Seq.{sets}
-use Rattle.whole.specs.Outcome.{accepted}
+use Rattle.whole.specs.Outcome.{accepted, effect}
 use Rattle.clip.specs.declared.Encoder.{Encoder}
 use Rattle.clip.specs.declared.starting.Start.{Start}
 use Rattle.clip.specs.Image.{cut, freshBytes}
-use Rattle.clip.specs.Encoding.{outcome, left, effect, begun, start}
-use Rattle.clip.proofs.Accepting.{start-accepted}
+use Rattle.clip.specs.Encoding.{outcome, left, begun, start}
+use Rattle.clip.proofs.AcceptedCalls.{start-accepted}
 use Rattle.clip.proofs.start.Statement.{statement}
 use Rattle.clip.proofs.start.Tie as tie
 
@@ -44,7 +44,8 @@ returns c =
     let a = c .before .before .before .before .before .before .before .before .before .before .args in
     let k = c .before .before .before .before .before .cut .ensures in
     let l = c .before .before .before .put-fresh .ensures ∙ ap (λ (g : Start). sets (a .image .now) 0 (freshBytes g)) k in
-    rw (← c .before .before .before .before .before .before .before .before .start-answer .ensures, c .before .before .before .before .before .before .enum-told .given .1) (ap₂ (λ (l : List ℕ) (e : Encoder). effect (accepted tt) (left e l)) l (c .begun .ensures ∙ ap begun k))
+    rw (← c .before .before .before .before .before .before .before .before .start-answer .ensures, c .before .before .before .before .before .before .enum-told .given .1)
+    (ap₂ (λ (l : List ℕ) (e : Encoder). effect (accepted tt) (left e l)) l (c .begun .ensures ∙ ap begun k))
 
 returns-2 : tie.Need-returns-2
 unfolding start

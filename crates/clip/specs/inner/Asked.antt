@@ -7,13 +7,13 @@ use mathlib.Core.Bool.{true}
 use Rattle.frame.specs.Frame.{coefficientsOk}
 use Rattle.clip.specs.declared.Encoder.{Encoder}
 use Rattle.layout.specs.Sizes.{bodyBytes, imageSize}
-use Rattle.whole.specs.Frames.{most, framesOf}
+use Rattle.whole.specs.Frames.{most, frameCount}
 use Rattle.clip.specs.Encoding.{encoderShape}
 
 -- frame q's first k bytes are within the image
 pub record Room (s : Shape) (q k len : ℕ) : Type 0 where
   pub limits : Limits s
-  pub frame : q < framesOf (s .total)
+  pub frame : q < frameCount (s .total)
   pub part : k ≤ 8
   pub one : 1 ≤ k
   pub body : 8 * q + k ≤ bodyBytes (s .total)

@@ -10,8 +10,7 @@ use Rattle.coefficients.specs.declared.merging.RecordTerms.{RecordTerms}
 use Rattle.coefficients.specs.declared.merging.Side.{Side}
 use Rattle.coefficients.specs.declared.merging.Vec3.{Vec3}
 use Rattle.coefficients.specs.declared.merging.VectorTerms.{VectorTerms}
-use Rattle.coefficients.specs.Binary64.{fma}
-use Rattle.coefficients.specs.Constants.{f0, f1, f2, fE30, _*f_, _+f_, _/f_}
+use Rattle.coefficients.specs.Constants.{f0, f1, f2, fE30, _*f_, _+f_, _/f_, fma}
 use Rattle.coefficients.specs.Clusters.{blank, better}
 
 -- a vector's part in its contrast with a record

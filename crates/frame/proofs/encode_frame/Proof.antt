@@ -8,7 +8,7 @@ use lib.IntN.{ℤ, pos}
 use lib.ListN.{getD}
 use Rattle.frame.specs.declared.choice.Best.{Best}
 use Rattle.frame.specs.declared.EncodedFrame.{EncodedFrame}
-use Rattle.frame.specs.Choice.{candidateAt, winner, passesOf}
+use Rattle.frame.specs.Choice.{candidateAt, winner, passesUpTo}
 use Rattle.frame.specs.inner.Chosen.{choose}
 use Rattle.frame.specs.Frame.{header, packFrame, encodeFrame}
 use Rattle.frame.specs.inner.Nibbles.{InNibble}

@@ -6,7 +6,7 @@ use native.Mathlib.Omega.{arith}
 use lib.Dec.{leb}
 use lib.IntN.{natAbs}
 use borrow.Author.Tests.{le-leb, lt-leb}
-use Rattle.whole.proofs.Values.{is-16, is-in, is-size, chk-cast}
+use Rattle.whole.proofs.SignedLocals.{is-16, is-in, is-size, chk-cast}
 use Rattle.frame.specs.Frame.{pairOk}
 use Rattle.frame.proofs.pair_ok.Statement.{statement}
 use Rattle.frame.proofs.pair_ok.Tie as tie

@@ -2,11 +2,14 @@
 use borrow.Author.Needs.{needs}
 use denote.Ref.{now}
 use mathlib.Core.Path.{_≡_, ap, sym, _∙_}
+use mathlib.Core.List.{[]}
 use Prim.Native.Nat.{ℕ, _+_, _/_}
+use native.Mathlib.Omega.{arith}
 use lib.ListN.{take, drop}
 use Rattle.image.specs.declared.bodies.Entry.{Entry}
 use Rattle.image.specs.Opening.{outcome}
-use Rattle.image.specs.Bodies.{bodyIn, blockBody}
+use Rattle.image.specs.Bodies.{bodyIn, blockBody, blockPart}
+use Rattle.whole.specs.Outcome.{effect}
 use Rattle.image.specs.inner.Asked.{Found}
 use Rattle.image.proofs.LawsBody.{block-accepted, found-end}
 use Rattle.image.proofs.block_body.Statement.{statement}
@@ -31,7 +34,8 @@ cast-find-body-2 : tie.Need-cast-find-body-2
 cast-find-body-2 c = search needs
 
 find-body-requires : tie.Need-find-body-requires
-find-body-requires c κs = let a = c .before .before .before .before .before .before .before .args in rw (c .before .before .read-entry .ensures) (found-end (now (a .image)) (a .k) (found (c .before .before .before)))
+find-body-requires c κs = let a = c .before .before .before .before .before .before .before .args in
+    rw (c .before .before .read-entry .ensures) (found-end (now (a .image)) (a .k) (found (c .before .before .before)))
 
 enum-told-2 : tie.Need-enum-told-2
 enum-told-2 c = search needs
@@ -40,12 +44,22 @@ slice-aggregate-result : tie.Need-slice-aggregate-result
 slice-aggregate-result c = search needs
 
 returns : tie.Need-returns
-unfolding blockBody bodyIn
-returns c = simp (← c .before .before .before .before .before .before .block-answer .ensures, c .before .before .before .before .enum-told .given .1, c .find-body .ensures, c .before .before .before .read-entry .ensures)
+unfolding blockPart blockBody bodyIn
+returns c =
+    simp (
+      ← c .before .before .before .before .before .before .block-answer .ensures,
+      c .before .before .before .before .enum-told .given .1,
+      c .find-body .ensures .0,
+      c .find-body .ensures .1,
+      c .before .before .before .read-entry .ensures,
+    )
 
 returns-2 : tie.Need-returns-2
-unfolding blockBody
-returns-2 c = simp (← c .before .before .before .block-answer .ensures, c .before .enum-told2 .given .1)
+unfolding blockPart blockBody
+returns-2 c =
+    let p = c .before .before .before .before .before .args .image .ptr in
+    let z : p .1 ≡ p .1 + 0 = omega arith in
+    simp (← c .before .before .before .block-answer .ensures, c .before .enum-told2 .given .1) (ap (λ (x : ℕ). effect (p .0, x) []) z)
 
 pub block-body-spec : {M : Type 1} → statement M
 block-body-spec =

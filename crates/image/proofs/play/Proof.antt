@@ -3,7 +3,7 @@ use borrow.Author.Needs.{needs}
 use denote.Ref.{now}
 use mathlib.Core.Path.{_≡_, ap, sym, _∙_}
 use Rattle.image.specs.Opening.{outcome}
-use Rattle.image.specs.Playing.{playAnswer, play}
+use Rattle.image.specs.Playing.{playAnswer, play, roomAnswer}
 use Rattle.image.proofs.LawsBody.{block-accepted}
 use Rattle.image.proofs.play.Statement.{statement}
 use Rattle.image.proofs.play.Tie as tie
@@ -27,11 +27,11 @@ same-length : tie.Need-same-length
 same-length c = search needs
 
 returns : tie.Need-returns
-unfolding play playAnswer
+unfolding play playAnswer roomAnswer
 returns c = rw (← c .before .before .before .before .before .block-answer .ensures, c .before .before .before .enum-told .given .1) (c .before .play-found .ensures)
 
 returns-2 : tie.Need-returns-2
-unfolding play playAnswer
+unfolding play playAnswer roomAnswer
 returns-2 c = let r = c .refused-playback .ensures in rw (← c .before .before .before .before .block-answer .ensures, c .before .before .answer .given .1, r .0, r .1)
 
 pub play-spec : {M : Type 1} → statement M

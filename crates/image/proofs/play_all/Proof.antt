@@ -7,6 +7,7 @@ use Rattle.image.specs.WholeImage.{allAnswer, playAll}
 use Rattle.image.proofs.OpenImages.{opened}
 use Rattle.image.proofs.play_all.Statement.{statement}
 use Rattle.image.proofs.play_all.Tie as tie
+use Rattle.image.specs.Playing.{roomAnswer}
 
 open-answer-requires : tie.Need-open-answer-requires
 open-answer-requires c κs = search needs
@@ -27,11 +28,11 @@ same-length : tie.Need-same-length
 same-length c = search needs
 
 returns : tie.Need-returns
-unfolding playAll allAnswer
+unfolding playAll allAnswer roomAnswer
 returns c = rw (← c .before .before .before .before .before .open-answer .ensures, c .before .before .before .enum-told .given .1) (c .before .play-opened .ensures)
 
 returns-2 : tie.Need-returns-2
-unfolding playAll allAnswer
+unfolding playAll allAnswer roomAnswer
 returns-2 c = let r = c .refused-playback .ensures in rw (← c .before .before .before .before .open-answer .ensures, c .before .before .answer .given .1, r .0, r .1)
 
 pub play-all-spec : {M : Type 1} → statement M

@@ -9,7 +9,7 @@ use Rattle.block.specs.Refusals.{lowestPair}
 use Rattle.layout.specs.Limits.{Limits}
 use Rattle.layout.specs.declared.Shape.{Shape}
 use Rattle.layout.specs.Sizes.{blockCount, bodiesPlace, imageSize, blockOffset, blockLength}
-use Rattle.whole.specs.Frames.{framesOf}
+use Rattle.whole.specs.Frames.{frameCount}
 use Rattle.image.specs.declared.Head.{Head}
 use Rattle.image.specs.inner.ByFrames.{frameSamples}
 use Rattle.image.specs.Reading.{totalIn, rateIn, blockIn, shapeIn, zeroIn, blocksIn, coefficientsIn, headIn, offsetIn, lengthIn, headerIn, entryZeroIn}
@@ -58,13 +58,13 @@ pub record Source (l : List ℕ) (block at i : ℕ) : Type 0 where
   pub opens : Opens l
   pub size : block ≡ blockIn l
   pub bodies : at ≡ bodiesPlace (shapeIn l)
-  pub frame : i < framesOf (totalIn l)
+  pub frame : i < frameCount (totalIn l)
 
 -- frame i of an image that opens, with the head and the count that were read
 pub record Turn (l : List ℕ) (head : Head) (i count : ℕ) : Type 0 where
   pub opens : Opens l
   pub read : head ≡ headIn l
-  pub frame : i < framesOf (totalIn l)
+  pub frame : i < frameCount (totalIn l)
   pub samples : count ≡ frameSamples (totalIn l) i
 
 -- two images that open and have the same N, with the heads that were read

@@ -11,14 +11,14 @@ use Rattle.block.specs.Context.{newContext, withHeader}
 use Rattle.block.specs.Frame.{Playing, playing}
 use Rattle.block.specs.inner.Frames.{playFrame}
 use Rattle.layout.specs.Sizes.{lastSamples, framePlace}
-use Rattle.whole.specs.Frames.{framesOf}
+use Rattle.whole.specs.Frames.{frameCount}
 use Rattle.image.specs.declared.comparing.Frame.{Frame}
 use Rattle.image.specs.Reading.{totalIn, blockIn, shapeIn, coefficientsIn}
 use Rattle.image.specs.Playing.{contextIn}
 
 -- the samples in frame i: fourteen, and m in the last
 unfoldable pub frameSamples : ℕ → ℕ → ℕ
-frameSamples n i = cond (ltb (i + 1) (framesOf n)) 14 (lastSamples n)
+frameSamples n i = cond (ltb (i + 1) (frameCount n)) 14 (lastSamples n)
 
 -- where frame i stands: bodies of whole frames stand back to back
 unfoldable pub framePlaceIn : List ℕ → ℕ → ℕ

@@ -48,7 +48,8 @@ returns c =
     let n = k .least2 .ensures .2 in
     let m = length (now (a .piece)) in (
       ends m (a .pending) (a .count) _ _ s n,
-      samples-put (now (a .piece)) _ (now (a .line)) (a .at) _ _ (omega arith) (r .read-samples .ensures) ∙ begins m (a .pending) (a .count) _ (k .least2 .result) s (now (a .piece)) (now (a .line)) (a .at),
+      samples-put (now (a .piece)) _ (now (a .line)) (a .at) _ _ (omega arith) (r .read-samples .ensures)
+          ∙ begins m (a .pending) (a .count) _ (k .least2 .result) s (now (a .piece)) (now (a .line)) (a .at),
     )
 
 pub add-samples-spec : {M : Type 1} → statement M

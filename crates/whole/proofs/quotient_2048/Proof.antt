@@ -1,7 +1,7 @@
 -- `quotient_2048` meets its contract. Assumes nothing.
 use lib.Dec.{lit<}
 use mir.Facts.{toZ-ofZ}
-use Rattle.whole.proofs.Values.{quot-fits}
+use Rattle.whole.proofs.SignedLocals.{quot-fits}
 use Rattle.whole.proofs.quotient_2048.Statement.{statement}
 use Rattle.whole.proofs.quotient_2048.Tie as tie
 

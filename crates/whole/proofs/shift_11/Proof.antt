@@ -1,6 +1,6 @@
 -- `shift_11` meets its contract. Assumes nothing.
 use mir.Facts.{toZ-ofZ}
-use Rattle.whole.proofs.Values.{shr-fits}
+use Rattle.whole.proofs.SignedLocals.{shr-fits}
 use Rattle.whole.proofs.shift_11.Statement.{statement}
 use Rattle.whole.proofs.shift_11.Tie as tie
 

@@ -8,7 +8,7 @@ use mir.Facts.{toZ-ofZ}
 use mir.Syntax.{w16, w64}
 use mir.Val.{SFits, toZ, ofZ}
 use Rattle.whole.specs.Whole.{clamp16, floored, signedNibble}
-use Rattle.whole.proofs.Values.{Is, is-16, is-in, is-lit, is-nat, is-add, chk-add, is-mul, chk-mul, chk-cast, is-call, abs-shr}
+use Rattle.whole.proofs.SignedLocals.{Is, is-16, is-in, is-lit, is-nat, is-add, chk-add, is-mul, chk-mul, chk-cast, is-call, abs-shr}
 use Rattle.block.specs.Sample.{decodeSample}
 use Rattle.block.proofs.LawsSample.{nibble-size}
 use Rattle.block.proofs.sample.decode_sample.Statement.{statement}

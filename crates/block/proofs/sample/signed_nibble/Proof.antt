@@ -3,7 +3,7 @@ use borrow.Author.Needs.{needs}
 use borrow.Author.Tests.{lt-ltb, le-ltb}
 use native.Mathlib.Omega.{arith}
 use mir.Syntax.{w64}
-use Rattle.whole.proofs.Values.{is-nat, is-lit, is-sub, chk-sub}
+use Rattle.whole.proofs.SignedLocals.{is-nat, is-lit, is-sub, chk-sub}
 use Rattle.whole.specs.Whole.{signedNibble}
 use Rattle.block.proofs.sample.signed_nibble.Statement.{statement}
 use Rattle.block.proofs.sample.signed_nibble.Tie as tie

@@ -31,15 +31,30 @@ returns-2 c = simp (passed (c .before .before .before), lt-ltb _ _ (rw (c .befor
 
 returns-3 : tie.Need-returns-3
 unfolding closeAnswer
-returns-3 c = simp (passed (c .before .before .before .before), le-ltb _ _ (rw (c .before .before .image-size .ensures, c .before .before .before .encoder-shape .ensures) at (c .before .if2 .left)), c .if3 .taken)
+returns-3 c = simp (
+  passed (c .before .before .before .before),
+  le-ltb _ _
+      (rw (c .before .before .image-size .ensures, c .before .before .before .encoder-shape .ensures) at (c .before .if2 .left)),
+  c .if3 .taken,
+)
 
 returns-4 : tie.Need-returns-4
 unfolding closeAnswer
-returns-4 c = simp (passed (c .before .before .before .before .before), le-ltb _ _ (rw (c .before .before .before .image-size .ensures, c .before .before .before .before .encoder-shape .ensures) at (c .before .before .if2 .left)), c .before .if3 .left, lt-ltb _ _ (c .if4 .taken))
+returns-4 c = simp (
+  passed (c .before .before .before .before .before),
+  le-ltb _ _ (rw (c .before .before .before .image-size .ensures, c .before .before .before .before .encoder-shape .ensures) at (c .before .before .if2 .left)),
+  c .before .if3 .left,
+  lt-ltb _ _ (c .if4 .taken),
+)
 
 returns-5 : tie.Need-returns-5
 unfolding closeAnswer
-returns-5 c = simp (passed (c .before .before .before .before .before), le-ltb _ _ (rw (c .before .before .before .image-size .ensures, c .before .before .before .before .encoder-shape .ensures) at (c .before .before .if2 .left)), c .before .if3 .left, le-ltb _ _ (c .if4 .left))
+returns-5 c = simp (
+  passed (c .before .before .before .before .before),
+  le-ltb _ _ (rw (c .before .before .before .image-size .ensures, c .before .before .before .before .encoder-shape .ensures) at (c .before .before .if2 .left)),
+  c .before .if3 .left,
+  le-ltb _ _ (c .if4 .left),
+)
 
 pub close-answer-spec : {M : Type 1} → statement M
 close-answer-spec =

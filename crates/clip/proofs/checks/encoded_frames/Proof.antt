@@ -7,14 +7,14 @@ use borrow.Author.Needs.{needs}
 use Rattle.clip.proofs.checks.encoded_frames.Statement.{statement}
 use Rattle.clip.proofs.checks.encoded_frames.Tie as tie
 
-frames-requires : tie.Need-frames-requires
-frames-requires c κs = search needs
+frame-count-requires : tie.Need-frame-count-requires
+frame-count-requires c κs = search needs
 
 returns : tie.Need-returns
-returns c = let a = c .before .before .args in (c .frames .ensures .0 ∙ ap (encodedFrames (a .n) (a .total)) (sym (c .before .if1 .taken)), c .frames .ensures .1)
+returns c = let a = c .before .before .args in (c .frame-count .ensures .0 ∙ ap (encodedFrames (a .n) (a .total)) (sym (c .before .if1 .taken)), c .frame-count .ensures .1)
 
 returns-2 : tie.Need-returns-2
 returns-2 c = let a = c .before .args in (ap (encodedFrames (a .n) (a .total)) (sym (c .if1 .left)), omega arith)
 
 pub encoded-frames-spec : {M : Type 1} → statement M
-encoded-frames-spec = tie.close (tie.spec frames-requires returns returns-2)
+encoded-frames-spec = tie.close (tie.spec frame-count-requires returns returns-2)

@@ -41,7 +41,8 @@ returns-2 c = simp (passed (c .before .before .before .before .before), lt-ltb _
 
 returns-3 : tie.Need-returns-3
 unfolding feedAnswer
-returns-3 c = let k = c .before .before .before .before .before .before in simp (passed k, le-ltb _ _ (rw (c .before .before .image-size .ensures, c .before .before .before .encoder-shape .ensures) at (c .before .if2 .left)), c .if3 .taken)
+returns-3 c = let k = c .before .before .before .before .before .before in
+    simp (passed k, le-ltb _ _ (rw (c .before .before .image-size .ensures, c .before .before .before .encoder-shape .ensures) at (c .before .if2 .left)), c .if3 .taken)
 
 sub-if4 : tie.Need-sub-if4
 sub-if4 c = let k = c .before .before .before .before .before .before in sound _ (passed k) .fed
@@ -49,12 +50,22 @@ sub-if4 c = let k = c .before .before .before .before .before .before in sound _
 returns-4 : tie.Need-returns-4
 unfolding feedAnswer
 returns-4 c = let k = c .before .before .before .before .before .before .before in
-    simp (passed k, le-ltb _ _ (rw (c .before .before .before .image-size .ensures, c .before .before .before .before .encoder-shape .ensures) at (c .before .before .if2 .left)), c .before .if3 .left, lt-ltb _ _ (c .if4 .taken))
+    simp (
+      passed k,
+      le-ltb _ _ (rw (c .before .before .before .image-size .ensures, c .before .before .before .before .encoder-shape .ensures) at (c .before .before .if2 .left)),
+      c .before .if3 .left,
+      lt-ltb _ _ (c .if4 .taken),
+    )
 
 returns-5 : tie.Need-returns-5
 unfolding feedAnswer
 returns-5 c = let k = c .before .before .before .before .before .before .before in
-    simp (passed k, le-ltb _ _ (rw (c .before .before .before .image-size .ensures, c .before .before .before .before .encoder-shape .ensures) at (c .before .before .if2 .left)), c .before .if3 .left, le-ltb _ _ (c .if4 .left))
+    simp (
+      passed k,
+      le-ltb _ _ (rw (c .before .before .before .image-size .ensures, c .before .before .before .before .encoder-shape .ensures) at (c .before .before .if2 .left)),
+      c .before .if3 .left,
+      le-ltb _ _ (c .if4 .left),
+    )
 
 pub feed-answer-spec : {M : Type 1} → statement M
 feed-answer-spec =

@@ -46,7 +46,13 @@ returns-4 c = simp (le-leb _ _ (c .before .before .before .if1 .left), le-leb _ 
 
 returns-5 : tie.Need-returns-5
 unfolding startAnswer
-returns-5 c = simp (le-leb _ _ (c .before .before .before .before .if1 .left), le-leb _ _ (c .before .before .before .if2 .left), ne-eqb _ _ (c .before .before .if3 .left), le-leb _ _ (c .before .if4 .left), lt-leb _ _ (c .if5 .taken))
+returns-5 c = simp (
+  le-leb _ _ (c .before .before .before .before .if1 .left),
+  le-leb _ _ (c .before .before .before .if2 .left),
+  ne-eqb _ _ (c .before .before .if3 .left),
+  le-leb _ _ (c .before .if4 .left),
+  lt-leb _ _ (c .if5 .taken),
+)
 
 coefficients-ok-requires : tie.Need-coefficients-ok-requires
 coefficients-ok-requires c κs = search needs
@@ -54,7 +60,15 @@ coefficients-ok-requires c κs = search needs
 returns-6 : tie.Need-returns-6
 unfolding startAnswer
 returns-6 c = let k = c .before .before .before in
-    simp (le-leb _ _ (k .before .before .before .before .if1 .left), le-leb _ _ (k .before .before .before .if2 .left), ne-eqb _ _ (k .before .before .if3 .left), le-leb _ _ (k .before .if4 .left), le-leb _ _ (k .if5 .left), ← c .before .coefficients-ok .ensures, not-true (c .before .coefficients-ok .result) (c .if6 .taken))
+    simp (
+      le-leb _ _ (k .before .before .before .before .if1 .left),
+      le-leb _ _ (k .before .before .before .if2 .left),
+      ne-eqb _ _ (k .before .before .if3 .left),
+      le-leb _ _ (k .before .if4 .left),
+      le-leb _ _ (k .if5 .left),
+      ← c .before .coefficients-ok .ensures,
+      not-true (c .before .coefficients-ok .result) (c .if6 .taken),
+    )
 
 cut-down-requires : tie.Need-cut-down-requires
 cut-down-requires c κs = search needs

@@ -21,7 +21,12 @@ coefficients-ok-requires c κs = search needs
 
 returns-2 : tie.Need-returns-2
 unfolding valid
-returns-2 c = simp (← c .before .before .before .before .numbers-ok .ensures, not-false (c .before .before .before .before .numbers-ok .result) (c .before .before .before .if1 .left), ← c .before .coefficients-ok .ensures, not-true (c .before .coefficients-ok .result) (c .if2 .taken))
+returns-2 c = simp (
+  ← c .before .before .before .before .numbers-ok .ensures,
+  not-false (c .before .before .before .before .numbers-ok .result) (c .before .before .before .if1 .left),
+  ← c .before .coefficients-ok .ensures,
+  not-true (c .before .coefficients-ok .result) (c .if2 .taken),
+)
 
 cast-counts-ok : tie.Need-cast-counts-ok
 cast-counts-ok c = search needs
@@ -37,7 +42,13 @@ counts-ok-requires c κs = let w = numbers-sound _ _ _ _ (sym (c .before .before
 
 returns-3 : tie.Need-returns-3
 unfolding valid
-returns-3 c = simp (← c .before .before .before .before .before .numbers-ok .ensures, not-false (c .before .before .before .before .before .numbers-ok .result) (c .before .before .before .before .if1 .left), ← c .before .before .coefficients-ok .ensures, not-false (c .before .before .coefficients-ok .result) (c .before .if2 .left), ← c .counts-ok .ensures)
+returns-3 c = simp (
+  ← c .before .before .before .before .before .numbers-ok .ensures,
+  not-false (c .before .before .before .before .before .numbers-ok .result) (c .before .before .before .before .if1 .left),
+  ← c .before .before .coefficients-ok .ensures,
+  not-false (c .before .before .coefficients-ok .result) (c .before .if2 .left),
+  ← c .counts-ok .ensures,
+)
 
 pub valid-spec : {M : Type 1} → statement M
 valid-spec =

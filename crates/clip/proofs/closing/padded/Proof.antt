@@ -33,7 +33,12 @@ loop-less : tie.Need-loop-less Inv-loop μ-loop
 loop-less c = omega arith
 
 loop-again : tie.Need-loop-again Inv-loop μ-loop
-loop-again c = (omega arith, omega arith, pad-turn (c .before .before .args .frame) (c .before .loop .f) (c .before .before .args .m) (c .before .loop .j) (c .before .loop .inv .0) (c .before .loop .inv .2))
+loop-again c = (
+  omega arith,
+  omega arith,
+  pad-turn (c .before .before .args .frame) (c .before .loop .f) (c .before .before .args .m) (c .before .loop .j) (c .before .loop .inv .0)
+      (c .before .loop .inv .2),
+)
 
 returns : tie.Need-returns Inv-loop μ-loop
 returns c =

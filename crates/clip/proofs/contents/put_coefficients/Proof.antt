@@ -51,7 +51,8 @@ loop-again c =
     let l = c .before .before .before .before .before .before .before .loop in
     let n : length (a .t2) ≡ 16 = search needs in (
       omega arith,
-      coefficient-turn (a .image .now) (l .image) (c .before .before .put16 .last .0) (a .t2) (l .i) (c .before .before .before .bits16 .result) (omega arith) (c .before .before .before .before .bits16-arg .given) (l .inv .1) (c .before .before .before .bits16 .ensures) (c .before .before .put16 .ensures),
+      coefficient-turn (a .image .now) (l .image) (c .before .before .put16 .last .0) (a .t2) (l .i) (c .before .before .before .bits16 .result) (omega arith)
+          (c .before .before .before .before .bits16-arg .given) (l .inv .1) (c .before .before .before .bits16 .ensures) (c .before .before .put16 .ensures),
     )
 
 same-length : tie.Need-same-length Inv-loop μ-loop

@@ -40,11 +40,16 @@ same-length c = search needs
 returns : tie.Need-returns
 returns c =
     let a = c .before .before .before .before .before .before .before .before .before .before .before .before .before .before .before .before .before .args in
-    let n = c .before .before .before .before .before .before .before .before .before .bits16 .ensures ∙ ap (ofZ w16) (toZ-ofZ {w = w16} {z = a .history .newest} (record { sfits = c .before .before .before .before .before .before .before .before .before .before .struct-told .given .0 .1 })) in
-    let o = c .before .before .before .bits162 .ensures ∙ ap (ofZ w16) (toZ-ofZ {w = w16} {z = a .history .older} (record { sfits = c .before .before .before .before .struct-told2 .given .1 .0 .1 })) in
-    runs3 (a .image .now) (c .before .before .before .before .before .before .before .before .before .before .before .before .before .before .put16 .last .0) (c .before .before .before .before .before .before .before .before .put162 .last .0) (c .before .before .put163 .last .0) (be16 (a .header)) (sample16 (a .history .newest)) (sample16 (a .history .older)) (a .at) (a .at + 2) (a .at + 4)
+    let n = c .before .before .before .before .before .before .before .before .before .bits16 .ensures
+    ∙ ap (ofZ w16) (toZ-ofZ {w = w16} {z = a .history .newest} (record { sfits = c .before .before .before .before .before .before .before .before .before .before .struct-told .given .0 .1 })) in
+    let o = c .before .before .before .bits162 .ensures
+    ∙ ap (ofZ w16) (toZ-ofZ {w = w16} {z = a .history .older} (record { sfits = c .before .before .before .before .struct-told2 .given .1 .0 .1 })) in
+    runs3 (a .image .now) (c .before .before .before .before .before .before .before .before .before .before .before .before .before .before .put16 .last .0)
+    (c .before .before .before .before .before .before .before .before .put162 .last .0) (c .before .before .put163 .last .0) (be16 (a .header)) (sample16 (a .history .newest))
+    (sample16 (a .history .older)) (a .at) (a .at + 2) (a .at + 4)
     (c .before .before .before .before .before .before .before .before .before .before .before .before .before .before .put16 .ensures)
-    (c .before .before .before .before .before .before .before .before .put162 .ensures ∙ ap (λ (v : ℕ). sets (c .before .before .before .before .before .before .before .before .before .before .before .before .before .before .put16 .last .0) (a .at + 2) (be16 v)) n)
+    (c .before .before .before .before .before .before .before .before .put162 .ensures
+    ∙ ap (λ (v : ℕ). sets (c .before .before .before .before .before .before .before .before .before .before .before .before .before .before .put16 .last .0) (a .at + 2) (be16 v)) n)
     (c .before .before .put163 .ensures ∙ ap (λ (v : ℕ). sets (c .before .before .before .before .before .before .before .before .put162 .last .0) (a .at + 4) (be16 v)) o)
     refl (omega arith)
 

@@ -30,8 +30,10 @@ same-length c = search needs
 returns : tie.Need-returns
 returns c =
     let a = c .before .before .before .before .before .before .before .before .before .before .before .before .before .args in
-    runs3 (a .image .now) (c .before .before .before .before .before .before .before .before .before .before .put32 .last .0) (c .before .before .before .before .before .before .put322 .last .0) (c .before .before .zeros .last .0) (be32 (a .offset)) (be32 (a .nibbles)) (replicate 8 0) (a .at) (a .at + 4) (a .at + 8)
-    (c .before .before .before .before .before .before .before .before .before .before .put32 .ensures) (c .before .before .before .before .before .before .put322 .ensures) (c .before .before .zeros .ensures) refl (omega arith)
+    runs3 (a .image .now) (c .before .before .before .before .before .before .before .before .before .before .put32 .last .0) (c .before .before .before .before .before .before .put322 .last .0)
+    (c .before .before .zeros .last .0) (be32 (a .offset)) (be32 (a .nibbles)) (replicate 8 0) (a .at) (a .at + 4) (a .at + 8)
+    (c .before .before .before .before .before .before .before .before .before .before .put32 .ensures) (c .before .before .before .before .before .before .put322 .ensures)
+    (c .before .before .zeros .ensures) refl (omega arith)
 
 pub put-entry-spec : {M : Type 1} → statement M
 put-entry-spec =

@@ -8,12 +8,13 @@ use lib.ListN.{length, replicate}
 use lib.Seq.{sets}
 use Rattle.layout.specs.declared.Shape.{Shape}
 use Rattle.layout.specs.Fields.{noMark}
-use Rattle.layout.specs.Sizes.{blockCount, bodiesPlace, bodyBytes, imageSize}
-use Rattle.clip.specs.Image.{startShape, headBytes, tableBytes, freshBytes}
+use Rattle.layout.specs.Sizes.{blockCount, bodiesPlace, bodyBytes, imageSize, lastSamples}
+use Rattle.clip.specs.Image.{startShape, headBytes, tableBytes, freshBytes, coefficientBytes}
 use Rattle.clip.proofs.FieldRuns.{runs3, head-length}
 use Rattle.clip.proofs.Tables.{bare, table-length}
 use Rattle.clip.proofs.contents.put_fresh.Statement.{statement}
 use Rattle.clip.proofs.contents.put_fresh.Tie as tie
+use Rattle.whole.specs.Frames.{frameCount}
 
 shape-of-requires : tie.Need-shape-of-requires
 shape-of-requires c κs = search needs
@@ -25,24 +26,26 @@ cast-put-head : tie.Need-cast-put-head
 cast-put-head c = search needs
 
 put-head-requires : tie.Need-put-head-requires
-unfolding imageSize
+unfolding imageSize blockCount bodyBytes frameCount lastSamples
 put-head-requires c κs = let s = c .before .before .before .before in
     (omega (arith, s .pre .1), c .before .block-count .ensures .0 ∙ ap blockCount (c .before .before .shape-of .ensures))
 
 put-table-requires : tie.Need-put-table-requires
-unfolding imageSize
+unfolding imageSize blockCount bodyBytes frameCount lastSamples
 put-table-requires c κs = let s = c .before .before .before .before .before .before .before .before in
     let p = ap bodiesPlace (c .before .before .before .before .before .before .shape-of .ensures) in
     (rw (c .before .before .before .before .before .before .shape-of .ensures) (s .pre .0), omega (arith, s .pre .1, p, c .before .before .before .put-head .kept .0))
 
 bodies-place-requires : tie.Need-bodies-place-requires
-bodies-place-requires c κs = let s = c .before .before .before .before .before .before .before .before .before .before .before .before in rw (c .before .before .before .before .before .before .before .before .before .before .shape-of .ensures) (s .pre .0)
+bodies-place-requires c κs = let s = c .before .before .before .before .before .before .before .before .before .before .before .before in
+    rw (c .before .before .before .before .before .before .before .before .before .before .shape-of .ensures) (s .pre .0)
 
 body-bytes-requires : tie.Need-body-bytes-requires
-body-bytes-requires c κs = let s = c .before .before .before .before .before .before .before .before .before .before .before .before .before in rw (c .before .before .before .before .before .before .before .before .before .before .before .shape-of .ensures) (s .pre .0 .some, s .pre .0 .few)
+body-bytes-requires c κs = let s = c .before .before .before .before .before .before .before .before .before .before .before .before .before in
+    rw (c .before .before .before .before .before .before .before .before .before .before .before .shape-of .ensures) (s .pre .0 .some, s .pre .0 .few)
 
 zeros-requires : tie.Need-zeros-requires
-unfolding imageSize
+unfolding imageSize blockCount bodyBytes frameCount lastSamples
 zeros-requires c κs = let s = c .before .before .before .before .before .before .before .before .before .before .before .before .before .before in
     let e = c .before .before .before .before .before .before .before .before .before .before .before .before .shape-of .ensures in
     let p = c .before .bodies-place .ensures ∙ ap bodiesPlace e in
@@ -53,7 +56,7 @@ same-length : tie.Need-same-length
 same-length c = search needs
 
 returns : tie.Need-returns
-unfolding freshBytes
+unfolding freshBytes headBytes tableBytes coefficientBytes blockCount frameCount
 returns c = let s = c .before .before .before .before .before .before .before .before .before .before .before .before .before .before .before .before .before in
     let a = s .args in
     let g = a .g in

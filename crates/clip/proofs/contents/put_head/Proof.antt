@@ -11,6 +11,8 @@ use Rattle.clip.specs.Image.{coefficientBytes, headBytes}
 use Rattle.clip.proofs.FieldRuns.{runs4, coefficient-length}
 use Rattle.clip.proofs.contents.put_head.Statement.{statement}
 use Rattle.clip.proofs.contents.put_head.Tie as tie
+use Rattle.layout.specs.Sizes.{blockCount}
+use Rattle.whole.specs.Frames.{frameCount}
 
 zeros-requires : tie.Need-zeros-requires
 zeros-requires c κs = search needs
@@ -28,7 +30,7 @@ same-length : tie.Need-same-length
 same-length c = search needs
 
 returns : tie.Need-returns
-unfolding headBytes
+unfolding headBytes coefficientBytes blockCount frameCount
 returns c = let s = c .before .before .before .before .before .before .before .before .before .before .before .before .before .before .before .before .before .before in
     let a = s .args in
     let g = a .g in
@@ -42,7 +44,8 @@ returns c = let s = c .before .before .before .before .before .before .before .b
     runs4 (a .image .now) (z .last .0) (n .last .0) (k .last .0) (r .last .0)
     noMark (be32 (g .total) ++ (be32 (g .rate) ++ be32 (g .block))) (coefficientBytes cs) (be16 (g .gain) ++ (replicate 2 0 ++ be32 (a .blocks))) 0 4 16 48
     (z .ensures) (n .ensures) (k .ensures) (r .ensures) refl refl len
-    ∙ ap (λ (b : ℕ). sets (a .image .now) 0 (noMark ++ ((be32 (g .total) ++ (be32 (g .rate) ++ be32 (g .block))) ++ (coefficientBytes cs ++ (be16 (g .gain) ++ (replicate 2 0 ++ be32 b)))))) (s .pre .1)
+    ∙ ap (λ (b : ℕ). sets (a .image .now) 0 (noMark ++ ((be32 (g .total) ++ (be32 (g .rate) ++ be32 (g .block))) ++ (coefficientBytes cs ++ (be16 (g .gain) ++ (replicate 2 0 ++ be32 b))))))
+    (s .pre .1)
 
 pub put-head-spec : {M : Type 1} → statement M
 put-head-spec =

@@ -26,8 +26,10 @@ same-length c = search needs
 returns : tie.Need-returns
 returns c =
     let a = c .before .before .before .before .before .before .before .before .before .before .before .before .before .args in
-    runs3 (a .image .now) (c .before .before .before .before .before .before .before .before .before .before .put32 .last .0) (c .before .before .before .before .before .before .put322 .last .0) (c .before .before .put323 .last .0) (be32 (a .total)) (be32 (a .rate)) (be32 (a .block)) 4 8 12
-    (c .before .before .before .before .before .before .before .before .before .before .put32 .ensures) (c .before .before .before .before .before .before .put322 .ensures) (c .before .before .put323 .ensures) refl refl
+    runs3 (a .image .now) (c .before .before .before .before .before .before .before .before .before .before .put32 .last .0) (c .before .before .before .before .before .before .put322 .last .0)
+    (c .before .before .put323 .last .0) (be32 (a .total)) (be32 (a .rate)) (be32 (a .block)) 4 8 12
+    (c .before .before .before .before .before .before .before .before .before .before .put32 .ensures) (c .before .before .before .before .before .before .put322 .ensures)
+    (c .before .before .put323 .ensures) refl refl
 
 pub put-numbers-spec : {M : Type 1} → statement M
 put-numbers-spec =

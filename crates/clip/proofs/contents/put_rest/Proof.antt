@@ -26,8 +26,10 @@ same-length c = search needs
 returns : tie.Need-returns
 returns c =
     let a = c .before .before .before .before .before .before .before .before .before .before .before .before .before .args in
-    runs3 (a .image .now) (c .before .before .before .before .before .before .before .before .before .before .put16 .last .0) (c .before .before .before .before .before .before .zeros .last .0) (c .before .before .put32 .last .0) (be16 (a .gain)) (replicate 2 0) (be32 (a .blocks)) 48 50 52
-    (c .before .before .before .before .before .before .before .before .before .before .put16 .ensures) (c .before .before .before .before .before .before .zeros .ensures) (c .before .before .put32 .ensures) refl refl
+    runs3 (a .image .now) (c .before .before .before .before .before .before .before .before .before .before .put16 .last .0) (c .before .before .before .before .before .before .zeros .last .0)
+    (c .before .before .put32 .last .0) (be16 (a .gain)) (replicate 2 0) (be32 (a .blocks)) 48 50 52
+    (c .before .before .before .before .before .before .before .before .before .before .put16 .ensures) (c .before .before .before .before .before .before .zeros .ensures)
+    (c .before .before .put32 .ensures) refl refl
 
 pub put-rest-spec : {M : Type 1} → statement M
 put-rest-spec =

@@ -11,6 +11,7 @@ use Rattle.clip.specs.Image.{tableBytes}
 use Rattle.clip.proofs.Tables.{bare, table-none, table-turn}
 use Rattle.clip.proofs.contents.put_table.Statement.{statement}
 use Rattle.clip.proofs.contents.put_table.Tie as tie
+use Rattle.whole.specs.Frames.{frameCount}
 
 abbrev Inv-loop : tie.InvT-loop
 Inv-loop image₀ shape bodies blocks block k₀ image k = (k ≤ blocks) × (image ≡ sets image₀ 56 (tableBytes bare shape 0 k)) × (length image ≡ length image₀)
@@ -39,7 +40,7 @@ module _ (c : tie.In-loop Inv-loop μ-loop) where
   bodies = c .before .before .before .bodies-place .ensures
 
 offset-is : (s : Shape) (k p : ℕ) → p ≡ bodiesPlace s → p + k * s .block ≡ blockOffset s k
-unfolding blockOffset
+unfolding blockOffset blockCount frameCount
 offset-is s k p e = ap (λ (x : ℕ). x + k * s .block) e
 
 bodies-place-requires : tie.Need-bodies-place-requires Inv-loop μ-loop

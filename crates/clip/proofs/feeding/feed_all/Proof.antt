@@ -100,14 +100,17 @@ encode-full-requires : tie.Need-encode-full-requires Inv-loop μ-loop
 encode-full-requires c κs =
     let l = c .before .before .before .before in
     let r = l .loop in
-    let room = full-room (state l) (r .i) _ _ (r .inv .2) (c .before .before .before .loop-test .taken) (full (c .before)) in
-    (subst (λ (k : ℕ). Room (l .before .before .before .before .encoder-shape .result) (r .n / 14) 8 k) (sym (r .inv .3)) (rw (l .before .before .before .before .encoder-shape .ensures) room), r .inv .2 .within)
+    let room = full-room (state l) (r .i) _ _ (r .inv .2) (c .before .before .before .loop-test .taken) (full (c .before)) in (
+      subst (λ (k : ℕ). Room (l .before .before .before .before .encoder-shape .result) (r .n / 14) 8 k) (sym (r .inv .3)) (rw (l .before .before .before .before .encoder-shape .ensures) room),
+      r .inv .2 .within,
+    )
 
 add-passes : tie.Need-add-passes Inv-loop μ-loop
 add-passes c =
     let f = c .before .before .before .before .before .before .before in
     let l = f .before .before in
-    let e = c .before .before .before .before .encode-full .ensures .1 .0 ∙ ap (λ (z : ℤ). encodeFrame (l .loop .history) (set (l .loop .frame) (l .loop .n % 14) z) (state l .coefficients) .passes) (same f) in
+    let e = c .before .before .before .before .encode-full .ensures .1 .0
+    ∙ ap (λ (z : ℤ). encodeFrame (l .loop .history) (set (l .loop .frame) (l .loop .n % 14) z) (state l .coefficients) .passes) (same f) in
     let few = push-passes (state l) (sample f) (l .loop .image) _ _ _ _ (l .loop .inv .2) (f .before .loop-test .taken) e in
     omega (arith, few)
 

@@ -30,7 +30,8 @@ div-entry-place : tie.Need-div-entry-place
 div-entry-place c = search needs
 
 entry-place-requires : tie.Need-entry-place-requires
-entry-place-requires c κs = let s = c .before .before .before .before .before .before .before .before .before in omega (arith, room-context (s .args .shape) (s .args .q) (s .args .k) _ (s .pre) (c .before .if1 .taken))
+entry-place-requires c κs = let s = c .before .before .before .before .before .before .before .before .before in
+    omega (arith, room-context (s .args .shape) (s .args .q) (s .args .k) _ (s .pre) (c .before .if1 .taken))
 
 add-put-context : tie.Need-add-put-context
 add-put-context c = let s = c .before .before .before .before .before .before .before .before .before .before in

@@ -1,8 +1,8 @@
 -- `process` meets its contract. Assumes nothing.
 use mathlib.Core.Path.{sym, ap, _∙_}
 use borrow.Author.Needs.{needs}
-use Rattle.coefficients.specs.Measure.{outcome, process, processEffect}
-use Rattle.whole.specs.Outcome.{accepted}
+use Rattle.coefficients.specs.Measure.{outcome, process}
+use Rattle.whole.specs.Outcome.{accepted, effect}
 use Rattle.coefficients.proofs.AcceptedCalls.{process-measurable}
 use Rattle.coefficients.proofs.CoefficientCalculator.process.Statement.{statement}
 use Rattle.coefficients.proofs.CoefficientCalculator.process.Tie as tie
@@ -23,7 +23,7 @@ returns : tie.Need-returns
 unfolding process
 returns c =
     let t = c .before .before .before .before in
-    rw (← t .before .before .process-answer .ensures, t .enum-told .given .1) (ap (processEffect (accepted tt)) (c .before .before .push-all .ensures))
+    rw (← t .before .before .process-answer .ensures, t .enum-told .given .1) (ap (effect (accepted tt)) (c .before .before .push-all .ensures))
 
 returns-2 : tie.Need-returns-2
 unfolding process

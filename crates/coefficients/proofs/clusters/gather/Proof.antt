@@ -1,11 +1,11 @@
 -- `gather` meets its contract. Assumes nothing.
 use mathlib.Core.Path.{_≡_, sym, ap, _∙_}
-use mathlib.Core.List.{List}
+use mathlib.Core.List.{List, foldl}
 use Prim.Native.Nat.{ℕ, _≤_, _-_}
 use native.Mathlib.Omega.{arith}
 use borrow.Author.Needs.{needs}
 use lib.ListN.{getD}
-use Rattle.coefficients.specs.Store.{foldl, records}
+use Rattle.coefficients.specs.Store.{records}
 use Rattle.coefficients.specs.Clusters.{gather, empty, none, addToNearest}
 use Rattle.coefficients.specs.inner.SharedTerms.{allTerms}
 use Rattle.coefficients.specs.declared.merging.VectorTerms.{VectorTerms}

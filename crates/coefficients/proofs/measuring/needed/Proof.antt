@@ -1,6 +1,6 @@
 -- `needed` meets its contract. Assumes nothing.
 use borrow.Author.Needs.{needs}
-use Rattle.whole.specs.Frames.{framesOf}
+use Rattle.whole.specs.Frames.{frameCount}
 use Rattle.coefficients.proofs.measuring.needed.Statement.{statement}
 use Rattle.coefficients.proofs.measuring.needed.Tie as tie
 
@@ -11,7 +11,7 @@ mul-result : tie.Need-mul-result
 mul-result c = search needs
 
 returns : tie.Need-returns
-unfolding framesOf
+unfolding frameCount
 returns c = search needs
 
 pub needed-spec : {M : Type 1} → statement M

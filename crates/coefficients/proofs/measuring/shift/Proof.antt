@@ -52,7 +52,7 @@ loop-again c =
     (omega arith, step (l .before .args .h .now) (l .loop .h) (l .loop .i) _ (l .loop .inv .1) (toZ-ofZ (record { sfits = c .x .given })))
 
 returns : tie.Need-returns Inv-loop μ-loop
-unfolding shift
+unfolding shift copied
 returns c = let i : c .before .loop .i ≡ 14 = omega arith in rw i at (c .before .loop .inv .1)
 
 pub shift-spec : {M : Type 1} → statement M

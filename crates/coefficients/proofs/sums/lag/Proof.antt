@@ -4,7 +4,7 @@ use native.Mathlib.Omega.{arith}
 use mir.Syntax.{w64}
 use mir.Facts.{toZ-ofZ}
 use Rattle.coefficients.specs.Sums.{lag}
-use Rattle.whole.proofs.Values.{sfits-abs}
+use Rattle.whole.proofs.SignedLocals.{sfits-abs}
 use Rattle.coefficients.proofs.sums.lag.Statement.{statement}
 use Rattle.coefficients.proofs.sums.lag.Tie as tie
 

@@ -6,7 +6,7 @@ use lib.IntN.{pos, natAbs, _-ℤ_}
 use mir.Syntax.{w64}
 use mir.Val.{SFits}
 use mir.Facts.{toZ-ofZ}
-use Rattle.whole.proofs.Values.{abs-sub, sfits-abs}
+use Rattle.whole.proofs.SignedLocals.{abs-sub, sfits-abs}
 use Rattle.coefficients.proofs.sums.negated.Statement.{statement}
 use Rattle.coefficients.proofs.sums.negated.Tie as tie
 

@@ -5,7 +5,7 @@ use lib.IntN.{ℤ, _+ℤ_}
 use mir.Syntax.{w64}
 use mir.Val.{SFits}
 use mir.Facts.{toZ-ofZ}
-use Rattle.whole.proofs.Values.{abs-add, sfits-abs}
+use Rattle.whole.proofs.SignedLocals.{abs-add, sfits-abs}
 use Rattle.coefficients.proofs.sums.plus.Statement.{statement}
 use Rattle.coefficients.proofs.sums.plus.Tie as tie
 

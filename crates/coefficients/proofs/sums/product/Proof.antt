@@ -1,7 +1,7 @@
 -- `product` meets its contract. Assumes nothing.
 use mathlib.Core.Path.{refl}
 use mir.Facts.{toZ-ofZ}
-use Rattle.whole.proofs.Values.{sfits-abs, abs-sfits, is-16}
+use Rattle.whole.proofs.SignedLocals.{sfits-abs, abs-sfits, is-16}
 use Rattle.coefficients.proofs.SampleSizes.{small-product}
 use Rattle.coefficients.proofs.sums.product.Statement.{statement}
 use Rattle.coefficients.proofs.sums.product.Tie as tie

@@ -1,5 +1,4 @@
 -- `doilycairn_join` meets its contract. Assumes nothing.
-use Rattle.doilycairn.specs.Blocks.{joinInC}
 use Rattle.doilycairn.proofs.Seen.{join-seen}
 use borrow.Author.Needs.{needs}
 use Rattle.doilycairn.proofs.blocks.doilycairn_join.Statement.{statement}
@@ -15,7 +14,6 @@ same-length : tie.Need-same-length
 same-length c = search needs
 
 returns : tie.Need-returns
-unfolding joinInC
 returns c = join-seen _ _ (c .joined-answer .ensures) (c .before .before .before .extend-samples .ensures)
 
 pub doilycairn-join-spec : {M : Type 1} → statement M

@@ -1,6 +1,5 @@
 -- `doilycairn_play_bytes` meets its contract. Assumes nothing.
-use Rattle.doilycairn.specs.Blocks.{playBytesInC}
-use Rattle.doilycairn.proofs.Seen.{bytes-seen}
+use Rattle.doilycairn.proofs.Seen.{play-seen}
 use borrow.Author.Needs.{needs}
 use Rattle.doilycairn.proofs.blocks.doilycairn_play_bytes.Statement.{statement}
 use Rattle.doilycairn.proofs.blocks.doilycairn_play_bytes.Tie as tie
@@ -15,8 +14,7 @@ same-length : tie.Need-same-length
 same-length c = search needs
 
 returns : tie.Need-returns
-unfolding playBytesInC
-returns c = bytes-seen _ _ _ (c .played-answer .ensures) (c .before .before .before .play-bytes .ensures)
+returns c = play-seen _ _ _ (c .played-answer .ensures) (c .before .before .before .play-bytes .ensures)
 
 pub doilycairn-play-bytes-spec : {M : Type 1} → statement M
 doilycairn-play-bytes-spec =

@@ -1,5 +1,4 @@
 -- `doilycairn_finish` meets its contract. Assumes nothing.
-use Rattle.doilycairn.specs.Measuring.{finishInC}
 use Rattle.doilycairn.proofs.Seen.{finish-seen}
 use borrow.Author.Needs.{needs}
 use Rattle.doilycairn.proofs.measuring.doilycairn_finish.Statement.{statement}
@@ -15,7 +14,6 @@ same-length : tie.Need-same-length
 same-length c = search needs
 
 returns : tie.Need-returns
-unfolding finishInC
 returns c = finish-seen _ _ _ _ (c .code-of .ensures) (c .before .before .before .before .before .finish .ensures)
 
 pub doilycairn-finish-spec : {M : Type 1} → statement M

@@ -1,5 +1,4 @@
 -- `doilycairn_process` meets its contract. Assumes nothing.
-use Rattle.doilycairn.specs.Measuring.{processInC}
 use Rattle.doilycairn.proofs.Seen.{process-seen}
 use borrow.Author.Needs.{needs}
 use Rattle.doilycairn.proofs.measuring.doilycairn_process.Statement.{statement}
@@ -15,7 +14,6 @@ same-length : tie.Need-same-length
 same-length c = search needs
 
 returns : tie.Need-returns
-unfolding processInC
 returns c = process-seen _ _ _ (c .code-of .ensures) (c .before .before .before .before .process .ensures)
 
 pub doilycairn-process-spec : {M : Type 1} → statement M

@@ -29,7 +29,8 @@ returns : tie.Need-returns
 returns c = body-found _ _ (c .body-at .ensures) (sym (c .before .before .before .block-answer .ensures) ∙ ap outcome (c .before .enum-told .given .1))
 
 returns-2 : tie.Need-returns-2
-returns-2 c = body-refused _ _ _ (c .code .ensures) (c .before .new .ensures) (sym (c .before .before .before .before .before .block-answer .ensures) ∙ ap outcome (c .before .before .before .answer .given .1))
+returns-2 c = body-refused _ _ _ (c .code .ensures) (c .before .new .ensures) (sym (c .before .before .before .before .before .block-answer .ensures)
+    ∙ ap outcome (c .before .before .before .answer .given .1))
 
 pub doilycairn-block-body-spec : {M : Type 1} → statement M
 doilycairn-block-body-spec =

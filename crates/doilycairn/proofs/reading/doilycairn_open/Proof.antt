@@ -1,5 +1,4 @@
 -- `doilycairn_open` meets its contract. Assumes nothing.
-use Rattle.doilycairn.specs.Reading.{openInC}
 use Rattle.doilycairn.proofs.Seen.{open-seen}
 use borrow.Author.Needs.{needs}
 use Rattle.doilycairn.proofs.reading.doilycairn_open.Statement.{statement}
@@ -12,7 +11,6 @@ code-of-requires : tie.Need-code-of-requires
 code-of-requires c κs = search needs
 
 returns : tie.Need-returns
-unfolding openInC
 returns c = open-seen _ _ (c .code-of .ensures) (c .before .before .«open» .ensures)
 
 pub doilycairn-open-spec : {M : Type 1} → statement M

@@ -1,5 +1,4 @@
 -- `doilycairn_play` meets its contract. Assumes nothing.
-use Rattle.doilycairn.specs.Reading.{playInC}
 use Rattle.doilycairn.proofs.Seen.{play-seen}
 use borrow.Author.Needs.{needs}
 use Rattle.doilycairn.proofs.reading.doilycairn_play.Statement.{statement}
@@ -15,7 +14,6 @@ same-length : tie.Need-same-length
 same-length c = search needs
 
 returns : tie.Need-returns
-unfolding playInC
 returns c = play-seen _ _ _ (c .played-answer .ensures) (c .before .before .before .play .ensures)
 
 pub doilycairn-play-spec : {M : Type 1} → statement M

@@ -1,6 +1,6 @@
 -- `doilycairn_same` meets its contract. Assumes nothing.
 use mathlib.Core.Path.{ap, _∙_}
-use Rattle.doilycairn.specs.Reading.{comparedAnswer, sameInC}
+use Rattle.doilycairn.specs.Reading.{comparedAnswer}
 use borrow.Author.Needs.{needs}
 use Rattle.doilycairn.proofs.reading.doilycairn_same.Statement.{statement}
 use Rattle.doilycairn.proofs.reading.doilycairn_same.Tie as tie
@@ -12,7 +12,6 @@ compared-answer-requires : tie.Need-compared-answer-requires
 compared-answer-requires c κs = search needs
 
 returns : tie.Need-returns
-unfolding sameInC
 returns c = c .compared-answer .ensures ∙ ap comparedAnswer (c .before .same .ensures)
 
 pub doilycairn-same-spec : {M : Type 1} → statement M

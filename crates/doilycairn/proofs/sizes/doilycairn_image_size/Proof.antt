@@ -47,7 +47,13 @@ image-size-requires c κs = let e = c .cut-down .ensures in
 returns-5 : tie.Need-returns-5
 unfolding imageSize
 returns-5 c = let s = c .image-size .ensures ∙ ap (λ (b : ℕ). Layout.imageSize (Layout.shape (c .before .before .before .before .before .before .args .total) b)) (c .before .cut-down .ensures) in
-    simp (le-leb _ _ (c .before .before .before .before .before .if1 .left), le-leb _ _ (c .before .before .before .before .if2 .left), le-leb _ _ (c .before .before .before .if3 .left), le-leb _ _ (c .before .before .if4 .left), s)
+    simp (
+      le-leb _ _ (c .before .before .before .before .before .if1 .left),
+      le-leb _ _ (c .before .before .before .before .if2 .left),
+      le-leb _ _ (c .before .before .before .if3 .left),
+      le-leb _ _ (c .before .before .if4 .left),
+      s,
+    )
 
 pub doilycairn-image-size-spec : {M : Type 1} → statement M
 doilycairn-image-size-spec =

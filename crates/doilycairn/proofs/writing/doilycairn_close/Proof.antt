@@ -1,5 +1,4 @@
 -- `doilycairn_close` meets its contract. Assumes nothing.
-use Rattle.doilycairn.specs.Writing.{closeInC}
 use Rattle.doilycairn.proofs.Seen.{clip-seen}
 use borrow.Author.Needs.{needs}
 use Rattle.doilycairn.proofs.writing.doilycairn_close.Statement.{statement}
@@ -15,7 +14,6 @@ same-length : tie.Need-same-length
 same-length c = search needs
 
 returns : tie.Need-returns
-unfolding closeInC
 returns c = clip-seen _ _ _ (c .code-of .ensures) (c .before .before .before .before .close .ensures)
 
 pub doilycairn-close-spec : {M : Type 1} → statement M

@@ -1,5 +1,4 @@
 -- `doilycairn_encode_frame` meets its contract. Assumes nothing.
-use Rattle.doilycairn.specs.Writing.{frameInC}
 use Rattle.doilycairn.proofs.Seen.{frame-seen}
 use borrow.Author.Needs.{needs}
 use Rattle.doilycairn.proofs.writing.doilycairn_encode_frame.Statement.{statement}
@@ -12,7 +11,6 @@ frame-code-requires : tie.Need-frame-code-requires
 frame-code-requires c κs = search needs
 
 returns : tie.Need-returns
-unfolding frameInC
 returns c = let done = c .before .before .before .encode-one-frame in frame-seen (done .result) (c .frame-code .ensures) (done .ensures)
 
 pub doilycairn-encode-frame-spec : {M : Type 1} → statement M

@@ -1,5 +1,4 @@
 -- `doilycairn_feed` meets its contract. Assumes nothing.
-use Rattle.doilycairn.specs.Writing.{feedInC}
 use Rattle.doilycairn.proofs.Seen.{clip-seen}
 use borrow.Author.Needs.{needs}
 use Rattle.doilycairn.proofs.writing.doilycairn_feed.Statement.{statement}
@@ -15,7 +14,6 @@ same-length : tie.Need-same-length
 same-length c = search needs
 
 returns : tie.Need-returns
-unfolding feedInC
 returns c = clip-seen _ _ _ (c .code-of .ensures) (c .before .before .before .before .feed .ensures)
 
 pub doilycairn-feed-spec : {M : Type 1} → statement M

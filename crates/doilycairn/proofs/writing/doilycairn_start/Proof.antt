@@ -1,5 +1,4 @@
 -- `doilycairn_start` meets its contract. Assumes nothing.
-use Rattle.doilycairn.specs.Writing.{startInC}
 use Rattle.doilycairn.proofs.Seen.{clip-seen}
 use borrow.Author.Needs.{needs}
 use Rattle.doilycairn.proofs.writing.doilycairn_start.Statement.{statement}
@@ -15,7 +14,6 @@ same-length : tie.Need-same-length
 same-length c = search needs
 
 returns : tie.Need-returns
-unfolding startInC
 returns c = clip-seen _ _ _ (c .code-of .ensures) (c .before .before .before .before .start .ensures)
 
 pub doilycairn-start-spec : {M : Type 1} → statement M

@@ -11,7 +11,7 @@ use lib.Signed.{shrZ, mag, nonNeg}
 use mir.Syntax.{w32, w64}
 use mir.Val.{Fits, SFits, toZ, ofZ}
 use mir.Facts.{toZ-ofZ}
-use Rattle.whole.proofs.Values.{shr-fits}
+use Rattle.whole.proofs.SignedLocals.{shr-fits}
 use Rattle.frame.specs.inner.Lanes.{Shown, figuresAt}
 use Rattle.frame.proofs.choice.figures_at.Statement.{statement}
 use Rattle.frame.proofs.choice.figures_at.Tie as tie

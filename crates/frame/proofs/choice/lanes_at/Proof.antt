@@ -7,7 +7,7 @@ use native.Mathlib.Omega.{arith}
 use lib.IntN.{ℤ, pos}
 use lib.ListN.{getD}
 use mir.Facts.{toZ-ofZ}
-use Rattle.whole.proofs.Values.{abs-sfits}
+use Rattle.whole.proofs.SignedLocals.{abs-sfits}
 use Rattle.frame.specs.declared.lane.Lane.{Lane}
 use Rattle.frame.specs.Estimate.{firstExponent}
 use Rattle.frame.specs.Pass.{Bounded}

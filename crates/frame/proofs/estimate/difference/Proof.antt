@@ -10,7 +10,7 @@ use mir.Syntax.{w16, w64}
 use mir.Val.{toZ, ofZ}
 use mir.Facts.{toZ-ofZ}
 use Rattle.whole.specs.Whole.{clamp16, towardsZero}
-use Rattle.whole.proofs.Values.{Is, is-16, is-in, is-call, is-sub, chk-sub, chk-cast, abs-quot}
+use Rattle.whole.proofs.SignedLocals.{Is, is-16, is-in, is-call, is-sub, chk-sub, chk-cast, abs-quot}
 use Rattle.frame.specs.Estimate.{weigh, difference}
 use Rattle.frame.proofs.LawsEstimate.{weigh-any}
 use Rattle.frame.proofs.estimate.difference.Statement.{statement}

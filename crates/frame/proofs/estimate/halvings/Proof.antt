@@ -7,7 +7,7 @@ use mir.Syntax.{w16}
 use mir.Val.{SFits, toZ, ofZ}
 use mir.Facts.{toZ-ofZ}
 use borrow.Author.Needs.{needs}
-use Rattle.whole.proofs.Values.{quot-fits}
+use Rattle.whole.proofs.SignedLocals.{quot-fits}
 use Rattle.frame.specs.Estimate.{halvingsWithin, halvings}
 use Rattle.frame.proofs.LawsEstimate.{halve-step, halve-left, halve-stop}
 use Rattle.frame.proofs.estimate.halvings.Statement.{statement}

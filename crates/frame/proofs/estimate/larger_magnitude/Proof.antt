@@ -3,7 +3,7 @@ use mathlib.Core.Path.{_≡_, ap, _∙_}
 use native.Mathlib.Omega.{arith}
 use lib.IntN.{natAbs}
 use mir.Facts.{toZ-ofZ}
-use Rattle.whole.proofs.Values.{is-16, is-in, is-size, chk-cast}
+use Rattle.whole.proofs.SignedLocals.{is-16, is-in, is-size, chk-cast}
 use Rattle.frame.proofs.LawsEstimate.{larger-magnitude-yes, larger-magnitude-no}
 use Rattle.frame.proofs.estimate.larger_magnitude.Statement.{statement}
 use Rattle.frame.proofs.estimate.larger_magnitude.Tie as tie

@@ -1,6 +1,6 @@
 -- `weigh` meets its contract: no product overflows.
 use mir.Syntax.{w64}
-use Rattle.whole.proofs.Values.{Is, is-16, is-in, is-mul, chk-mul, is-add, chk-add, chk-cast}
+use Rattle.whole.proofs.SignedLocals.{Is, is-16, is-in, is-mul, chk-mul, is-add, chk-add, chk-cast}
 use Rattle.frame.specs.Estimate.{weigh}
 use Rattle.frame.proofs.estimate.weigh.Statement.{statement}
 use Rattle.frame.proofs.estimate.weigh.Tie as tie

@@ -4,7 +4,7 @@ use lib.IntN.{ℤ, pos, natAbs, _-ℤ_}
 use mir.Syntax.{w32}
 use mir.Val.{toZ, ofZ}
 use mir.Facts.{toZ-ofZ}
-use Rattle.whole.proofs.Values.{Is, is-call, chk-cast-u, is-cast-u}
+use Rattle.whole.proofs.SignedLocals.{Is, is-call, chk-cast-u, is-cast-u}
 use Rattle.frame.proofs.LawsLane.{fits-call, apart-below, apart-above}
 use Rattle.frame.proofs.lane.apart.Statement.{statement}
 use Rattle.frame.proofs.lane.apart.Tie as tie

@@ -4,7 +4,7 @@ use lib.IntN.{ℤ, pos, natAbs}
 use mir.Syntax.{w32}
 use mir.Val.{toZ, ofZ}
 use mir.Facts.{toZ-ofZ}
-use Rattle.whole.proofs.Values.{Is, is-in, is-sized, is-eq, not-below-zero, chk-cast-u, is-cast-u}
+use Rattle.whole.proofs.SignedLocals.{Is, is-in, is-sized, is-eq, not-below-zero, chk-cast-u, is-cast-u}
 use Rattle.frame.specs.inner.Lanes.{clampWithin}
 use Rattle.frame.proofs.LawsLane.{non-negative}
 use Rattle.frame.proofs.lane.clamp_within.Statement.{statement}

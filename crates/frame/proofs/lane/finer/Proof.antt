@@ -5,7 +5,7 @@ use lib.IntN.{ℤ, pos, _+ℤ_, _-ℤ_, _*ℤ_}
 use mir.Syntax.{w32}
 use mir.Val.{toZ, ofZ}
 use mir.Facts.{toZ-ofZ}
-use Rattle.whole.proofs.Values.{Is, is-sized, is-lit, is-mul, chk-mul, is-add, chk-add, is-sub, chk-sub, is-shr}
+use Rattle.whole.proofs.SignedLocals.{Is, is-sized, is-lit, is-mul, chk-mul, is-add, chk-add, is-sub, chk-sub, is-shr}
 use Rattle.frame.specs.inner.Lanes.{finer}
 use Rattle.frame.proofs.LawsLane.{unit-is}
 use Rattle.frame.proofs.lane.finer.Statement.{statement}

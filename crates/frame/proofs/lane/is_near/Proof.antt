@@ -6,7 +6,7 @@ use lib.Dec.{ltb}
 use lib.IntN.{ℤ, pos, natAbs, _+ℤ_, _-ℤ_}
 use mir.Syntax.{w32}
 use mir.Val.{toZ, ofZ}
-use Rattle.whole.proofs.Values.{Is, is-sized, is-lit, is-add, chk-add, is-sub, chk-sub, is-eq, chk-cast-u, is-cast-u}
+use Rattle.whole.proofs.SignedLocals.{Is, is-sized, is-lit, is-add, chk-add, is-sub, chk-sub, is-eq, chk-cast-u, is-cast-u}
 use Rattle.frame.specs.inner.Lanes.{isNear}
 use Rattle.frame.proofs.LawsLane.{unit-is, mask-is, lifted}
 use Rattle.frame.proofs.lane.is_near.Statement.{statement}

@@ -10,7 +10,7 @@ use lib.Pow.{pow-mono}
 use lib.Signed.{nonNeg}
 use mir.Syntax.{w32}
 use mir.Val.{toZ, ofZ}
-use Rattle.whole.proofs.Values.{Is, is-sized, is-lit, is-nat, is-mul, chk-mul, is-add, chk-add, is-sub, chk-sub, is-eq, is-size, chk-cast-u, is-cast-u, sfits-abs}
+use Rattle.whole.proofs.SignedLocals.{Is, is-sized, is-lit, is-nat, is-mul, chk-mul, is-add, chk-add, is-sub, chk-sub, is-eq, is-size, chk-cast-u, is-cast-u, sfits-abs}
 use Rattle.frame.specs.inner.Lanes.{clampWithin}
 use Rattle.frame.proofs.LawsLane.{unit-is, mask-is, most-is, clamp-within-le, part-of}
 use Rattle.frame.proofs.lane.nibble_part.Statement.{statement}

@@ -10,7 +10,7 @@ use mir.Val.{SFits, toZ, ofZ}
 use mir.Facts.{toZ-ofZ}
 use Rattle.whole.specs.Whole.{clamp16, floored}
 use Rattle.whole.proofs.Clamping.{clamp-fits}
-use Rattle.whole.proofs.Values.{Is, is-in, is-cast, chk-cast, is-lit, is-call, is-mul, chk-mul, is-add, chk-add, is-sub, chk-sub, is-shr, is-size, is-eq, sfits-abs}
+use Rattle.whole.proofs.SignedLocals.{Is, is-in, is-cast, chk-cast, is-lit, is-call, is-mul, chk-mul, is-add, chk-add, is-sub, chk-sub, is-shr, is-size, is-eq, sfits-abs}
 use Rattle.frame.specs.Estimate.{weigh, maxZ}
 use Rattle.frame.specs.Quantise.{clamp4}
 use Rattle.frame.specs.Pass.{residual, squaredDifference}

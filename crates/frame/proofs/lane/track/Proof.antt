@@ -10,7 +10,7 @@ use lib.Signed.{mag}
 use mir.Syntax.{w32}
 use mir.Val.{toZ, ofZ}
 use mir.Facts.{toZ-ofZ}
-use Rattle.whole.proofs.Values.{is-call}
+use Rattle.whole.proofs.SignedLocals.{is-call}
 use Rattle.frame.specs.inner.Lanes.{isBig, isNear, track}
 use Rattle.frame.proofs.LawsLane.{fits-call, mag-below, mag-above, mag-le}
 use Rattle.frame.proofs.lane.track.Statement.{statement}

@@ -6,7 +6,7 @@ use native.Mathlib.Omega.{arith}
 use lib.IntN.{ℤ, natAbs, _+ℤ_, _*ℤ_}
 use mir.Syntax.{w32}
 use mir.Val.{toZ, ofZ}
-use Rattle.whole.proofs.Values.{Is, is-sized, is-mul, chk-mul, is-call, is-eq}
+use Rattle.whole.proofs.SignedLocals.{Is, is-sized, is-mul, chk-mul, is-call, is-eq}
 use Rattle.frame.specs.Estimate.{weigh}
 use Rattle.frame.proofs.LawsLane.{fits-call, weigh-le}
 use Rattle.frame.proofs.lane.weigh_32.Statement.{statement}

@@ -4,7 +4,7 @@ use Prim.Native.Nat.{ℕ, _<_}
 use lib.IntN.{ℤ, pos}
 use mir.Syntax.{w16, w32}
 use mir.Val.{SFits, toZ, ofZ}
-use Rattle.whole.proofs.Values.{Is, is-in, is-cast, chk-cast}
+use Rattle.whole.proofs.SignedLocals.{Is, is-in, is-cast, chk-cast}
 use Rattle.frame.proofs.LawsLanes.{lane, fresh-lane}
 use Rattle.frame.proofs.lanes.fresh.Statement.{statement}
 use Rattle.frame.proofs.lanes.fresh.Tie as tie

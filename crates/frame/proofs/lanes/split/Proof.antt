@@ -6,7 +6,7 @@ use lib.IntN.{ℤ, pos}
 use lib.ListN.{length, getD, set, length-set}
 use mir.Syntax.{w16, w32}
 use mir.Val.{SFits, toZ, ofZ}
-use Rattle.whole.proofs.Values.{is-in, is-cast, chk-cast}
+use Rattle.whole.proofs.SignedLocals.{is-in, is-cast, chk-cast}
 use Rattle.frame.specs.Choice.{c0At, c1At}
 use Rattle.frame.proofs.LawsOrder.{none-below}
 use Rattle.frame.proofs.LawsLanes.{filled-more}

@@ -6,7 +6,7 @@ use native.Mathlib.Omega.{arith}
 use lib.IntN.{ℤ, pos}
 use lib.ListN.{length, getD, set, length-set}
 use mir.Syntax.{w32}
-use Rattle.whole.proofs.Values.{is-one-shl}
+use Rattle.whole.proofs.SignedLocals.{is-one-shl}
 use Rattle.frame.proofs.LawsOrder.{none-below}
 use Rattle.frame.proofs.LawsLanes.{filled-more}
 use Rattle.frame.proofs.lanes.units_of.Statement.{statement}

@@ -5,7 +5,7 @@ use lib.IntN.{ℤ, pos, _+ℤ_}
 use mir.Syntax.{w8, w64}
 use mir.Val.{toZ, ofZ}
 use mir.Facts.{toZ-ofZ}
-use Rattle.whole.proofs.Values.{Is, is-in, is-sized, is-cast, chk-cast, is-lit, is-add, chk-add, is-eq, is-cast-u, chk-cast-u}
+use Rattle.whole.proofs.SignedLocals.{Is, is-in, is-sized, is-cast, chk-cast, is-lit, is-add, chk-add, is-eq, is-cast-u, chk-cast-u}
 use Rattle.frame.specs.Frame.{lowFour}
 use Rattle.frame.proofs.LawsNibbles.{nibble-size, low-lt, low-neg, low-pos}
 use Rattle.frame.proofs.nibbles.low_four.Statement.{statement}

@@ -10,7 +10,7 @@ use mir.Syntax.{w8, w16, w64}
 use mir.Val.{SFits, toZ, ofZ}
 use mir.Facts.{toZ-ofZ}
 use Rattle.whole.specs.Whole.{clamp16, floored}
-use Rattle.whole.proofs.Values.{Is, is-16, is-in, is-lit, is-call, is-mul, chk-mul, is-add, chk-add, is-sub, chk-sub, is-shr, is-cast, chk-cast, is-size, is-le}
+use Rattle.whole.proofs.SignedLocals.{Is, is-16, is-in, is-lit, is-call, is-mul, chk-mul, is-add, chk-add, is-sub, chk-sub, is-shr, is-cast, chk-cast, is-size, is-le}
 use Rattle.frame.specs.Estimate.{weigh}
 use Rattle.frame.specs.Quantise.{quantise, clamp4}
 use Rattle.frame.specs.Pass.{residual, codeSample}

@@ -1,7 +1,7 @@
 -- `power_of` meets its contract: 1 shifted by p.
 use borrow.Author.Needs.{needs}
 use mir.Syntax.{w64}
-use Rattle.whole.proofs.Values.{is-one-shl}
+use Rattle.whole.proofs.SignedLocals.{is-one-shl}
 use Rattle.frame.proofs.pass.power_of.Statement.{statement}
 use Rattle.frame.proofs.pass.power_of.Tie as tie
 

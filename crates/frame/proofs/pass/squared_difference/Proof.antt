@@ -4,7 +4,7 @@ use lib.IntN.{ℤ, pos, natAbs, _-ℤ_, _*ℤ_}
 use mir.Syntax.{w16, w64}
 use mir.Val.{SFits, toZ, ofZ}
 use Prim.Native.Nat.{ℕ}
-use Rattle.whole.proofs.Values.{Is, is-16, is-in, is-sub, chk-sub, is-mul, chk-mul, chk-cast, chk-cast-u, is-cast-u, is-eq, mul-self}
+use Rattle.whole.proofs.SignedLocals.{Is, is-16, is-in, is-sub, chk-sub, is-mul, chk-mul, chk-cast, chk-cast-u, is-cast-u, is-eq, mul-self}
 use Rattle.frame.specs.Pass.{squaredDifference}
 use Rattle.frame.proofs.pass.squared_difference.Statement.{statement}
 use Rattle.frame.proofs.pass.squared_difference.Tie as tie

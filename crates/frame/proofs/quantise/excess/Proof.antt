@@ -6,7 +6,7 @@ use native.Mathlib.Omega.{arith}
 use mir.Syntax.{w64}
 use mir.Val.{toZ, ofZ}
 use mir.Facts.{toZ-ofZ}
-use Rattle.whole.proofs.Values.{Is, is-sized, is-lit, is-sub, chk-sub, is-eq, chk-cast-u, is-cast-u}
+use Rattle.whole.proofs.SignedLocals.{Is, is-sized, is-lit, is-sub, chk-sub, is-eq, chk-cast-u, is-cast-u}
 use Rattle.frame.specs.Quantise.{clamp4}
 use Rattle.frame.proofs.LawsQuantise.{excess-low, excess-high, excess-none}
 use Rattle.frame.proofs.quantise.excess.Statement.{statement}

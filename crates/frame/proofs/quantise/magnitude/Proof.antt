@@ -5,7 +5,7 @@ use lib.IntN.{ℤ, pos, natAbs, _-ℤ_}
 use mir.Syntax.{w64}
 use mir.Val.{toZ, ofZ}
 use mir.Facts.{toZ-ofZ}
-use Rattle.whole.proofs.Values.{Is, is-sized, is-lit, is-sub, chk-sub, is-eq, chk-cast-u, is-cast-u, below-zero, not-below-zero}
+use Rattle.whole.proofs.SignedLocals.{Is, is-sized, is-lit, is-sub, chk-sub, is-eq, chk-cast-u, is-cast-u, below-zero, not-below-zero}
 use Rattle.frame.proofs.quantise.magnitude.Statement.{statement}
 use Rattle.frame.proofs.quantise.magnitude.Tie as tie
 

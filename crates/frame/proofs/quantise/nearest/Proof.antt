@@ -9,7 +9,7 @@ use lib.Signed.{shrZ}
 use mir.Syntax.{w64}
 use mir.Val.{toZ, ofZ}
 use mir.Facts.{toZ-ofZ}
-use Rattle.whole.proofs.Values.{Is, is-sized, is-lit, is-one-shl, is-mul, chk-mul, is-add, chk-add, is-sub, chk-sub, is-shr}
+use Rattle.whole.proofs.SignedLocals.{Is, is-sized, is-lit, is-one-shl, is-mul, chk-mul, is-add, chk-add, is-sub, chk-sub, is-shr}
 use Rattle.frame.proofs.LawsQuantise.{scale-is, down-pos, down-neg}
 use Rattle.frame.proofs.quantise.nearest.Statement.{statement}
 use Rattle.frame.proofs.quantise.nearest.Tie as tie

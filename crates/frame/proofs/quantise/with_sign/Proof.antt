@@ -4,7 +4,7 @@ use mathlib.Core.Path.{_≡_, _∙_}
 use native.Mathlib.Omega.{arith}
 use mir.Syntax.{w64}
 use mir.Facts.{toZ-ofZ}
-use Rattle.whole.proofs.Values.{Is, is-nat, is-lit, is-sub, chk-sub}
+use Rattle.whole.proofs.SignedLocals.{Is, is-nat, is-lit, is-sub, chk-sub}
 use Rattle.frame.proofs.LawsQuantise.{sign-neg, sign-pos}
 use Rattle.frame.proofs.quantise.with_sign.Statement.{statement}
 use Rattle.frame.proofs.quantise.with_sign.Tie as tie

@@ -17,16 +17,20 @@ word-at-requires : tie.Need-word-at-requires
 word-at-requires c κs = let w = found-within (now (c .before .before .args .image)) (c .before .before .args .k) (c .before .before .pre) in omega (arith, w .entry, c .entry-place .ensures)
 
 add-signed-at : tie.Need-add-signed-at
-add-signed-at c = let w = found-within (now (c .before .before .before .args .image)) (c .before .before .before .args .k) (c .before .before .before .pre) in omega (arith, w .small, c .before .entry-place .ensures)
+add-signed-at c = let w = found-within (now (c .before .before .before .args .image)) (c .before .before .before .args .k) (c .before .before .before .pre) in
+    omega (arith, w .small, c .before .entry-place .ensures)
 
 signed-at-requires : tie.Need-signed-at-requires
-signed-at-requires c κs = let w = found-within (now (c .before .before .before .args .image)) (c .before .before .before .args .k) (c .before .before .before .pre) in omega (arith, w .entry, c .before .entry-place .ensures)
+signed-at-requires c κs = let w = found-within (now (c .before .before .before .args .image)) (c .before .before .before .args .k) (c .before .before .before .pre) in
+    omega (arith, w .entry, c .before .entry-place .ensures)
 
 add-signed-at-2 : tie.Need-add-signed-at-2
-add-signed-at-2 c = let w = found-within (now (c .before .before .before .before .args .image)) (c .before .before .before .before .args .k) (c .before .before .before .before .pre) in omega (arith, w .small, c .before .before .entry-place .ensures)
+add-signed-at-2 c = let w = found-within (now (c .before .before .before .before .args .image)) (c .before .before .before .before .args .k) (c .before .before .before .before .pre) in
+    omega (arith, w .small, c .before .before .entry-place .ensures)
 
 signed-at-requires-2 : tie.Need-signed-at-requires-2
-signed-at-requires-2 c κs = let w = found-within (now (c .before .before .before .before .args .image)) (c .before .before .before .before .args .k) (c .before .before .before .before .pre) in omega (arith, w .entry, c .before .before .entry-place .ensures)
+signed-at-requires-2 c κs = let w = found-within (now (c .before .before .before .before .args .image)) (c .before .before .before .before .args .k) (c .before .before .before .before .pre) in
+    omega (arith, w .entry, c .before .before .entry-place .ensures)
 
 returns : tie.Need-returns
 unfolding headerIn newestIn olderIn

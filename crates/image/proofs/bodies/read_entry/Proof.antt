@@ -15,10 +15,12 @@ get32-requires : tie.Need-get32-requires
 get32-requires c κs = let w = found-within (now (c .before .before .args .image)) (c .before .before .args .k) (c .before .before .pre) in omega (arith, w .entry, c .entry-place .ensures)
 
 add-get32 : tie.Need-add-get32
-add-get32 c = let w = found-within (now (c .before .before .before .args .image)) (c .before .before .before .args .k) (c .before .before .before .pre) in omega (arith, w .small, c .before .entry-place .ensures)
+add-get32 c = let w = found-within (now (c .before .before .before .args .image)) (c .before .before .before .args .k) (c .before .before .before .pre) in
+    omega (arith, w .small, c .before .entry-place .ensures)
 
 get32-requires-2 : tie.Need-get32-requires-2
-get32-requires-2 c κs = let w = found-within (now (c .before .before .before .args .image)) (c .before .before .before .args .k) (c .before .before .before .pre) in omega (arith, w .entry, c .before .entry-place .ensures)
+get32-requires-2 c κs = let w = found-within (now (c .before .before .before .args .image)) (c .before .before .before .args .k) (c .before .before .before .pre) in
+    omega (arith, w .entry, c .before .entry-place .ensures)
 
 read-context-requires : tie.Need-read-context-requires
 read-context-requires c κs = search needs

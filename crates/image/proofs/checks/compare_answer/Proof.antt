@@ -21,14 +21,26 @@ lowest-pair-requires c κs = search needs
 
 returns : tie.Need-returns
 unfolding compareAnswer
-returns c = simp (← c .before .before .before .before .before .open-answer .ensures, c .before .before .before .enum-told .given .1, ← c .before .before .read-coefficients .ensures, ← c .before .lowest-pair .ensures, c .if1 .taken)
+returns c = simp (
+  ← c .before .before .before .before .before .open-answer .ensures,
+  c .before .before .before .enum-told .given .1,
+  ← c .before .before .read-coefficients .ensures,
+  ← c .before .lowest-pair .ensures,
+  c .if1 .taken,
+)
 
 enum-known-answer : tie.Need-enum-known-answer
 enum-known-answer c = search needs
 
 returns-2 : tie.Need-returns-2
 unfolding compareAnswer
-returns-2 c = simp (← c .before .before .before .before .before .open-answer .ensures, c .before .before .before .enum-told .given .1, ← c .before .before .read-coefficients .ensures, ← c .before .lowest-pair .ensures, c .if1 .left)
+returns-2 c = simp (
+  ← c .before .before .before .before .before .open-answer .ensures,
+  c .before .before .before .enum-told .given .1,
+  ← c .before .before .read-coefficients .ensures,
+  ← c .before .lowest-pair .ensures,
+  c .if1 .left,
+)
 
 returns-3 : tie.Need-returns-3
 unfolding compareAnswer

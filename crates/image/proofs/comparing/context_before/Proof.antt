@@ -31,7 +31,8 @@ add-with-header c = let p = placed (now (c .before .before .args .image)) _ _ _ 
 
 shared-slice-read-with-header : tie.Need-shared-slice-read-with-header
 unfolding framePlaceIn
-shared-slice-read-with-header c = let p = placed (now (c .before .before .before .args .image)) _ _ _ (c .before .before .before .pre) in omega (arith, p .bytes, c .before .before .before .pre .bodies)
+shared-slice-read-with-header c = let p = placed (now (c .before .before .before .args .image)) _ _ _ (c .before .before .before .pre) in
+    omega (arith, p .bytes, c .before .before .before .pre .bodies)
 
 with-header-requires : tie.Need-with-header-requires
 with-header-requires c κs = search needs

@@ -39,7 +39,8 @@ equal-requires : tie.Need-equal-requires Inv-loop μ-loop
 equal-requires c κs = tt
 
 -- the answer on the two samples
-told : (c : tie.After-equal Inv-loop μ-loop) → let l = c .before .before .before .before in let a = l .before .args in c .equal .result ≡ equal (getD (a .t1) (l .loop .i) (pos 0)) (getD (a .t2) (l .loop .i) (pos 0))
+told : (c : tie.After-equal Inv-loop μ-loop) → let l = c .before .before .before .before in let a = l .before .args in c .equal .result
+    ≡ equal (getD (a .t1) (l .loop .i) (pos 0)) (getD (a .t2) (l .loop .i) (pos 0))
 told c =
     let l = c .before .before .before .before in
     let f : SFits w16 (getD (l .before .args .t1) (l .loop .i) (pos 0)) = record { sfits = c .before .before .equal-arg .given } in

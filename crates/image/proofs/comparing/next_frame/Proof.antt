@@ -44,7 +44,13 @@ played-frame-requires c κs = let p = placed _ _ _ _ (source (c .before .before)
 returns : tie.Need-returns
 unfolding nextFrame headIn
 returns c = let s = c .before .before .before .before .before .before .before in
-    rw (c .played-frame .ensures, c .before .context-before .ensures, s .pre .samples, place-made (now (s .args .image)) _ _ _ (source (c .before .before .before)), ap (λ (h : Head). h .coefficients) (s .pre .read))
+    rw (
+      c .played-frame .ensures,
+      c .before .context-before .ensures,
+      s .pre .samples,
+      place-made (now (s .args .image)) _ _ _ (source (c .before .before .before)),
+      ap (λ (h : Head). h .coefficients) (s .pre .read),
+    )
 
 pub next-frame-spec : {M : Type 1} → statement M
 next-frame-spec =

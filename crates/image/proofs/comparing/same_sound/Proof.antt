@@ -26,14 +26,16 @@ totals : (c : tie.Else1) → totalIn (now (c .before .before .before .before .be
 totals c = sym (first-total (c .before .before .before)) ∙ c .if1 .left ∙ second-total (c .before .before .before)
 
 returns : tie.Need-returns
-returns c = other-total (now (c .before .before .before .before .before .before .before .args .a)) (now (c .before .before .before .before .before .before .before .args .b)) (λ z. c .if1 .taken (first-total (c .before .before .before) ∙ z ∙ sym (second-total (c .before .before .before))))
+returns c = other-total (now (c .before .before .before .before .before .before .before .args .a)) (now (c .before .before .before .before .before .before .before .args .b))
+    (λ z. c .if1 .taken (first-total (c .before .before .before) ∙ z ∙ sym (second-total (c .before .before .before))))
 
 equal-frames-requires : tie.Need-equal-frames-requires
 equal-frames-requires c κs = let p = c .before .before .before .before .before .before .before .pre in
     record { opens = p .0; read = c .before .before .before .before .read-head .ensures; others = p .1; other = c .before .before .before .read-head2 .ensures; total = totals c }
 
 returns-2 : tie.Need-returns-2
-returns-2 c = c .equal-frames .ensures ∙ same-total (now (c .before .before .before .before .before .before .before .before .args .a)) (now (c .before .before .before .before .before .before .before .before .args .b)) (totals (c .before))
+returns-2 c = c .equal-frames .ensures ∙ same-total (now (c .before .before .before .before .before .before .before .before .args .a))
+    (now (c .before .before .before .before .before .before .before .before .args .b)) (totals (c .before))
 
 pub same-sound-spec : {M : Type 1} → statement M
 same-sound-spec =

@@ -17,7 +17,8 @@ abbrev μ-loop : tie.MeasureT-loop
 μ-loop image shape blocks bodies j₀ j = blocks - j
 
 -- all entries, as many as were counted
-counted : (l : tie.At-loop Inv-loop μ-loop) → let a = l .before .before .before .before .args in entriesOk (now (a .image)) (a .shape) 0 (l .before .before .block-count .result) ≡ entriesOk (now (a .image)) (a .shape) 0 (blockCount (a .shape))
+counted : (l : tie.At-loop Inv-loop μ-loop) → let a = l .before .before .before .before .args in entriesOk (now (a .image)) (a .shape) 0 (l .before .before .block-count .result)
+    ≡ entriesOk (now (a .image)) (a .shape) 0 (blockCount (a .shape))
 counted l = let a = l .before .before .before .before .args in ap (entriesOk (now (a .image)) (a .shape) 0) (l .before .before .block-count .ensures .0)
 
 block-count-requires : tie.Need-block-count-requires Inv-loop μ-loop
@@ -30,14 +31,16 @@ loop-holds : tie.Need-loop-holds Inv-loop μ-loop
 loop-holds c = (omega arith, entries-all _ _ _)
 
 entry-ok-requires : tie.Need-entry-ok-requires Inv-loop μ-loop
-entry-ok-requires c κs = let p = c .before .before .before .before .before .pre in (p .0, c .before .before .bodies-place .ensures, omega (arith, c .loop-test .taken, c .before .before .before .block-count .ensures .0), p .1)
+entry-ok-requires c κs = let p = c .before .before .before .before .before .pre in
+    (p .0, c .before .before .bodies-place .ensures, omega (arith, c .loop-test .taken, c .before .before .before .block-count .ensures .0), p .1)
 
 returns : tie.Need-returns Inv-loop μ-loop
 returns c = let l = c .before .before .before in
     let a = l .before .before .before .before .args in
     sym
     (sym (counted l) ∙ l .loop .inv .1
-    ∙ entry-wrong (now (a .image)) (a .shape) (l .before .before .block-count .result) (l .loop .j) (c .before .before .loop-test .taken) (sym (c .before .entry-ok .ensures) ∙ not-true _ (c .if1 .taken)))
+    ∙ entry-wrong (now (a .image)) (a .shape) (l .before .before .block-count .result) (l .loop .j) (c .before .before .loop-test .taken) (sym (c .before .entry-ok .ensures)
+    ∙ not-true _ (c .if1 .taken)))
 
 add-j : tie.Need-add-j Inv-loop μ-loop
 add-j c = omega (arith, c .before .before .loop-test .taken, c .before .before .before .before .before .block-count .ensures .1)
@@ -47,8 +50,11 @@ loop-less c = omega arith
 
 loop-again : tie.Need-loop-again Inv-loop μ-loop
 loop-again c = let l = c .before .before .before in
-    let a = l .before .before .before .before .args in
-    (omega arith, l .loop .inv .1 ∙ entry-right (now (a .image)) (a .shape) (l .before .before .block-count .result) (l .loop .j) (c .before .before .loop-test .taken) (sym (c .before .entry-ok .ensures) ∙ not-false _ (c .if1 .left)))
+    let a = l .before .before .before .before .args in (
+      omega arith,
+      l .loop .inv .1 ∙ entry-right (now (a .image)) (a .shape) (l .before .before .block-count .result) (l .loop .j) (c .before .before .loop-test .taken)
+          (sym (c .before .entry-ok .ensures) ∙ not-false _ (c .if1 .left)),
+    )
 
 returns-2 : tie.Need-returns-2 Inv-loop μ-loop
 returns-2 c = let l = c .before in

@@ -7,12 +7,13 @@ use native.Mathlib.Omega.{arith}
 use borrow.Author.Tests.{eq-eqb, ne-eqb}
 use lib.ListN.{length}
 use Rattle.layout.specs.Fields.{at16, at32}
-use Rattle.layout.specs.Sizes.{blockOffset}
+use Rattle.layout.specs.Sizes.{blockOffset, blockCount}
 use Rattle.image.specs.Opening.{entryOk}
 use Rattle.image.specs.Reading.{offsetIn, lengthIn, headerIn, entryZeroIn}
 use Rattle.image.proofs.Places.{Within, within}
 use Rattle.image.proofs.entries.entry_ok.Statement.{statement}
 use Rattle.image.proofs.entries.entry_ok.Tie as tie
+use Rattle.whole.specs.Frames.{frameCount}
 
 -- the entry and its body's first byte are within the image
 inside : (c : tie.After-struct-known) → let a = c .before .before .before .args in Within (a .shape) (a .j) (length (now (a .image)))
@@ -20,7 +21,7 @@ inside c = let p = c .before .before .before .pre in within _ _ _ (p .0) (p .2) 
 
 -- where the body begins
 begins : (c : tie.After-struct-known) → let a = c .before .before .before .args in a .bodies + a .j * a .shape .block ≡ blockOffset (a .shape) (a .j)
-unfolding blockOffset
+unfolding blockOffset blockCount frameCount
 begins c = ap (λ (p : ℕ). p + c .before .before .before .args .j * c .before .before .before .args .shape .block) (c .before .before .before .pre .1)
 
 -- what was read are the entry's offset, length, zero bytes and header
@@ -34,11 +35,13 @@ nibbles c = c .get322 .ensures ∙ ap (λ (p : ℕ). at32 (now (c .before .befor
 
 zeros : (c : tie.After-get16) → let a = c .before .before .before .before .before .before .before .before .before .args in c .get16 .result ≡ entryZeroIn (now (a .image)) (a .j)
 unfolding entryZeroIn
-zeros c = c .get16 .ensures ∙ ap (λ (p : ℕ). at16 (now (c .before .before .before .before .before .before .before .before .before .args .image)) (p + 14)) (c .before .before .before .before .before .before .before .entry-place .ensures)
+zeros c = c .get16 .ensures ∙ ap (λ (p : ℕ). at16 (now (c .before .before .before .before .before .before .before .before .before .args .image)) (p + 14))
+    (c .before .before .before .before .before .before .before .entry-place .ensures)
 
 header : (c : tie.After-get162) → let a = c .before .before .before .before .before .before .before .before .before .before .before .args in c .get162 .result ≡ headerIn (now (a .image)) (a .j)
 unfolding headerIn
-header c = c .get162 .ensures ∙ ap (λ (p : ℕ). at16 (now (c .before .before .before .before .before .before .before .before .before .before .before .args .image)) (p + 8)) (c .before .before .before .before .before .before .before .before .before .entry-place .ensures)
+header c = c .get162 .ensures ∙ ap (λ (p : ℕ). at16 (now (c .before .before .before .before .before .before .before .before .before .before .before .args .image)) (p + 8))
+    (c .before .before .before .before .before .before .before .before .before .entry-place .ensures)
 
 entry-place-requires : tie.Need-entry-place-requires
 entry-place-requires c κs = let p = c .before .pre in let w = within _ _ (length (now (c .before .args .image))) (p .0) (p .2) (p .3) in omega (arith, w .small)
@@ -73,7 +76,14 @@ block-length-requires c κs = let p = c .before .before .before .before .before 
 
 returns-2 : tie.Need-returns-2
 unfolding entryOk
-returns-2 c = simp (← offset (c .before .before .before .before), ← begins (c .before .before .before .before .before), eq-eqb _ _ (c .before .before .before .if1 .left), ← nibbles (c .before .before), ← c .before .block-length .ensures .0, ne-eqb _ _ (c .if2 .taken))
+returns-2 c = simp (
+  ← offset (c .before .before .before .before),
+  ← begins (c .before .before .before .before .before),
+  eq-eqb _ _ (c .before .before .before .if1 .left),
+  ← nibbles (c .before .before),
+  ← c .before .block-length .ensures .0,
+  ne-eqb _ _ (c .if2 .taken),
+)
 
 add-get16 : tie.Need-add-get16
 add-get16 c = let d = c .before .before .before .before .before in let w = inside d in omega (arith, w .small, d .before .entry-place .ensures)
@@ -84,7 +94,16 @@ get16-requires c κs = let d = c .before .before .before .before .before in let 
 returns-3 : tie.Need-returns-3
 unfolding entryOk
 returns-3 c = let d = c .before .before .before in
-    simp (← offset (d .before .before .before), ← begins (d .before .before .before .before), eq-eqb _ _ (d .before .before .if1 .left), ← nibbles (d .before), ← d .block-length .ensures .0, eq-eqb _ _ (c .before .before .if2 .left), ← zeros (c .before), ne-eqb _ _ (c .if3 .taken))
+    simp (
+      ← offset (d .before .before .before),
+      ← begins (d .before .before .before .before),
+      eq-eqb _ _ (d .before .before .if1 .left),
+      ← nibbles (d .before),
+      ← d .block-length .ensures .0,
+      eq-eqb _ _ (c .before .before .if2 .left),
+      ← zeros (c .before),
+      ne-eqb _ _ (c .if3 .taken),
+    )
 
 add-get16-2 : tie.Need-add-get16-2
 add-get16-2 c = let d = c .before .before .before .before .before .before .before in let w = inside d in omega (arith, w .small, d .before .entry-place .ensures)
@@ -101,7 +120,18 @@ byte-requires c κs = search needs
 returns-4 : tie.Need-returns-4
 unfolding entryOk
 returns-4 c = let d = c .before .before .before .before .before .before in
-    simp (← offset (d .before .before .before), ← begins (d .before .before .before .before), eq-eqb _ _ (d .before .before .if1 .left), ← nibbles (d .before), ← d .block-length .ensures .0, eq-eqb _ _ (c .before .before .before .before .before .if2 .left), ← zeros (c .before .before .before .before), eq-eqb _ _ (c .before .before .before .if3 .left), ← header (c .before .before), c .byte .ensures)
+    simp (
+      ← offset (d .before .before .before),
+      ← begins (d .before .before .before .before),
+      eq-eqb _ _ (d .before .before .if1 .left),
+      ← nibbles (d .before),
+      ← d .block-length .ensures .0,
+      eq-eqb _ _ (c .before .before .before .before .before .if2 .left),
+      ← zeros (c .before .before .before .before),
+      eq-eqb _ _ (c .before .before .before .if3 .left),
+      ← header (c .before .before),
+      c .byte .ensures,
+    )
 
 pub entry-ok-spec : {M : Type 1} → statement M
 entry-ok-spec =

@@ -28,12 +28,23 @@ block-count-requires c κs = limits c
 returns-2 : tie.Need-returns-2
 unfolding numbersFit
 returns-2 c = let k = c .before .block-count .ensures .0 ∙ ap blockCount (c .before .before .shape-of .ensures) in
-    simp (← c .before .before .before .before .numbers-ok .ensures, not-false (c .before .before .before .before .numbers-ok .result) (c .before .before .before .if1 .left), ← k, ne-eqb _ _ (c .if2 .taken))
+    simp (
+      ← c .before .before .before .before .numbers-ok .ensures,
+      not-false (c .before .before .before .before .numbers-ok .result) (c .before .before .before .if1 .left),
+      ← k,
+      ne-eqb _ _ (c .if2 .taken),
+    )
 
 returns-3 : tie.Need-returns-3
 unfolding numbersFit
 returns-3 c = let k = c .before .before .block-count .ensures .0 ∙ ap blockCount (c .before .before .before .shape-of .ensures) in
-    simp (← c .before .before .before .before .before .numbers-ok .ensures, not-false (c .before .before .before .before .before .numbers-ok .result) (c .before .before .before .before .if1 .left), ← k, eq-eqb _ _ (c .before .if2 .left), ne-eqb _ _ (c .if3 .taken))
+    simp (
+      ← c .before .before .before .before .before .numbers-ok .ensures,
+      not-false (c .before .before .before .before .before .numbers-ok .result) (c .before .before .before .before .if1 .left),
+      ← k,
+      eq-eqb _ _ (c .before .if2 .left),
+      ne-eqb _ _ (c .if3 .taken),
+    )
 
 image-size-requires : tie.Need-image-size-requires
 image-size-requires c κs = limits (c .before .before .before)
@@ -43,7 +54,14 @@ unfolding numbersFit
 returns-4 c = let d = c .before .before .before in
     let k = d .block-count .ensures .0 ∙ ap blockCount (d .before .shape-of .ensures) in
     let s = c .image-size .ensures ∙ ap imageSize (d .before .shape-of .ensures) in
-    simp (← d .before .before .before .numbers-ok .ensures, not-false (d .before .before .before .numbers-ok .result) (d .before .before .if1 .left), ← k, eq-eqb _ _ (c .before .before .if2 .left), eq-eqb _ _ (c .before .if3 .left), ← s)
+    simp (
+      ← d .before .before .before .numbers-ok .ensures,
+      not-false (d .before .before .before .numbers-ok .result) (d .before .before .if1 .left),
+      ← k,
+      eq-eqb _ _ (c .before .before .if2 .left),
+      eq-eqb _ _ (c .before .if3 .left),
+      ← s,
+    )
 
 pub numbers-fit-spec : {M : Type 1} → statement M
 numbers-fit-spec =

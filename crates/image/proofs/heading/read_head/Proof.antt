@@ -25,7 +25,14 @@ get32-requires-4 c κs = search needs
 
 returns : tie.Need-returns
 unfolding headIn totalIn rateIn blockIn gainIn blocksIn
-returns c = simp (← c .before .before .before .before .before .get32 .ensures, ← c .before .before .before .before .get322 .ensures, ← c .before .before .before .get323 .ensures, ← c .before .before .read-coefficients .ensures, ← c .before .word-at .ensures, ← c .get324 .ensures)
+returns c = simp (
+  ← c .before .before .before .before .before .get32 .ensures,
+  ← c .before .before .before .before .get322 .ensures,
+  ← c .before .before .before .get323 .ensures,
+  ← c .before .before .read-coefficients .ensures,
+  ← c .before .word-at .ensures,
+  ← c .get324 .ensures,
+)
 
 pub read-head-spec : {M : Type 1} → statement M
 read-head-spec =

@@ -16,7 +16,8 @@ use Rattle.image.proofs.playing.play_block.Tie as tie
 -- the body that was found
 body : (c : tie.After-find-body) → let a = c .before .before .before .before .before .args in now (c .find-body .result) ≡ bodyIn (now (a .image)) (a .k)
 unfolding bodyIn
-body c = c .find-body .ensures ∙ ap (λ (e : Entry). take ((e .nibbles + 1) / 2) (drop (e .offset) (now (c .before .before .before .before .before .args .image)))) (c .before .before .before .before .before .pre .1)
+body c = c .find-body .ensures .0 ∙ ap (λ (e : Entry). take ((e .nibbles + 1) / 2) (drop (e .offset) (now (c .before .before .before .before .before .args .image))))
+    (c .before .before .before .before .before .pre .1)
 
 cast-offset : tie.Need-cast-offset
 cast-offset c = search needs

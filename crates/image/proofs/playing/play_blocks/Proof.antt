@@ -28,7 +28,8 @@ unfolding blocksIn
 all-blocks c = omega (arith, c .before .before .before .get32 .ensures, c .loop-test .taken)
 
 -- block k begins and ends within the output
-within : (c : tie.In-loop Inv-loop μ-loop) → let a = c .before .before .before .before .before in c .before .loop .at + addressToSample (lengthIn (now (a .args .image)) (c .before .loop .k)) ≤ length (c .before .loop .out)
+within : (c : tie.In-loop Inv-loop μ-loop) → let a = c .before .before .before .before .before in
+    c .before .loop .at + addressToSample (lengthIn (now (a .args .image)) (c .before .loop .k)) ≤ length (c .before .loop .out)
 within c =
     let a = c .before .before .before .before .before in
     let i = c .before .loop .inv in

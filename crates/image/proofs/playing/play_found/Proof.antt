@@ -20,12 +20,14 @@ counted : (c : tie.After-address-to-sample) → let a = c .before .before .befor
 counted c = c .address-to-sample .ensures ∙ ap (λ (e : Entry). addressToSample (e .nibbles)) (c .before .read-entry .ensures)
 
 -- the tests, of what was read
-tested : (c : tie.After-room-answer) → let a = c .before .before .before .before .before .args in outcome (c .room-answer .result) ≡ roomAnswer (coefficientsIn (now (a .image))) (addressToSample (lengthIn (now (a .image)) (a .k))) (length (now (a .out)))
+tested : (c : tie.After-room-answer) → let a = c .before .before .before .before .before .args in outcome (c .room-answer .result)
+    ≡ roomAnswer (coefficientsIn (now (a .image))) (addressToSample (lengthIn (now (a .image)) (a .k))) (length (now (a .out)))
 tested c = c .room-answer .ensures ∙ rw (c .before .before .before .read-coefficients .ensures, counted (c .before))
 
 -- what playing was accepted with
 playable : (c : tie.After-enum-told) → let a = c .before .before .before .before .before .before .before .args in Playable (now (a .image)) (a .k) (length (now (a .out)))
-playable c = let r = room-accepted _ _ _ (sym (tested (c .before .before)) ∙ ap outcome (c .enum-told .given .1)) in record { found = c .before .before .before .before .before .before .before .pre; pairs = r .0; enough = r .1 }
+playable c = let r = room-accepted _ _ _ (sym (tested (c .before .before)) ∙ ap outcome (c .enum-told .given .1)) in
+    record { found = c .before .before .before .before .before .before .before .pre; pairs = r .0; enough = r .1 }
 
 read-coefficients-requires : tie.Need-read-coefficients-requires
 read-coefficients-requires c κs = search needs

@@ -20,12 +20,14 @@ unfolding totalIn
 counted c = c .get32 .ensures
 
 -- the tests, of what was read
-tested : (c : tie.After-room-answer) → let a = c .before .before .before .before .args in outcome (c .room-answer .result) ≡ roomAnswer (coefficientsIn (now (a .image))) (totalIn (now (a .image))) (length (now (a .out)))
+tested : (c : tie.After-room-answer) → let a = c .before .before .before .before .args in outcome (c .room-answer .result)
+    ≡ roomAnswer (coefficientsIn (now (a .image))) (totalIn (now (a .image))) (length (now (a .out)))
 tested c = c .room-answer .ensures ∙ rw (c .before .before .read-coefficients .ensures, counted (c .before))
 
 -- what playing was accepted with
 playable : (c : tie.After-enum-told) → let a = c .before .before .before .before .before .before .args in AllPlayable (now (a .image)) (length (now (a .out)))
-playable c = let r = room-accepted _ _ _ (sym (tested (c .before .before)) ∙ ap outcome (c .enum-told .given .1)) in record { opens = c .before .before .before .before .before .before .pre; pairs = r .0; enough = r .1 }
+playable c = let r = room-accepted _ _ _ (sym (tested (c .before .before)) ∙ ap outcome (c .enum-told .given .1)) in
+    record { opens = c .before .before .before .before .before .before .pre; pairs = r .0; enough = r .1 }
 
 read-coefficients-requires : tie.Need-read-coefficients-requires
 read-coefficients-requires c κs = search needs

@@ -25,7 +25,8 @@ returns : tie.Need-returns
 returns c = search needs
 
 returns-2 : tie.Need-returns-2
-returns-2 c = ap (λ (y : ℤ). toZ w16 (ofZ w16 y)) (less-back (c .before .args .v) (c .before .fits .v) (c .if1 .left)) ∙ toZ-ofZ w16 (toZ w16 (c .before .args .v)) (toZ-fits w16 (c .before .args .v) (c .before .fits .v))
+returns-2 c = ap (λ (y : ℤ). toZ w16 (ofZ w16 y)) (less-back (c .before .args .v) (c .before .fits .v) (c .if1 .left))
+    ∙ toZ-ofZ w16 (toZ w16 (c .before .args .v)) (toZ-fits w16 (c .before .args .v) (c .before .fits .v))
 
 pub signed16-spec : {M : Type 1} → statement M
 signed16-spec =

@@ -22,15 +22,35 @@ returns-4 c = simp (le-leb _ _ (c .before .before .before .if1 .left), le-leb _ 
 
 returns-5 : tie.Need-returns-5
 unfolding numbersOk
-returns-5 c = simp (le-leb _ _ (c .before .before .before .before .if1 .left), le-leb _ _ (c .before .before .before .if2 .left), le-leb _ _ (c .before .before .if3 .left), le-leb _ _ (c .before .if4 .left), lt-leb _ _ (c .if5 .taken))
+returns-5 c = simp (
+  le-leb _ _ (c .before .before .before .before .if1 .left),
+  le-leb _ _ (c .before .before .before .if2 .left),
+  le-leb _ _ (c .before .before .if3 .left),
+  le-leb _ _ (c .before .if4 .left),
+  lt-leb _ _ (c .if5 .taken),
+)
 
 returns-6 : tie.Need-returns-6
 unfolding numbersOk
-returns-6 c = simp (le-leb _ _ (c .before .before .before .before .before .if1 .left), le-leb _ _ (c .before .before .before .before .if2 .left), le-leb _ _ (c .before .before .before .if3 .left), le-leb _ _ (c .before .before .if4 .left), le-leb _ _ (c .before .if5 .left), ne-eqb _ _ (c .if6 .taken))
+returns-6 c = simp (
+  le-leb _ _ (c .before .before .before .before .before .if1 .left),
+  le-leb _ _ (c .before .before .before .before .if2 .left),
+  le-leb _ _ (c .before .before .before .if3 .left),
+  le-leb _ _ (c .before .before .if4 .left),
+  le-leb _ _ (c .before .if5 .left),
+  ne-eqb _ _ (c .if6 .taken),
+)
 
 returns-7 : tie.Need-returns-7
 unfolding numbersOk
-returns-7 c = simp (le-leb _ _ (c .before .before .before .before .before .if1 .left), le-leb _ _ (c .before .before .before .before .if2 .left), le-leb _ _ (c .before .before .before .if3 .left), le-leb _ _ (c .before .before .if4 .left), le-leb _ _ (c .before .if5 .left), eq-eqb _ _ (c .if6 .left))
+returns-7 c = simp (
+  le-leb _ _ (c .before .before .before .before .before .if1 .left),
+  le-leb _ _ (c .before .before .before .before .if2 .left),
+  le-leb _ _ (c .before .before .before .if3 .left),
+  le-leb _ _ (c .before .before .if4 .left),
+  le-leb _ _ (c .before .if5 .left),
+  eq-eqb _ _ (c .if6 .left),
+)
 
 pub numbers-ok-spec : {M : Type 1} → statement M
 numbers-ok-spec =

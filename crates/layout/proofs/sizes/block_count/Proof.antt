@@ -8,11 +8,12 @@ use Rattle.layout.proofs.sizes.block_count.Statement.{statement}
 use Rattle.layout.proofs.sizes.block_count.Tie as tie
 use Rattle.layout.proofs.sizes.block_count.Reads as reads
 use Rattle.layout.proofs.sizes.block_count.Lts as lts
-use Rattle.layout.proofs.sizes.frames.Reads as frames-reads
+use Rattle.layout.proofs.sizes.frame_count.Reads as frame-count-reads
+use Rattle.whole.specs.Frames.{frameCount}
 
 -- src/sizes.rt:36:10
-frames-requires : tie.Need-frames-requires
-frames-requires c κs = search needs
+frame-count-requires : tie.Need-frame-count-requires
+frame-count-requires c κs = search needs
 
 -- src/sizes.rt:36:6
 mul-result : tie.Need-mul-result
@@ -32,10 +33,10 @@ div-result c = search needs
 
 -- src/sizes.rt:30:1
 returns : tie.Need-returns
-unfolding blockCount
+unfolding blockCount frameCount
 returns c = let s = c .before .args .shape in
-    (ap (λ (f : ℕ). (8 * f + s .block - 1) / s .block) (c .frames .ensures .0), omega (arith, blocks-le (c .frames .result) (s .block) (c .before .pre .wide), c .frames .ensures .1))
+    (ap (λ (f : ℕ). (8 * f + s .block - 1) / s .block) (c .frame-count .ensures .0), omega (arith, blocks-le (c .frame-count .result) (s .block) (c .before .pre .wide), c .frame-count .ensures .1))
 
 pub block-count-spec : {M : Type 1} → statement M
 block-count-spec =
-    tie.close (tie.spec frames-requires mul-result add-result sub-result div-result returns)
+    tie.close (tie.spec frame-count-requires mul-result add-result sub-result div-result returns)

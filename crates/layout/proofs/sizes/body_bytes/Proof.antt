@@ -3,22 +3,22 @@ use mathlib.Core.Path.{ap₂}
 use Prim.Native.Nat.{ℕ, _+_, _-_, _*_, _/_}
 use native.Mathlib.Omega.{arith}
 use Rattle.layout.specs.Sizes.{bodyBytes, lastSamples}
-use Rattle.whole.specs.Frames.{framesOf}
+use Rattle.whole.specs.Frames.{frameCount}
 use Rattle.layout.proofs.sizes.body_bytes.Statement.{statement}
 use Rattle.layout.proofs.sizes.body_bytes.Tie as tie
 use Rattle.layout.proofs.sizes.body_bytes.Reads as reads
 use Rattle.layout.proofs.sizes.body_bytes.Lts as lts
-use Rattle.layout.proofs.sizes.frames.Reads as frames-reads
+use Rattle.layout.proofs.sizes.frame_count.Reads as frame-count-reads
 use Rattle.layout.proofs.sizes.last_samples.Reads as last-samples-reads
 
 -- src/sizes.rt:45:10
-frames-requires : tie.Need-frames-requires
-frames-requires c κs = search needs
+frame-count-requires : tie.Need-frame-count-requires
+frame-count-requires c κs = search needs
 
 -- src/sizes.rt:45:10
 sub-result : tie.Need-sub-result
-unfolding framesOf
-sub-result c = omega (arith, c .frames .ensures .0)
+unfolding frameCount
+sub-result c = omega (arith, c .frame-count .ensures .0)
 
 -- src/sizes.rt:45:5
 mul-result : tie.Need-mul-result
@@ -42,16 +42,16 @@ add-result-3 c = search needs
 
 -- src/sizes.rt:40:1
 returns : tie.Need-returns
-unfolding bodyBytes
-returns c = let e = c .before .frames .ensures .0 in
+unfolding bodyBytes frameCount lastSamples
+returns c = let e = c .before .frame-count .ensures .0 in
     let l = c .last-samples .ensures .0 in
-    (ap₂ (λ (f m : ℕ). 8 * (f - 1) + 1 + (m + 1) / 2) e l, omega (arith, c .before .frames .ensures .1, c .last-samples .ensures .1))
+    (ap₂ (λ (f m : ℕ). 8 * (f - 1) + 1 + (m + 1) / 2) e l, omega (arith, c .before .frame-count .ensures .1, c .last-samples .ensures .1))
 
 pub body-bytes-spec : {M : Type 1} → statement M
 body-bytes-spec =
     tie.close
     (tie.spec
-    frames-requires
+    frame-count-requires
     sub-result
     mul-result
     add-result

@@ -2,7 +2,7 @@ use borrow.Author.Needs.{needs}
 use mathlib.Core.Path.{ap₂}
 use Prim.Native.Nat.{ℕ, _+_}
 use native.Mathlib.Omega.{arith}
-use Rattle.layout.specs.Sizes.{imageSize}
+use Rattle.layout.specs.Sizes.{imageSize, blockCount, bodyBytes, lastSamples}
 use Rattle.layout.proofs.SizeLaws.{blocks-most}
 use Rattle.layout.proofs.sizes.image_size.Statement.{statement}
 use Rattle.layout.proofs.sizes.image_size.Tie as tie
@@ -10,6 +10,7 @@ use Rattle.layout.proofs.sizes.image_size.Reads as reads
 use Rattle.layout.proofs.sizes.image_size.Lts as lts
 use Rattle.layout.proofs.sizes.bodies_place.Reads as bodies-place-reads
 use Rattle.layout.proofs.sizes.body_bytes.Reads as body-bytes-reads
+use Rattle.whole.specs.Frames.{frameCount}
 
 -- src/sizes.rt:69:5
 bodies-place-requires : tie.Need-bodies-place-requires
@@ -26,7 +27,7 @@ add-result c = let s = c .before .before .args .shape in
 
 -- src/sizes.rt:65:1
 returns : tie.Need-returns
-unfolding imageSize
+unfolding imageSize blockCount bodyBytes frameCount lastSamples
 returns c = ap₂ (λ (p t : ℕ). p + t) (c .before .bodies-place .ensures) (c .body-bytes .ensures .0)
 
 pub image-size-spec : {M : Type 1} → statement M

@@ -26,21 +26,21 @@ module _ (g : Start) (xs ys : List ℤ) where
       ap₂ (λ (h : History) (f : List ℤ). historyAfter h (encodeFrame h f (g .coefficients) .samples) 14) (history-stable i (omega arith)) (frame-stable xs ys i (omega arith))
 
   pub encoded-stable : (i : ℕ) → 14 * i + 14 ≤ length xs → encodedAt g (xs ++ ys) i ≡ encodedAt g xs i
-  unfolding encodedAt
+  unfolding encodedAt historyAt
   encoded-stable i k = ap₂ (λ (h : History) (f : List ℤ). encodeFrame h f (g .coefficients)) (history-stable i (omega arith)) (frame-stable xs ys i k)
 
   pub bodies-stable : (i : ℕ) → 14 * i ≤ length xs → bodies g (xs ++ ys) i ≡ bodies g xs i
-  unfolding bodies
+  unfolding bodies encodedAt historyAt
   bodies-stable zero k = refl
   bodies-stable (suc i) k = ap₂ (λ (a : List ℕ) (c : EncodedFrame). a ++ c .bytes) (bodies-stable i (omega arith)) (encoded-stable i (omega arith))
 
   pub passes-stable : (i : ℕ) → 14 * i ≤ length xs → passesUpTo g (xs ++ ys) i ≡ passesUpTo g xs i
-  unfolding passesUpTo
+  unfolding passesUpTo encodedAt historyAt
   passes-stable zero k = refl
   passes-stable (suc i) k = ap₂ (λ (a : ℕ) (c : EncodedFrame). a + c .passes) (passes-stable i (omega arith)) (encoded-stable i (omega arith))
 
   pub context-stable : (k j : ℕ) → 14 * k ≤ length xs → contextAt g (xs ++ ys) k j ≡ contextAt g xs k j
-  unfolding contextAt
+  unfolding contextAt encodedAt historyAt
   context-stable k j l = go (ltb (j * (g .block / 8)) k) refl
     where
       i : ℕ
@@ -56,25 +56,25 @@ module _ (g : Start) (xs ys : List ℤ) where
 
 module _ (g : Start) (xs : List ℤ) where
   pub encoded-length : (i : ℕ) → length (encodedAt g xs i .bytes) ≡ 8
-  unfolding encodedAt
+  unfolding encodedAt historyAt
   encoded-length i = frame-lengths (historyAt g xs i) (frameAt xs i) (g .coefficients) .0
 
   pub encoded-passes : (i : ℕ) → encodedAt g xs i .passes ≤ 104
-  unfolding encodedAt
+  unfolding encodedAt historyAt
   encoded-passes i = frame-passes (historyAt g xs i) (frameAt xs i) (g .coefficients)
 
   pub bodies-length : (i : ℕ) → length (bodies g xs i) ≡ 8 * i
-  unfolding bodies
+  unfolding bodies encodedAt historyAt
   bodies-length zero = refl
   bodies-length (suc i) = length-append (bodies g xs i) (encodedAt g xs i .bytes) ∙ omega (arith, bodies-length i, encoded-length i)
 
   pub passes-most : (i : ℕ) → passesUpTo g xs i ≤ 104 * i
-  unfolding passesUpTo
+  unfolding passesUpTo encodedAt historyAt
   passes-most zero = omega arith
   passes-most (suc i) = omega (arith, passes-most i, encoded-passes i)
 
   pub context-length : (k j : ℕ) → length (contextAt g xs k j) ≡ 6
-  unfolding contextAt
+  unfolding contextAt encodedAt historyAt
   context-length k j = go (ltb (j * (g .block / 8)) k)
     where
       i : ℕ
