@@ -1,6 +1,6 @@
 # Builds libdoilycairn.a, the examples in C and C++ and the tool; installs the header, the archive, the pkg-config file and the tool where it is built.
 
-VERSION = 0.1.0
+VERSION = 0.2.0
 PREFIX ?= /usr/local
 DESTDIR ?=
 CFLAGS ?= -O2 -g

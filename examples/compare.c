@@ -13,7 +13,7 @@ int main(int argc, char **argv) {
     uint8_t *first = read_file(argv[1], &first_len);
     uint8_t *second = read_file(argv[2], &second_len);
     doilycairn_comparison compared = doilycairn_same(first, first_len, second, second_len);
-    check("same", compared.code);
+    check_reading("same", compared.code, compared.entry);
     puts(compared.same ? "the same" : "different");
     free(second);
     free(first);

@@ -23,7 +23,7 @@ int main(int argc, char **argv) {
     size_t image_len;
     uint8_t *image = read_file(argv[1], &image_len);
     doilycairn_opening opened = doilycairn_open(image, image_len);
-    check("open", opened.code);
+    check_reading("open", opened.code, opened.entry);
 
     size_t count = opened.head.total;
     int16_t *samples = allocate(count, sizeof *samples);

@@ -1,4 +1,7 @@
-/* refusals: makes a call for each refusal and says which number it gave. Exit status 1 where a call gave another than the one meant. */
+/*
+ * refusals: makes a call for each refusal and says which number it gave, and which block it named. Exit status 1 where a call gave another than the
+ * one meant.
+ */
 #include "doilycairn.h"
 #include "support.h"
 #include <stdio.h>
@@ -11,13 +14,40 @@ static const doilycairn_history history = {0, 0};
 static const doilycairn_context context = {0, {0, 0}};
 static int wrong = 0;
 
-/* Says what a call gave, and remembers where it is not what was meant. */
+/* What a call says of itself: its code, and the block whose entry is bad. */
+typedef struct {
+    uint32_t code;
+    uint32_t entry;
+} verdict;
+
+static void say(verdict given) {
+    printf("%2u ", (unsigned)given.code);
+    write_message(stdout, given.code, given.entry);
+    puts("");
+}
+
+static verdict of_opening(doilycairn_opening opened) { return (verdict){opened.code, opened.entry}; }
+static verdict of_body(doilycairn_body body) { return (verdict){body.code, body.entry}; }
+static verdict of_playback(doilycairn_playback played) { return (verdict){played.code, played.entry}; }
+static verdict of_comparison(doilycairn_comparison compared) { return (verdict){compared.code, compared.entry}; }
+
+/* Remembers where a verdict is not what was meant. */
+static void compare(verdict meant, verdict given) {
+    if (given.code == meant.code && given.entry == meant.entry) return;
+    printf("   given was %u, entry %u; ", (unsigned)given.code, (unsigned)given.entry);
+    printf("meant was %u, entry %u\n", (unsigned)meant.code, (unsigned)meant.entry);
+    wrong = 1;
+}
+
+/* Says what a call gave that names no block. */
+static void expect_no_block(uint32_t meant, verdict given) {
+    say(given);
+    compare((verdict){meant, 0}, given);
+}
+
+/* Says what a call gave whose answer has no entry. */
 static void expect(uint32_t meant, uint32_t code) {
-    printf("%2u %s\n", (unsigned)code, message_of(code));
-    if (code != meant) {
-        printf("   meant was %u %s\n", (unsigned)meant, message_of(meant));
-        wrong = 1;
-    }
+    expect_no_block(meant, (verdict){code, 0});
 }
 
 static void measuring(void) {
@@ -51,22 +81,77 @@ static void feeding(uint8_t *image) {
 static void playing_bytes(void) {
     static const uint8_t bytes[8] = {0};
     int16_t out[14];
-    expect(DOILYCAIRN_LENGTH_OUT_OF_RANGE, doilycairn_play_bytes(bytes, 8, 17, coefficients, context, out, 14).code);
-    expect(DOILYCAIRN_LOWEST_PAIR, doilycairn_play_bytes(bytes, 8, 16, lowest, context, out, 14).code);
-    expect(DOILYCAIRN_OUTPUT_TOO_SHORT, doilycairn_play_bytes(bytes, 8, 16, coefficients, context, out, 13).code);
+    expect_no_block(DOILYCAIRN_LENGTH_OUT_OF_RANGE, of_playback(doilycairn_play_bytes(bytes, 8, 17, coefficients, context, out, 14)));
+    expect_no_block(DOILYCAIRN_LOWEST_PAIR, of_playback(doilycairn_play_bytes(bytes, 8, 16, lowest, context, out, 14)));
+    expect_no_block(DOILYCAIRN_OUTPUT_TOO_SHORT, of_playback(doilycairn_play_bytes(bytes, 8, 16, coefficients, context, out, 13)));
+}
+
+/* Bytes of an image that are damaged, the same one twice where it is one alone, and what every call on it then gives. */
+typedef struct {
+    size_t places[2];
+    verdict meant;
+} damage;
+
+/* Entries stand at 56 and 72, bodies at 88 and 96. */
+static const damage damages[] = {
+    {{59, 59}, {DOILYCAIRN_BAD_OFFSET, 0}},
+    {{75, 75}, {DOILYCAIRN_BAD_OFFSET, 1}},
+    {{63, 63}, {DOILYCAIRN_BAD_LENGTH, 0}},
+    {{79, 79}, {DOILYCAIRN_BAD_LENGTH, 1}},
+    {{87, 87}, {DOILYCAIRN_BAD_LENGTH, 1}}, /* zero bytes */
+    {{64, 64}, {DOILYCAIRN_BAD_HEADER, 0}}, /* the upper byte of the two */
+    {{96, 96}, {DOILYCAIRN_BAD_HEADER, 1}}, /* the body, not the entry */
+    {{65, 75}, {DOILYCAIRN_BAD_HEADER, 0}}, /* entry 0 before entry 1 */
+    {{71, 65}, {DOILYCAIRN_BAD_LENGTH, 0}}, /* within an entry 21 before 22 */
+    {{79, 75}, {DOILYCAIRN_BAD_OFFSET, 1}}, /* and 20 before 21 */
+    {{55, 59}, {DOILYCAIRN_BAD_HEAD, 0}},   /* the head before any entry */
+};
+
+enum { DAMAGES = sizeof damages / sizeof damages[0] };
+
+static void damage_image(const uint8_t *image, const damage *done, uint8_t *damaged) {
+    memcpy(damaged, image, IMAGE);
+    for (size_t i = 0; i < 2; i++) damaged[done->places[i]] = (uint8_t)(image[done->places[i]] ^ 1);
+}
+
+/* The calls on one damaged image, for blocks that there are and for one that there is not. */
+static void read_damaged(const uint8_t *damaged, verdict meant) {
+    int16_t out[SAMPLES];
+    say(of_opening(doilycairn_open(damaged, IMAGE)));
+    compare(meant, of_opening(doilycairn_open(damaged, IMAGE)));
+    for (uint32_t k = 0; k < 3; k++) {
+        compare(meant, of_body(doilycairn_block_body(damaged, IMAGE, k)));
+        compare(meant, of_playback(doilycairn_play(damaged, IMAGE, k, out, SAMPLES)));
+    }
+    compare(meant, of_playback(doilycairn_play_all(damaged, IMAGE, out, SAMPLES)));
+}
+
+/* Comparing with the image as it was, in either place, and with every damaged one: the first image is tested first. */
+static void compare_damaged(const uint8_t *image, const uint8_t *damaged, verdict meant) {
+    compare(meant, of_comparison(doilycairn_same(damaged, IMAGE, image, IMAGE)));
+    compare(meant, of_comparison(doilycairn_same(image, IMAGE, damaged, IMAGE)));
+    for (size_t i = 0; i < DAMAGES; i++) {
+        uint8_t other[IMAGE];
+        damage_image(image, &damages[i], other);
+        compare(meant, of_comparison(doilycairn_same(damaged, IMAGE, other, IMAGE)));
+    }
+}
+
+static void reading_damaged(const uint8_t *image) {
+    for (size_t i = 0; i < DAMAGES; i++) {
+        uint8_t damaged[IMAGE];
+        damage_image(image, &damages[i], damaged);
+        read_damaged(damaged, damages[i].meant);
+        compare_damaged(image, damaged, damages[i].meant);
+    }
 }
 
 static void reading(const uint8_t *image) {
-    uint8_t damaged[IMAGE];
-    memcpy(damaged, image, IMAGE);
-    damaged[56] = 1;
-    expect(DOILYCAIRN_BAD_HEAD, doilycairn_open(image, 55).code);
-    expect(DOILYCAIRN_BAD_ENTRY, doilycairn_open(damaged, IMAGE).code);
-    expect(DOILYCAIRN_NO_SUCH_BLOCK, doilycairn_block_body(image, IMAGE, 2).code);
     int16_t out[SAMPLES];
-    expect(DOILYCAIRN_BAD_ENTRY, doilycairn_play_all(damaged, IMAGE, out, SAMPLES).code);
-    expect(DOILYCAIRN_OUTPUT_TOO_SHORT, doilycairn_play_all(image, IMAGE, out, SAMPLES - 1).code);
-    expect(DOILYCAIRN_ACCEPTED, doilycairn_play_all(image, IMAGE, out, SAMPLES).code);
+    expect_no_block(DOILYCAIRN_BAD_HEAD, of_opening(doilycairn_open(image, 55)));
+    expect_no_block(DOILYCAIRN_NO_SUCH_BLOCK, of_body(doilycairn_block_body(image, IMAGE, 2)));
+    expect_no_block(DOILYCAIRN_OUTPUT_TOO_SHORT, of_playback(doilycairn_play_all(image, IMAGE, out, SAMPLES - 1)));
+    expect_no_block(DOILYCAIRN_ACCEPTED, of_playback(doilycairn_play_all(image, IMAGE, out, SAMPLES)));
 }
 
 static void joining(void) {
@@ -82,6 +167,7 @@ int main(void) {
     feeding(image);
     playing_bytes();
     reading(image);
+    reading_damaged(image);
     joining();
     return wrong;
 }

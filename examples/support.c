@@ -1,9 +1,9 @@
 #include "support.h"
 #include "doilycairn.h"
-#include <stdio.h>
 #include <stdlib.h>
 
-const char *message_of(uint32_t code) {
+/* What a code says, in words. */
+static const char *message_of(uint32_t code) {
     switch (code) {
     case DOILYCAIRN_ACCEPTED: return "accepted";
     case DOILYCAIRN_INVALID_STATE: return "the state is not one that a run of calls gives";
@@ -21,17 +21,35 @@ const char *message_of(uint32_t code) {
     case DOILYCAIRN_LOWEST_PAIR: return "a pair of coefficients is -32,768 twice";
     case DOILYCAIRN_OUTPUT_TOO_SHORT: return "the output is too short";
     case DOILYCAIRN_BAD_HEAD: return "not an image: its head is not a clip's, or bytes are missing";
-    case DOILYCAIRN_BAD_ENTRY: return "the image's table of blocks is damaged";
     case DOILYCAIRN_NO_SUCH_BLOCK: return "the image has no block of that number";
     case DOILYCAIRN_COEFFICIENTS_DIFFER: return "the two blocks have different coefficients";
+    case DOILYCAIRN_BAD_OFFSET: return "the entry's offset is not where the block's body begins";
+    case DOILYCAIRN_BAD_LENGTH: return "the entry's length or its zero bytes are wrong";
+    case DOILYCAIRN_BAD_HEADER: return "the entry's predictor-and-scale is not the body's first byte";
     default: return "a code that this program does not know";
     }
 }
 
-void check(const char *call, uint32_t code) {
+/* Whether a code speaks of one entry of an image's table. */
+static int names_block(uint32_t code) {
+    return code == DOILYCAIRN_BAD_OFFSET || code == DOILYCAIRN_BAD_LENGTH || code == DOILYCAIRN_BAD_HEADER;
+}
+
+void write_message(FILE *out, uint32_t code, uint32_t entry) {
+    if (names_block(code)) fprintf(out, "block %u: ", (unsigned)entry);
+    fputs(message_of(code), out);
+}
+
+void check_reading(const char *call, uint32_t code, uint32_t entry) {
     if (code == DOILYCAIRN_ACCEPTED) return;
-    fprintf(stderr, "%s: %s (refusal %u)\n", call, message_of(code), (unsigned)code);
+    fprintf(stderr, "%s: ", call);
+    write_message(stderr, code, entry);
+    fprintf(stderr, " (refusal %u)\n", (unsigned)code);
     exit(2);
+}
+
+void check(const char *call, uint32_t code) {
+    check_reading(call, code, 0);
 }
 
 void fail(const char *path) {

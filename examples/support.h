@@ -4,12 +4,16 @@
 
 #include <stddef.h>
 #include <stdint.h>
+#include <stdio.h>
 
-/* What a code says, in words. */
-const char *message_of(uint32_t code);
+/* Writes what a code says, in words, after the block whose entry is bad if the code speaks of one. */
+void write_message(FILE *out, uint32_t code, uint32_t entry);
 
 /* Ends the program with exit status 2 and the refusal's message, unless the call was accepted. */
 void check(const char *call, uint32_t code);
+
+/* The same for a call that reads an image, whose answer may name a block. */
+void check_reading(const char *call, uint32_t code, uint32_t entry);
 
 /* Ends the program with exit status 2 and what went wrong with a file. */
 void fail(const char *path);

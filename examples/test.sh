@@ -18,6 +18,24 @@ expect() {
     fi
 }
 
+# refused MESSAGE COMMAND...: the command ends with status 2 and says just that.
+refused() {
+    want=$1
+    shift
+    got=0
+    said=$("$@" 2>&1) || got=$?
+    echo "$said"
+    if [ "$got" -ne 2 ] || [ "$said" != "$want" ]; then
+        echo "failed: $* ended with $got and not 2, or did not say: $want" >&2
+        exit 1
+    fi
+}
+
+# damage PLACE: writes the clip with that byte altered.
+damage() {
+    { head -c "$1" clip; printf 'x'; tail -c +$(($1 + 2)) clip; } > damaged
+}
+
 # bytes FILE COUNT: the file has that many bytes.
 bytes() {
     if [ "$(wc -c < "$1")" -ne "$2" ]; then
@@ -50,9 +68,15 @@ expect 2 "$bin/encode" none 100 65537
 head -c 1000 clip > cut
 expect 2 "$bin/play" cut cut.raw
 expect 2 "$bin/compare" clip cut
-{ head -c 56 clip; printf 'x'; tail -c +58 clip; } > damaged
-expect 2 "$bin/play" damaged damaged.raw
-expect 2 "$bin/compare" damaged clip
+# The offset of block 0, the zero bytes of block 3, the header of block 6 and the first byte of body 1, of 7 blocks.
+damage 56
+refused "open: block 0: the entry's offset is not where the block's body begins (refusal 20)" "$bin/play" damaged damaged.raw
+damage 119
+refused "same: block 3: the entry's length or its zero bytes are wrong (refusal 21)" "$bin/compare" clip damaged
+damage 161
+refused "same: block 6: the entry's predictor-and-scale is not the body's first byte (refusal 22)" "$bin/compare" damaged clip
+damage $((56 + 16 * 7 + 4096))
+refused "open: block 1: the entry's predictor-and-scale is not the body's first byte (refusal 22)" "$bin/play" damaged damaged.raw
 [ ! -e none ] && [ ! -e cut.raw ] && [ ! -e damaged.raw ]
 
 expect 0 "$bin/refusals"

@@ -13,7 +13,8 @@
  * States go in and out by value. The one that a call was given stays valid: undo is keeping it, and going on with the same buffer.
  *
  * Every answer has a `code`: 0 accepted, or the number of the first test that failed (enum doilycairn_code). A refused call
- * writes to no buffer; the rest of its answer is as the call's comment says.
+ * writes to no buffer; the rest of its answer is as the call's comment says. Where an entry of an image's table is bad, `entry`
+ * names its block (see "Reading an image").
  *
  * A state and its buffer belong together: the store for a doilycairn_calculator, the image for a doilycairn_encoder, each as the calls on
  * that state left it. No call can test that they do. With another store the coefficients are those of whatever numbers stand
@@ -57,7 +58,7 @@ extern "C" {
 #define DOILYCAIRN_MIN_BLOCK_SIZE 8
 #define DOILYCAIRN_MAX_BLOCK_SIZE 65536
 
-/* What `code` says. Tests run in the sequence that each call's comment gives. */
+/* What `code` says. Tests run in the sequence that each call's comment gives. No call gives 16 (20, 21 and 22 stand in its place) or 19. */
 enum doilycairn_code {
     DOILYCAIRN_ACCEPTED = 0,
     DOILYCAIRN_INVALID_STATE = 1,       /* a state whose numbers no run of calls gives; not every forged state is found, see above */
@@ -75,9 +76,11 @@ enum doilycairn_code {
     DOILYCAIRN_LOWEST_PAIR = 13,        /* playing, comparing: a pair of coefficients is -32,768 twice */
     DOILYCAIRN_OUTPUT_TOO_SHORT = 14,   /* playing, joining: the output is too short */
     DOILYCAIRN_BAD_HEAD = 15,           /* an image: its first 56 bytes are not a clip's, or bytes are missing */
-    DOILYCAIRN_BAD_ENTRY = 16,          /* an image: an entry of its table does not fit the head or the block's body */
     DOILYCAIRN_NO_SUCH_BLOCK = 17,      /* an image: the block's number is not below the count of blocks */
-    DOILYCAIRN_COEFFICIENTS_DIFFER = 18 /* joining: the two blocks have different coefficients */
+    DOILYCAIRN_COEFFICIENTS_DIFFER = 18,/* joining: the two blocks have different coefficients */
+    DOILYCAIRN_BAD_OFFSET = 20,         /* an image: an entry's offset is not where its block's body begins */
+    DOILYCAIRN_BAD_LENGTH = 21,         /* an image: an entry's length is not its block's, or its two zero bytes are not zero */
+    DOILYCAIRN_BAD_HEADER = 22          /* an image: an entry's predictor-and-scale is not the first byte of its block's body */
 };
 
 /* ---- States and values ---- */
@@ -152,11 +155,13 @@ typedef struct {
 
 typedef struct {
     uint32_t code;
+    uint32_t entry;       /* with 20, 21, 22: the number of the block whose entry is bad; else 0 */
     doilycairn_head head; /* refused: zeros */
 } doilycairn_opening;
 
 typedef struct {
     uint32_t code;
+    uint32_t entry;   /* with 20, 21, 22: the number of the block whose entry is bad; else 0 */
     uint32_t offset;  /* of the body's first byte in the image; refused: 0 */
     uint32_t bytes;   /* of the body; refused: 0 */
     uint32_t nibbles; /* the block's length; refused: 0 */
@@ -165,13 +170,15 @@ typedef struct {
 
 typedef struct {
     uint32_t code;
+    uint32_t entry;             /* with 20, 21, 22: the number of the block whose entry is bad; else 0 */
     uint64_t samples;           /* written to the output; refused: 0 */
     doilycairn_context context; /* after the last sample; refused: see the call */
 } doilycairn_playback;
 
 typedef struct {
     uint32_t code;
-    bool same; /* refused: false */
+    uint32_t entry; /* with 20, 21, 22: the number of the block whose entry is bad; else 0 */
+    bool same;      /* refused: false */
 } doilycairn_comparison;
 
 typedef struct {
@@ -240,33 +247,39 @@ doilycairn_encoding doilycairn_close(doilycairn_encoder encoder, uint8_t *image,
 /*
  * Each call of this part tests the whole head and table of the image that it is given, so its time grows with the count of blocks: a call of
  * doilycairn_play or doilycairn_block_body for each of K blocks looks at K x K entries. To play a whole clip, call doilycairn_play_all once.
+ *
+ * 20, 21 and 22 speak of one entry of the table, and `entry` is the number of its block. After the head (15) the entries are tested in rising
+ * order, block 0's first, each by 20, 21 and 22 in that sequence; the first bad one is named, and nothing is said of those after it. With 22 it
+ * may be the first byte of the body that is damaged, and not the entry. Beside every other code `entry` is 0 and names no block.
  */
 
-/* Opens an image: tests its head and table, and gives what the head says. Bytes after the image are allowed. Refused by 15, 16. */
+/* Opens an image: tests its head and table, and gives what the head says. Bytes after the image are allowed. Refused by 15, 20, 21, 22. */
 doilycairn_opening doilycairn_open(const uint8_t *image, size_t image_len);
 
 /*
  * Where the body of block `k` stands in the image, at image + offset, and what it is played from: doilycairn_play_bytes plays it with its bytes, its
- * nibbles, its context and the head's coefficients, and tests no table. Refused by 15, 16, 17.
+ * nibbles, its context and the head's coefficients, and tests no table. Refused by 15, 20, 21, 22, 17.
  */
 doilycairn_body doilycairn_block_body(const uint8_t *image, size_t image_len, uint32_t k);
 
 /*
  * Plays block `k` from its own context. `out`: at least doilycairn_address_to_sample(nibbles) samples, for the block's nibbles; a block
- * has at most block / 8 * 14 samples. Refused by 15, 16, 17, 13, 14; the context is then zeros.
+ * has at most block / 8 * 14 samples. Refused by 15, 20, 21, 22, 17, 13, 14; the context is then zeros.
  */
 doilycairn_playback doilycairn_play(const uint8_t *image, size_t image_len, uint32_t k, int16_t *out, size_t out_len);
 
 /*
  * Plays the whole clip: blocks 0 to K - 1, each from its own context, one after the other. The head and the table are tested once.
  * `out`: at least as many samples as the clip has (`total` of its head); later ones are kept. The context is the one after the last sample.
- * Refused by 15, 16, 13, 14; the context is then zeros.
+ * Refused by 15, 20, 21, 22, 13, 14; the context is then zeros.
  */
 doilycairn_playback doilycairn_play_all(const uint8_t *image, size_t image_len, int16_t *out, size_t out_len);
 
 /*
  * Whether two images have equally many samples and play the same ones. Rate and gain do not count, nor do coefficients, block size and the
- * bytes: compare the heads too where these matter. Refused by 15, 16, 13 of the first, then of the second.
+ * bytes: compare the heads too where these matter. Refused by 15, 20, 21, 22, 13 of the first, then of the second.
+ * `entry` is of the first image if that one is refused, else of the second: with 20, 21, 22 it is of the first unless that one opens, as one
+ * doilycairn_open tells.
  */
 doilycairn_comparison doilycairn_same(const uint8_t *first, size_t first_len, const uint8_t *second, size_t second_len);
 
@@ -274,7 +287,7 @@ doilycairn_comparison doilycairn_same(const uint8_t *first, size_t first_len, co
 
 /*
  * Plays the first `nibbles` nibbles of a block's bytes, headers counted. `out`: at least doilycairn_address_to_sample(nibbles) samples.
- * Refused by 12, 13, 14; the context is then the one given.
+ * Refused by 12, 13, 14; the context is then the one given. There is no table: `entry` is always 0.
  */
 doilycairn_playback doilycairn_play_bytes(const uint8_t *bytes, size_t bytes_len, uint32_t nibbles, const int16_t coefficients[16],
                                           doilycairn_context context, int16_t *out, size_t out_len);
@@ -339,21 +352,25 @@ DOILYCAIRN_CHECK(offsetof(doilycairn_frame, history) == 16);
 DOILYCAIRN_CHECK(sizeof(doilycairn_encoding) == 96);
 DOILYCAIRN_CHECK(offsetof(doilycairn_encoding, encoder) == 4);
 
-DOILYCAIRN_CHECK(sizeof(doilycairn_opening) == 56);
-DOILYCAIRN_CHECK(offsetof(doilycairn_opening, head) == 4);
+DOILYCAIRN_CHECK(sizeof(doilycairn_opening) == 60);
+DOILYCAIRN_CHECK(offsetof(doilycairn_opening, entry) == 4);
+DOILYCAIRN_CHECK(offsetof(doilycairn_opening, head) == 8);
 
-DOILYCAIRN_CHECK(sizeof(doilycairn_body) == 24);
-DOILYCAIRN_CHECK(offsetof(doilycairn_body, offset) == 4);
-DOILYCAIRN_CHECK(offsetof(doilycairn_body, bytes) == 8);
-DOILYCAIRN_CHECK(offsetof(doilycairn_body, nibbles) == 12);
-DOILYCAIRN_CHECK(offsetof(doilycairn_body, context) == 16);
+DOILYCAIRN_CHECK(sizeof(doilycairn_body) == 28);
+DOILYCAIRN_CHECK(offsetof(doilycairn_body, entry) == 4);
+DOILYCAIRN_CHECK(offsetof(doilycairn_body, offset) == 8);
+DOILYCAIRN_CHECK(offsetof(doilycairn_body, bytes) == 12);
+DOILYCAIRN_CHECK(offsetof(doilycairn_body, nibbles) == 16);
+DOILYCAIRN_CHECK(offsetof(doilycairn_body, context) == 20);
 
 DOILYCAIRN_CHECK(sizeof(doilycairn_playback) == 24);
+DOILYCAIRN_CHECK(offsetof(doilycairn_playback, entry) == 4);
 DOILYCAIRN_CHECK(offsetof(doilycairn_playback, samples) == 8);
 DOILYCAIRN_CHECK(offsetof(doilycairn_playback, context) == 16);
 
-DOILYCAIRN_CHECK(sizeof(doilycairn_comparison) == 8);
-DOILYCAIRN_CHECK(offsetof(doilycairn_comparison, same) == 4);
+DOILYCAIRN_CHECK(sizeof(doilycairn_comparison) == 12);
+DOILYCAIRN_CHECK(offsetof(doilycairn_comparison, entry) == 4);
+DOILYCAIRN_CHECK(offsetof(doilycairn_comparison, same) == 8);
 
 DOILYCAIRN_CHECK(sizeof(doilycairn_joining) == 16);
 DOILYCAIRN_CHECK(offsetof(doilycairn_joining, nibbles) == 8);

@@ -23,7 +23,7 @@ pub struct Played {
 
 impl Played {
     pub(crate) fn answer(playback: ffi::Playback) -> Result<Self, Refusal> {
-        Refusal::check(playback.code)?;
+        Refusal::check(playback.code, playback.entry)?;
         Ok(Self { samples: playback.samples as usize, context: playback.context })
     }
 }
@@ -92,7 +92,7 @@ pub fn play_bytes(
 /// ```
 pub fn join(first: &Block, second: &Block, out: &mut [u8]) -> Result<u64, Refusal> {
     let joining = ffi::join(first, second, out);
-    Refusal::check(joining.code)?;
+    Refusal::check(joining.code, 0)?;
     Ok(joining.nibbles)
 }
 

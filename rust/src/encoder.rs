@@ -89,7 +89,7 @@ impl EncoderState {
     }
 
     fn answer(encoding: ffi::Encoding) -> Result<Self, Refusal> {
-        Refusal::check(encoding.code)?;
+        Refusal::check(encoding.code, 0)?;
         Ok(encoding.encoder)
     }
 }

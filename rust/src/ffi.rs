@@ -10,6 +10,8 @@ use crate::{Block, Calculator, Coefficients, EncoderState, FrameContext, Head, H
 compile_error!("libdoilycairn.a is built for x86-64");
 
 #[cfg(test)]
+mod entries;
+#[cfg(test)]
 mod layout;
 #[cfg(test)]
 mod refused;
@@ -49,6 +51,7 @@ pub(crate) struct Encoding {
 #[derive(Debug)]
 pub(crate) struct Opening {
     pub code: u32,
+    pub entry: u32,
     pub head: Head,
 }
 
@@ -56,6 +59,7 @@ pub(crate) struct Opening {
 #[derive(Debug)]
 pub(crate) struct Body {
     pub code: u32,
+    pub entry: u32,
     pub offset: u32,
     pub bytes: u32,
     pub nibbles: u32,
@@ -66,6 +70,7 @@ pub(crate) struct Body {
 #[derive(Debug)]
 pub(crate) struct Playback {
     pub code: u32,
+    pub entry: u32,
     pub samples: u64,
     pub context: FrameContext,
 }
@@ -74,6 +79,7 @@ pub(crate) struct Playback {
 #[derive(Debug)]
 pub(crate) struct Comparison {
     pub code: u32,
+    pub entry: u32,
     pub same: bool,
 }
 

@@ -42,6 +42,6 @@ pub fn encode_frame(
 ) -> Result<EncodedFrame, Refusal> {
     let ffi::Frame { code, bytes, passes, history } =
         ffi::encode_frame(history, samples, coefficients);
-    Refusal::check(code)?;
+    Refusal::check(code, 0)?;
     Ok(EncodedFrame { bytes, passes, history })
 }

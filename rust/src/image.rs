@@ -50,9 +50,11 @@ pub struct Image<'a> {
 
 impl<'a> Image<'a> {
     /// Opens an image: tests its head and table. Bytes after the image are allowed.
+    ///
+    /// Refused by [`BadHead`](Refusal::BadHead), then by the first bad entry of the table, with its block.
     pub fn open(bytes: &'a [u8]) -> Result<Self, Refusal> {
         let opening = ffi::open(bytes);
-        Refusal::check(opening.code)?;
+        Refusal::check(opening.code, opening.entry)?;
         Ok(Self { bytes, head: opening.head })
     }
 
@@ -66,7 +68,7 @@ impl<'a> Image<'a> {
     /// Each call tests the whole head and table again, all K entries: for every block in turn use [`blocks`](Self::blocks), which does not.
     pub fn block(&self, k: u32) -> Result<Block<'a>, Refusal> {
         let body = ffi::block_body(self.bytes, k);
-        Refusal::check(body.code)?;
+        Refusal::check(body.code, body.entry)?;
         let bytes = &self.bytes[body.offset as usize..][..body.bytes as usize];
         let coefficients = self.head.coefficients;
         Ok(Block { bytes, nibbles: body.nibbles, coefficients, context: body.context })
@@ -132,8 +134,11 @@ impl<'a> Image<'a> {
 }
 
 /// Whether two images have equally many samples and play the same ones, whatever their bytes. Rate, gain, coefficients and block size do not count.
+///
+/// A refusal is of the first image if that one is refused, else of the second. Where it names a block ([`Refusal::block`]), it is of the first
+/// unless that one opens.
 pub fn same(first: &[u8], second: &[u8]) -> Result<bool, Refusal> {
     let comparison = ffi::same(first, second);
-    Refusal::check(comparison.code)?;
+    Refusal::check(comparison.code, comparison.entry)?;
     Ok(comparison.same)
 }

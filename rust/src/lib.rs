@@ -26,9 +26,9 @@
 //! ```
 //!
 //! Every call is a function of its arguments; there is no global state, and all types are `Send` and `Sync`. A refused call
-//! gives a [`Refusal`] and alters neither state nor buffer. States ([`Calculator`], [`EncoderState`]) are plain values: undo is keeping the
-//! older one, and going on with the same buffer. What the library's calls do is proved; this crate passes them slices with their lengths and
-//! turns codes into [`Refusal`]s.
+//! gives a [`Refusal`] and alters neither state nor buffer; where an entry of an image's table is bad, the refusal names its block. States
+//! ([`Calculator`], [`EncoderState`]) are plain values: undo is keeping the older one, and going on with the same buffer. What the library's
+//! calls do is proved; this crate passes them slices with their lengths and turns codes into [`Refusal`]s.
 //!
 //! # What a state goes with
 //!

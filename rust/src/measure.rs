@@ -33,14 +33,14 @@ impl Calculator {
     /// Measures the next piece. The store has at least [`store_size`] numbers for all samples, the piece counted.
     pub fn process(self, piece: &[i16], store: &mut [f64]) -> Result<Self, Refusal> {
         let processed = ffi::process(self, piece, store);
-        Refusal::check(processed.code)?;
+        Refusal::check(processed.code, 0)?;
         Ok(processed.calculator)
     }
 
     /// The coefficients of all that was measured. Writes the record of a frame that is not full after the others.
     pub fn finish(self, store: &mut [f64]) -> Result<Coefficients, Refusal> {
         let finished = ffi::finish(self, store);
-        Refusal::check(finished.code)?;
+        Refusal::check(finished.code, 0)?;
         Ok(finished.coefficients)
     }
 }

@@ -4,70 +4,95 @@ use std::error::Error;
 use std::fmt;
 
 /// Why a call is refused: the first test that failed. A refused call alters no buffer and no state.
+///
+/// What is wrong in an image's table is told by [`BadOffset`](Self::BadOffset), [`BadLength`](Self::BadLength) and
+/// [`BadHeader`](Self::BadHeader), with the number of the block whose entry is bad. Entries are tested in rising order, each for
+/// these three in that sequence, and the first bad one is named.
+///
+/// ```
+/// use doilycairn::{Coefficients, Encoder, History, Image, Refusal, Start};
+///
+/// let start = Start {
+///     total: 15,
+///     rate: 32_000,
+///     block_size: 8,
+///     gain: 0,
+///     coefficients: Coefficients([0; 16]),
+///     history: History::default(),
+/// };
+/// let mut encoder = Encoder::start(&start)?;
+/// encoder.feed(&[0; 15])?;
+/// encoder.close()?;
+///
+/// let (_, mut bytes) = encoder.into_parts();
+/// bytes[79] ^= 1; // in the entry of block 1, the last byte of its length
+/// let refusal = Image::open(&bytes).unwrap_err();
+/// assert_eq!(refusal, Refusal::BadLength { block: 1 });
+/// assert_eq!(refusal.block(), Some(1));
+/// assert_eq!(
+///     refusal.to_string(),
+///     "block 1: the entry's length or its zero bytes are wrong (refusal 21)"
+/// );
+/// # Ok::<(), Refusal>(())
+/// ```
 #[derive(Clone, Copy, Debug, PartialEq, Eq, Hash, PartialOrd, Ord)]
 #[non_exhaustive]
-#[repr(u32)]
 pub enum Refusal {
-    /// A state whose numbers no run of calls gives. Not every altered state is found.
-    InvalidState = 1,
-    /// Measuring: more than [`MAX_SAMPLES`](crate::MAX_SAMPLES) samples in all.
-    TooManySamples = 2,
-    /// Measuring, coefficients: fewer numbers in the store than [`store_size`](crate::store_size) says.
-    StoreTooShort = 3,
-    /// Starting: 0 samples, or more than [`MAX_SAMPLES`](crate::MAX_SAMPLES).
-    BadSampleCount = 4,
-    /// Starting: rate 0.
-    RateZero = 5,
-    /// Starting: block size below 8 or above 65,536.
-    BadBlockSize = 6,
-    /// Starting, one frame: a c0 outside ±4,096 or a c1 outside ±2,048.
-    CoefficientOutside = 7,
-    /// Starting, feeding, closing: the buffer is shorter than the image.
-    ImageTooShort = 8,
-    /// Feeding, closing: the clip is closed.
-    AlreadyClosed = 9,
-    /// Feeding: more samples than the clip still lacks.
-    PieceTooLong = 10,
-    /// Closing: the clip still lacks samples.
-    Unfinished = 11,
-    /// Playing bytes: 0 nibbles, or more than two for each byte.
-    LengthOutOfRange = 12,
-    /// Playing, comparing: a pair of coefficients is -32,768 twice.
-    LowestPair = 13,
-    /// Playing, joining: the output is too short.
-    OutputTooShort = 14,
-    /// An image: its first 56 bytes are not a clip's, or bytes are missing.
-    BadHead = 15,
-    /// An image: an entry of its table does not fit the head or the block's body.
-    BadEntry = 16,
-    /// An image: the block's number is not below the count of blocks.
-    NoSuchBlock = 17,
-    /// Joining: the two blocks have different coefficients.
-    CoefficientsDiffer = 18,
+    /// 1: a state whose numbers no run of calls gives. Not every altered state is found.
+    InvalidState,
+    /// 2, measuring: more than [`MAX_SAMPLES`](crate::MAX_SAMPLES) samples in all.
+    TooManySamples,
+    /// 3, measuring, coefficients: fewer numbers in the store than [`store_size`](crate::store_size) says.
+    StoreTooShort,
+    /// 4, starting: 0 samples, or more than [`MAX_SAMPLES`](crate::MAX_SAMPLES).
+    BadSampleCount,
+    /// 5, starting: rate 0.
+    RateZero,
+    /// 6, starting: block size below 8 or above 65,536.
+    BadBlockSize,
+    /// 7, starting, one frame: a c0 outside ±4,096 or a c1 outside ±2,048.
+    CoefficientOutside,
+    /// 8, starting, feeding, closing: the buffer is shorter than the image.
+    ImageTooShort,
+    /// 9, feeding, closing: the clip is closed.
+    AlreadyClosed,
+    /// 10, feeding: more samples than the clip still lacks.
+    PieceTooLong,
+    /// 11, closing: the clip still lacks samples.
+    Unfinished,
+    /// 12, playing bytes: 0 nibbles, or more than two for each byte.
+    LengthOutOfRange,
+    /// 13, playing, comparing: a pair of coefficients is -32,768 twice.
+    LowestPair,
+    /// 14, playing, joining: the output is too short.
+    OutputTooShort,
+    /// 15, an image: its first 56 bytes are not a clip's, or bytes are missing.
+    BadHead,
+    /// 17, an image: the block's number is not below the count of blocks.
+    NoSuchBlock,
+    /// 18, joining: the two blocks have different coefficients.
+    CoefficientsDiffer,
+    /// 20, an image: an entry's offset is not where its block's body begins.
+    BadOffset {
+        /// The block whose entry is bad.
+        block: u32,
+    },
+    /// 21, an image: an entry's length is not its block's, or its two zero bytes are not zero.
+    BadLength {
+        /// The block whose entry is bad.
+        block: u32,
+    },
+    /// 22, an image: an entry's predictor-and-scale is not the first byte of its block's body.
+    BadHeader {
+        /// The block whose entry is bad, or whose body is.
+        block: u32,
+    },
 }
 
 impl Refusal {
-    /// Every refusal, by rising number.
-    pub const ALL: [Refusal; 18] = [
-        Refusal::InvalidState,
-        Refusal::TooManySamples,
-        Refusal::StoreTooShort,
-        Refusal::BadSampleCount,
-        Refusal::RateZero,
-        Refusal::BadBlockSize,
-        Refusal::CoefficientOutside,
-        Refusal::ImageTooShort,
-        Refusal::AlreadyClosed,
-        Refusal::PieceTooLong,
-        Refusal::Unfinished,
-        Refusal::LengthOutOfRange,
-        Refusal::LowestPair,
-        Refusal::OutputTooShort,
-        Refusal::BadHead,
-        Refusal::BadEntry,
-        Refusal::NoSuchBlock,
-        Refusal::CoefficientsDiffer,
-    ];
+    /// The number of every refusal, rising.
+    pub const NUMBERS: &'static [u32] =
+        &[1, 2, 3, 4, 5, 6, 7, 8, 9, 10, 11, 12, 13, 14, 15, 17, 18, 20, 21, 22];
 
     /// Its number, the same as in C.
     ///
@@ -75,12 +100,73 @@ impl Refusal {
     /// assert_eq!(doilycairn::Refusal::BadHead.number(), 15);
     /// ```
     pub const fn number(self) -> u32 {
-        self as u32
+        match self {
+            Refusal::InvalidState => 1,
+            Refusal::TooManySamples => 2,
+            Refusal::StoreTooShort => 3,
+            Refusal::BadSampleCount => 4,
+            Refusal::RateZero => 5,
+            Refusal::BadBlockSize => 6,
+            Refusal::CoefficientOutside => 7,
+            Refusal::ImageTooShort => 8,
+            Refusal::AlreadyClosed => 9,
+            Refusal::PieceTooLong => 10,
+            Refusal::Unfinished => 11,
+            Refusal::LengthOutOfRange => 12,
+            Refusal::LowestPair => 13,
+            Refusal::OutputTooShort => 14,
+            Refusal::BadHead => 15,
+            Refusal::NoSuchBlock => 17,
+            Refusal::CoefficientsDiffer => 18,
+            Refusal::BadOffset { .. } => 20,
+            Refusal::BadLength { .. } => 21,
+            Refusal::BadHeader { .. } => 22,
+        }
     }
 
-    /// The refusal of a number.
-    pub fn from_number(number: u32) -> Option<Refusal> {
-        Refusal::ALL.into_iter().find(|refusal| refusal.number() == number)
+    /// The block whose entry is bad, where the refusal speaks of one.
+    pub const fn block(self) -> Option<u32> {
+        match self {
+            Refusal::BadOffset { block }
+            | Refusal::BadLength { block }
+            | Refusal::BadHeader { block } => Some(block),
+            _ => None,
+        }
+    }
+
+    /// The refusal of a number. The block counts with 20, 21 and 22 alone.
+    ///
+    /// ```
+    /// use doilycairn::Refusal;
+    ///
+    /// assert_eq!(Refusal::from_number(20, 3), Some(Refusal::BadOffset { block: 3 }));
+    /// assert_eq!(Refusal::from_number(15, 3), Some(Refusal::BadHead));
+    /// assert_eq!(Refusal::from_number(16, 3), None);
+    /// ```
+    pub const fn from_number(number: u32, block: u32) -> Option<Refusal> {
+        Some(match number {
+            1 => Refusal::InvalidState,
+            2 => Refusal::TooManySamples,
+            3 => Refusal::StoreTooShort,
+            4 => Refusal::BadSampleCount,
+            5 => Refusal::RateZero,
+            6 => Refusal::BadBlockSize,
+            7 => Refusal::CoefficientOutside,
+            8 => Refusal::ImageTooShort,
+            9 => Refusal::AlreadyClosed,
+            10 => Refusal::PieceTooLong,
+            11 => Refusal::Unfinished,
+            12 => Refusal::LengthOutOfRange,
+            13 => Refusal::LowestPair,
+            14 => Refusal::OutputTooShort,
+            15 => Refusal::BadHead,
+            17 => Refusal::NoSuchBlock,
+            18 => Refusal::CoefficientsDiffer,
+            20 => Refusal::BadOffset { block },
+            21 => Refusal::BadLength { block },
+            22 => Refusal::BadHeader { block },
+            _ => return None,
+        })
     }
 
     /// What went wrong, in words.
@@ -101,17 +187,21 @@ impl Refusal {
             Refusal::LowestPair => "a pair of coefficients is -32,768 twice",
             Refusal::OutputTooShort => "the output is too short",
             Refusal::BadHead => "not an image: its head is not a clip's, or bytes are missing",
-            Refusal::BadEntry => "the image's table of blocks is damaged",
             Refusal::NoSuchBlock => "the image has no block of that number",
             Refusal::CoefficientsDiffer => "the two blocks have different coefficients",
+            Refusal::BadOffset { .. } => "the entry's offset is not where the block's body begins",
+            Refusal::BadLength { .. } => "the entry's length or its zero bytes are wrong",
+            Refusal::BadHeader { .. } => {
+                "the entry's predictor-and-scale is not the body's first byte"
+            }
         }
     }
 
-    /// What a call's code says.
-    pub(crate) fn check(code: u32) -> Result<(), Refusal> {
+    /// What a call's code says, with its answer's `entry`, which is 0 where the answer has none.
+    pub(crate) fn check(code: u32, entry: u32) -> Result<(), Refusal> {
         match code {
             0 => Ok(()),
-            _ => Err(Refusal::from_number(code)
+            _ => Err(Refusal::from_number(code, entry)
                 .unwrap_or_else(|| panic!("libdoilycairn.a gave code {code}, unknown to this crate: they do not belong together"))),
         }
     }
@@ -119,6 +209,9 @@ impl Refusal {
 
 impl fmt::Display for Refusal {
     fn fmt(&self, f: &mut fmt::Formatter) -> fmt::Result {
+        if let Some(block) = self.block() {
+            write!(f, "block {block}: ")?;
+        }
         write!(f, "{} (refusal {})", self.message(), self.number())
     }
 }
@@ -126,30 +219,4 @@ impl fmt::Display for Refusal {
 impl Error for Refusal {}
 
 #[cfg(test)]
-mod tests {
-    use super::*;
-
-    #[test]
-    fn numbers_are_1_to_18_in_order() {
-        for (i, refusal) in Refusal::ALL.into_iter().enumerate() {
-            assert_eq!(refusal.number() as usize, i + 1);
-            assert_eq!(Refusal::from_number(refusal.number()), Some(refusal));
-            assert_eq!(Refusal::check(refusal.number()), Err(refusal));
-        }
-        assert_eq!(Refusal::from_number(0), None);
-        assert_eq!(Refusal::from_number(19), None);
-        assert_eq!(Refusal::check(0), Ok(()));
-    }
-
-    #[test]
-    #[should_panic(expected = "gave code 19")]
-    fn an_unknown_code_is_no_refusal() {
-        let _ = Refusal::check(19);
-    }
-
-    #[test]
-    fn messages_name_the_number() {
-        let text = Refusal::RateZero.to_string();
-        assert_eq!(text, "the sample rate is 0 (refusal 5)");
-    }
-}
+mod tests;

@@ -7,7 +7,7 @@ use crate::failure::{Failure, Status};
 use crate::files::{self, Job};
 use crate::findings::{Finding, findings};
 use crate::input::{ImageFile, NO_DSP, is_dsp};
-use crate::json::{Json, path_fields};
+use crate::json::{Json, path_fields, refusal_fields};
 use crate::options::{JOBS, flag};
 use crate::paint::{Colour, Paint, Stream};
 use crate::seams::{self, Seam};
@@ -23,9 +23,9 @@ pub const COMMAND: Command = Command {
     operands: &["IN.dspc"],
     many: Many::Inputs,
     summary: "whether an image is sound, and else what is wrong",
-    about: "Opens and plays the image, or says by number and in words what is wrong, and which bytes look so. Of an image that \
-        plays it also says at which edges of blocks a click may be heard: where a block's stored history is not what the block before \
-        it leaves.",
+    about: "Opens and plays the image, or says by number and in words what is wrong, in which block, and which bytes look so. Of an \
+        image that plays it also says at which edges of blocks a click may be heard: where a block's stored history is not what the \
+        block before it leaves.",
     options: &[flag("--strict", "exit status 1 where a click may be heard, too"), JOBS],
     notes: "Exit status 0: it opens and plays. 1: it does not, or with --strict it has a click.",
     run,
@@ -58,9 +58,9 @@ fn sound(
     let size = doilycairn::image_size(head.total, head.block).unwrap_or(file.bytes.len());
     let after = file.after(size);
     let mut fields = path_fields("input", "input_hex", job.input);
+    fields.push(("sound", Json::Bool(true)));
+    fields.extend(refusal_fields(None));
     fields.extend([
-        ("sound", Json::Bool(true)),
-        ("refusal", Json::Null),
         ("bytes_after", Json::Whole(after as i64)),
         ("clicks", Json::list(seams.iter().map(Seam::json))),
     ]);
@@ -90,14 +90,14 @@ fn damaged(
     console: &Console,
 ) -> Result<Status, Failure> {
     let mut fields = path_fields("input", "input_hex", job.input);
+    fields.push(("sound", Json::Bool(false)));
+    fields.extend(refusal_fields(Some(refusal)));
     fields.extend([
-        ("sound", Json::Bool(false)),
-        ("refusal", Json::Whole(refusal.number().into())),
         ("message", Json::text(refusal.message())),
         ("findings", Json::list(found.iter().map(finding_json))),
     ]);
     console.answer(Status::No, fields, Words::Status, |out| {
-        let words = Paint::of(Stream::Out).text(Colour::Bad, &refusal.to_string());
+        let words = Paint::of(Stream::Out).text(Colour::Bad, &verdict(refusal, found));
         writeln!(out, "{}: {words}", file.name)?;
         if is_dsp(job.input) {
             writeln!(out, "  {NO_DSP}")?;
@@ -120,24 +120,37 @@ fn all_findings(bytes: &[u8], refusal: Refusal) -> Vec<Finding> {
     let pairs = bytes[16..48].chunks(4).enumerate();
     let lowest = pairs.filter(|(_, pair)| *pair == [0x80, 0, 0x80, 0]);
     let finding = |(i, _): (usize, &[u8])| Finding {
+        refusal,
         byte: 16 + 4 * i,
-        block: None,
         words: format!("pair {i} of the coefficients is -32,768 twice"),
     };
     lowest.map(finding).collect()
 }
 
 fn finding_json<'a>(finding: &Finding) -> Json<'a> {
-    Json::Object(vec![
-        ("byte", Json::Whole(finding.byte as i64)),
-        ("block", finding.block.map_or(Json::Null, |block| Json::Whole(block as i64))),
-        ("message", Json::text(&finding.words)),
-    ])
+    let mut fields = vec![("byte", Json::Whole(finding.byte as i64))];
+    fields.extend(refusal_fields(Some(finding.refusal)));
+    fields.push(("message", Json::text(&finding.words)));
+    Json::Object(fields)
 }
 
+/// The library's verdict; where an entry is bad, in the words of the first finding.
+fn verdict(refusal: Refusal, found: &[Finding]) -> String {
+    match (refusal.block(), found.first()) {
+        (Some(block), Some(first)) => {
+            format!("block {}: {} (refusal {})", count(block), first.words, refusal.number())
+        }
+        _ => refusal.to_string(),
+    }
+}
+
+/// What was found; only the byte, where the verdict has the words.
 fn tell(found: &[Finding], out: &mut dyn Write) -> io::Result<()> {
-    for finding in found.iter().take(TOLD) {
-        writeln!(out, "  {finding}")?;
+    for (i, finding) in found.iter().take(TOLD).enumerate() {
+        match (i, finding.refusal.block()) {
+            (0, Some(_)) => writeln!(out, "  at byte {}", count(finding.byte as u64))?,
+            _ => writeln!(out, "  {finding}")?,
+        }
     }
     match found.len().saturating_sub(TOLD) {
         0 => Ok(()),

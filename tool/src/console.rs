@@ -1,7 +1,7 @@
 //! What a command says: words on standard output or standard error, or one JSON object.
 
 use crate::failure::{Failure, Status};
-use crate::json::{Fields, Json, path_fields};
+use crate::json::{Fields, Json, path_fields, refusal_fields};
 use crate::lines::Lines;
 use crate::paint::{Colour, Paint, Stream, knows_escapes};
 use crate::progress;
@@ -87,14 +87,12 @@ impl Console {
 
     /// Says why the command failed; in words too, where the object cannot be written.
     pub fn fail(&self, failure: &Failure) {
-        let number = failure.refusal.map(|refusal| i64::from(refusal.number()));
-        let error = Json::Object(vec![
-            ("refusal", number.map_or(Json::Null, Json::Whole)),
-            ("message", Json::text(&failure.message)),
-        ]);
+        let mut error = refusal_fields(failure.refusal);
+        error.push(("message", Json::text(&failure.message)));
         let told = self.json && {
             let input = self.input.as_deref().map(|input| path_fields("input", "input_hex", input));
-            let fields = input.into_iter().flatten().chain([("error", error)]).collect();
+            let fields =
+                input.into_iter().flatten().chain([("error", Json::Object(error))]).collect();
             let object = self.object(failure.status, fields);
             self.lines(|out| object.write_line(out)).is_ok()
         };

@@ -1,7 +1,10 @@
 //! What looks wrong in an image that does not open: a help for people, worked out beside the library, which alone decides.
 
+#[cfg(test)]
+mod tests;
+
 use crate::text::{count, counted};
-use doilycairn::{BLOCK_SIZES, MAX_SAMPLES, image_size};
+use doilycairn::{BLOCK_SIZES, MAX_SAMPLES, Refusal, image_size};
 use std::fmt;
 
 const HEAD: usize = 56;
@@ -10,26 +13,34 @@ const ENTRY: usize = 16;
 /// Something that looks wrong.
 #[derive(Debug, PartialEq, Eq)]
 pub struct Finding {
+    /// The refusal that it calls for; where it is an entry's, with the block.
+    pub refusal: Refusal,
     /// Its first byte.
     pub byte: usize,
-    /// The block, where it is an entry's.
-    pub block: Option<usize>,
     pub words: String,
+}
+
+impl Finding {
+    /// Its byte and its words, where the block is told already.
+    pub fn at_byte(&self) -> String {
+        format!("byte {}: {}", count(self.byte as u64), self.words)
+    }
 }
 
 impl fmt::Display for Finding {
     fn fmt(&self, f: &mut fmt::Formatter) -> fmt::Result {
-        match self.block {
+        match self.refusal.block() {
             Some(block) => {
-                let (byte, block) = (count(self.byte as u64), count(block as u64));
+                let (byte, block) = (count(self.byte as u64), count(block));
                 write!(f, "byte {byte}, block {block}: {}", self.words)
             }
-            None => write!(f, "byte {}: {}", count(self.byte as u64), self.words),
+            None => f.write_str(&self.at_byte()),
         }
     }
 }
 
-/// All that looks wrong: in the head, or else in the table of blocks.
+/// All that looks wrong: in the head, or else in the table of blocks. They stand in the sequence in which the library tests, so
+/// that the first calls for the refusal that it gives.
 pub fn findings(bytes: &[u8]) -> Vec<Finding> {
     let in_head = head_findings(bytes);
     if in_head.is_empty() { entry_findings(bytes) } else { in_head }
@@ -41,7 +52,7 @@ fn be32(bytes: &[u8], at: usize) -> u32 {
 
 fn head_findings(bytes: &[u8]) -> Vec<Finding> {
     let mut found: Vec<Finding> = vec![];
-    let mut add = |byte, words| found.push(Finding { byte, block: None, words });
+    let mut add = |byte, words| found.push(Finding { refusal: Refusal::BadHead, byte, words });
     if bytes.len() < HEAD {
         let has = counted(bytes.len() as u64, "byte", "bytes");
         add(bytes.len(), format!("the file ends after {has}; a head has 56"));
@@ -89,7 +100,7 @@ fn mark(mark: &[u8; 4]) -> Option<String> {
 /// The count of blocks and the length of the file, against what samples and block size ask for.
 fn sizes(len: usize, blocks: u32, total: u32, block: u32, size: usize) -> Vec<Finding> {
     let mut found = vec![];
-    let mut add = |byte, words| found.push(Finding { byte, block: None, words });
+    let mut add = |byte, words| found.push(Finding { refusal: Refusal::BadHead, byte, words });
     let clip = format!("{} samples in blocks of {} bytes", count(total), count(block));
     let wanted = (8 * total.div_ceil(14)).div_ceil(block);
     if blocks != wanted {
@@ -105,7 +116,7 @@ fn sizes(len: usize, blocks: u32, total: u32, block: u32, size: usize) -> Vec<Fi
     found
 }
 
-/// Entries that do not fit a head that is as it should be.
+/// Entries that do not fit a head that is as it should be, by rising block.
 fn entry_findings(bytes: &[u8]) -> Vec<Finding> {
     let [total, block, blocks] = [4, 12, 52].map(|at| be32(bytes, at) as usize);
     let mut found = vec![];
@@ -119,30 +130,40 @@ fn entry_findings(bytes: &[u8]) -> Vec<Finding> {
     found
 }
 
-/// What is wrong with the entry of block `k`.
+/// What is wrong with the entry of block `k`, by rising refusal.
 fn entry(bytes: &[u8], k: usize, offset: usize, nibbles: usize) -> Vec<Finding> {
-    let at = HEAD + ENTRY * k;
-    let mut found = vec![];
-    let mut add = |byte, words| found.push(Finding { byte, block: Some(k), words });
-    let fields = [("offset", at, offset), ("length in nibbles", at + 4, nibbles)];
-    for (name, byte, wanted) in fields {
-        let has = be32(bytes, byte);
-        if has as usize != wanted {
-            add(byte, format!("its {name} is {} and not {}", count(has), count(wanted as u64)));
-        }
-    }
-    let (header, first) = (&bytes[at + 8..at + 10], bytes[offset]);
-    if header != [0, first] {
-        let [high, low] = [header[0], header[1]];
-        let words = format!(
-            "its header is {high:02x} {low:02x} and its body at byte {} begins with {first:02x}",
-            count(offset as u64)
-        );
-        add(at + 8, words);
-    }
-    let zeros = &bytes[at + 14..at + 16];
-    if zeros != [0, 0] {
-        add(at + 14, format!("two bytes that are zero are {:02x} {:02x}", zeros[0], zeros[1]));
-    }
-    found
+    let (at, block) = (HEAD + ENTRY * k, k as u32);
+    let tests = [
+        (Refusal::BadOffset { block }, at, number("offset", be32(bytes, at), offset)),
+        (Refusal::BadLength { block }, at + 4, number("length", be32(bytes, at + 4), nibbles)),
+        (Refusal::BadLength { block }, at + 14, zero_bytes(&bytes[at + 14..at + 16])),
+        (Refusal::BadHeader { block }, at + 8, header(&bytes[at + 8..at + 10], offset, bytes)),
+    ];
+    let finding = |(refusal, byte, words): (_, _, Option<String>)| {
+        words.map(|words| Finding { refusal, byte, words })
+    };
+    tests.into_iter().filter_map(finding).collect()
+}
+
+/// What is wrong with an entry's number.
+fn number(name: &str, has: u32, wanted: usize) -> Option<String> {
+    let words = || format!("its {name} is {} and not {}", count(has), count(wanted as u64));
+    (has as usize != wanted).then(words)
+}
+
+/// What is wrong with an entry's zero bytes.
+fn zero_bytes(has: &[u8]) -> Option<String> {
+    (has != [0, 0]).then(|| format!("its zero bytes are {:02x} {:02x}", has[0], has[1]))
+}
+
+/// What is wrong with an entry's header, of a body at this offset.
+fn header(has: &[u8], offset: usize, bytes: &[u8]) -> Option<String> {
+    let first = bytes[offset];
+    let words = || {
+        let (high, low, place) = (has[0], has[1], count(offset as u64));
+        format!(
+            "its header is {high:02x} {low:02x} and its body at byte {place} begins with {first:02x}"
+        )
+    };
+    (has != [0, first]).then(words)
 }

@@ -116,8 +116,13 @@ pub fn wrapped(words: &str, width: usize) -> Vec<String> {
     lines
 }
 
+/// What an entry is, of which refusals speak.
+const ENTRIES: &str =
+    "An entry is a block's, in the image's table of blocks; the message names the block.";
+
 /// The library's refusals, by number.
 pub fn refusals() -> String {
+    let refusals = Refusal::NUMBERS.iter().filter_map(|number| Refusal::from_number(*number, 0));
     let line = |refusal: Refusal| format!("{:>4}  {}\n", refusal.number(), refusal.message());
-    Refusal::ALL.into_iter().map(line).collect()
+    format!("{}\n{ENTRIES}\n", refusals.map(line).collect::<String>())
 }

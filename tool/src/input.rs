@@ -77,7 +77,7 @@ impl ImageFile {
         Image::open(&self.bytes).map_err(|refusal| {
             let first = findings(&self.bytes).into_iter().next();
             let failure = Failure::refused(&self.name, refusal)
-                .with(first.map(|finding| format!("; {finding}")).unwrap_or_default());
+                .with(first.map(|first| format!("; {}", first.at_byte())).unwrap_or_default());
             if self.is_dsp { failure.with(format!("; {NO_DSP}")) } else { failure }
         })
     }

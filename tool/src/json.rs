@@ -1,5 +1,6 @@
 //! JSON, written a value at a time.
 
+use doilycairn::Refusal;
 use std::ffi::OsStr;
 use std::io::{self, Write};
 use std::os::unix::ffi::OsStrExt;
@@ -96,6 +97,15 @@ pub fn path_fields<'a>(name: &'static str, hex: &'static str, path: &OsStr) -> F
     fields
 }
 
+/// A refusal as two fields: its number, and the block whose entry is bad; null where there is none.
+pub fn refusal_fields<'a>(refusal: Option<Refusal>) -> Fields<'a> {
+    let whole = |number: Option<u32>| number.map_or(Json::Null, |n| Json::Whole(n.into()));
+    vec![
+        ("refusal", whole(refusal.map(Refusal::number))),
+        ("block", whole(refusal.and_then(Refusal::block))),
+    ]
+}
+
 #[cfg(test)]
 mod tests {
     use super::*;
@@ -126,5 +136,14 @@ mod tests {
         let fields = path_fields("p", "p_hex", OsStr::from_bytes(b"a\xff"));
         assert_eq!(written(Json::Object(fields)), "{\"p\":\"a\u{fffd}\",\"p_hex\":\"61ff\"}");
         assert_eq!(path_fields("p", "p_hex", OsStr::new("a")).len(), 1);
+    }
+
+    #[test]
+    fn a_refusal_has_its_number_and_block() {
+        let fields = |refusal| written(Json::Object(refusal_fields(refusal)));
+        assert_eq!(fields(None), r#"{"refusal":null,"block":null}"#);
+        assert_eq!(fields(Some(Refusal::BadHead)), r#"{"refusal":15,"block":null}"#);
+        let bad = Refusal::BadLength { block: 0 };
+        assert_eq!(fields(Some(bad)), r#"{"refusal":21,"block":0}"#);
     }
 }

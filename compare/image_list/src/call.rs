@@ -1,8 +1,7 @@
-//! Calls on images, and their answers as document 01 reads images and the Rust plays blocks.
+//! Calls on images, and their answers as documents 01 and 02 read images and the Rust plays blocks.
 
-use crate::reader::{open, same};
+use crate::reader::{Played, Refused, open, same};
 use clip_list::{bytes, hexadecimal};
-use oracle::FrameContext;
 
 /// A call; all but the last two are made on the first image.
 #[derive(Debug, Clone, Copy, PartialEq)]
@@ -63,46 +62,45 @@ impl Call {
     }
 }
 
+/// The first two words: 00 or the refusal's number, and the block whose entry is bad.
+fn begun<T>(answer: &Result<T, Refused>) -> String {
+    let Refused { code, block } = answer.as_ref().err().copied().unwrap_or(Refused::by(0));
+    format!("{code:02x} {block:08x}")
+}
+
 fn opened(image: &[u8]) -> String {
-    let (code, [total, rate, block], coefficients, gain, blocks) = match open(image) {
+    let opened = open(image);
+    let begun = begun(&opened);
+    let ([total, rate, block], coefficients, gain, blocks) = match opened {
         Ok(head) => {
             let numbers = [head.total, head.rate, head.block];
-            (0, numbers, head.coefficients, head.gain, head.entries.len())
+            (numbers, head.coefficients, head.gain, head.entries.len())
         }
-        Err(code) => (code, [0; 3], [0; 16], 0, 0),
+        Err(_) => ([0; 3], [0; 16], 0, 0),
     };
     let coefficients = hexadecimal(&bytes(&coefficients));
-    format!("{code:02x} {total:08x} {rate:08x} {block:08x} {coefficients} {gain:04x} {blocks:08x}")
+    format!("{begun} {total:08x} {rate:08x} {block:08x} {coefficients} {gain:04x} {blocks:08x}")
 }
 
 fn body(image: &[u8], k: usize) -> String {
     let body = open(image).and_then(|opened| {
-        let entry = opened.entries.get(k).ok_or(17)?;
+        let entry = opened.entry(k)?;
         Ok(hexadecimal(opened.body(entry)))
     });
-    match body {
-        Ok(digits) => format!("00 {digits}"),
-        Err(code) => format!("{code:02x} "),
-    }
+    format!("{} {}", begun(&body), body.unwrap_or_default())
 }
 
-fn played(room: usize, played: Result<(Vec<i16>, FrameContext), u8>) -> String {
+fn played(room: usize, played: Played) -> String {
+    let begun = begun(&played);
+    let (samples, context) = played.unwrap_or_default();
     let mut output = vec![0x5a5a; room];
-    let (code, count, context) = match played {
-        Ok((samples, after)) => {
-            output[..samples.len()].copy_from_slice(&samples);
-            (0, samples.len(), after)
-        }
-        Err(code) => (code, 0, FrameContext::default()),
-    };
-    let header = context.predictor_and_scale;
+    output[..samples.len()].copy_from_slice(&samples);
+    let (count, header) = (samples.len(), context.predictor_and_scale);
     let [history, output] = [&context.last_samples[..], &output].map(|xs| hexadecimal(&bytes(xs)));
-    format!("{code:02x} {count:08x} {header:04x} {history} {output}")
+    format!("{begun} {count:08x} {header:04x} {history} {output}")
 }
 
 fn compared(first: &[u8], second: &[u8]) -> String {
-    match same(first, second) {
-        Ok(is_same) => format!("00 {:08x}", u8::from(is_same)),
-        Err(code) => format!("{code:02x} {:08x}", 0),
-    }
+    let same = same(first, second);
+    format!("{} {:08x}", begun(&same), u8::from(same.unwrap_or_default()))
 }

@@ -2,6 +2,7 @@
 
 use crate::call::Call;
 use crate::case::Case;
+use crate::contents::contents;
 use crate::damage::block_count;
 use crate::made::{Clip, any_image, clip_image};
 use crate::reader::long;
@@ -22,6 +23,7 @@ pub fn cases() -> Vec<Case> {
     cases.extend(rooms(&mut random));
     cases.extend(refusals(&mut random));
     cases.extend(sameness(&mut random));
+    cases.extend(contents(&mut random));
     cases
 }
 

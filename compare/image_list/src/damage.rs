@@ -1,11 +1,16 @@
 //! Damaged images.
 
+use crate::fault::{FAULTS, change};
 use crate::reader::long;
 use oracle::random::Random;
 
 /// The bytes of the head and of an entry.
 pub const HEAD: usize = 56;
 pub const ENTRY: usize = 16;
+
+/// The mark's last byte, and the first pair of coefficients.
+pub const MARK_END: usize = 3;
+pub const PAIRS: usize = 16;
 
 /// A pair of -32,768 twice.
 pub const LOWEST: [u8; 4] = [0x80, 0, 0x80, 0];
@@ -18,6 +23,11 @@ pub fn block_count(image: &[u8]) -> usize {
 /// The bytes of head and table.
 pub fn table(image: &[u8]) -> usize {
     HEAD + ENTRY * block_count(image)
+}
+
+/// Where the body of a block begins, as K and B say.
+pub fn body(image: &[u8], k: usize) -> usize {
+    table(image) + long(image, 12) as usize * k
 }
 
 /// The image with one nibble changed that is not a header's, or a byte after the image.
@@ -35,7 +45,7 @@ pub fn with_nibble(random: &mut Random, image: &[u8]) -> Vec<u8> {
 pub fn damaged(random: &mut Random, image: &[u8]) -> Vec<u8> {
     let mut damaged = image.to_vec();
     let table = table(image);
-    match random.below(8) {
+    match random.below(10) {
         0 => put(&mut damaged, random.below(table), random.bits() as u8),
         1 => damaged[random.below(table)] ^= 1 << random.below(8),
         2 => put(&mut damaged, random.below(image.len()), random.bits() as u8),
@@ -43,6 +53,8 @@ pub fn damaged(random: &mut Random, image: &[u8]) -> Vec<u8> {
         4 => field(random, &mut damaged),
         5 => lowest_pair(random, &mut damaged),
         6 => entry(random, &mut damaged),
+        7 => faults(random, &mut damaged, 1),
+        8 => faults(random, &mut damaged, 2),
         _ => (0..3).for_each(|_| field(random, &mut damaged)),
     }
     damaged
@@ -64,8 +76,19 @@ fn field(random: &mut Random, image: &mut [u8]) {
 
 /// Makes a pair the lowest.
 fn lowest_pair(random: &mut Random, image: &mut [u8]) {
-    let place = 16 + 4 * random.below(8);
+    let place = PAIRS + 4 * random.below(8);
     image[place..place + 4].copy_from_slice(&LOWEST);
+}
+
+/// Puts faults into one entry or several.
+fn faults(random: &mut Random, image: &mut [u8], count: usize) {
+    let blocks = block_count(image);
+    for _ in 0..count {
+        let fault = FAULTS[random.below(FAULTS.len())];
+        let k = [0, blocks - 1, random.below(blocks)][random.below(3)];
+        let place = fault.place(random, image, k);
+        image[place] ^= change(random);
+    }
 }
 
 /// Changes a part of an entry, its body's first byte sometimes with it.

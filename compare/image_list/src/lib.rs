@@ -1,4 +1,4 @@
-//! Lists of calls on images, and the answers that the Rust's blocks and document 01 give.
+//! Lists of calls on images, and the answers that the Rust's blocks and documents 01 and 02 give.
 //!
 //! There are two images. A line of a list has 56 bytes: a letter, a record of 27 bytes in hexadecimal digits, and the line's end.
 //! `b`, `f` and `g` put bytes into both images, the first or the second: 0 their place (two bytes), 2 how many, 3 the bytes. The
@@ -6,15 +6,18 @@
 //! output's length (two bytes). `o` opens the first image, `k` finds the body of a block of it, `p` plays that block, `a` plays all
 //! blocks, `s` compares the first image with the second, `r` the second with the first.
 //!
-//! A line answers each call: 00 or the refusal's number; then N, rate, B, coefficients, gain and K, zeros where opening is refused;
-//! the body, if there is one; the count, the context and the whole output, which holds 5A in each byte at first; or 1 where the images
-//! are the same and else 0. Images are made of the Rust's blocks, and what is played is the Rust's answer; how an image is read, and
-//! the numbers of the refusals, are document 01's.
+//! A line answers each call: 00 or the refusal's number; with 20, 21 and 22 the block whose entry is bad, else 0; then N, rate, B,
+//! coefficients, gain and K, zeros where opening is refused; the body, if there is one; the count, the context and the whole output,
+//! which holds 5A in each byte at first; or 1 where the images are the same and else 0. Images are made of the Rust's blocks, and what
+//! is played is the Rust's answer; how an image is read, and the numbers of the refusals, are document 01's with change 4/13 of
+//! document 02.
 
 mod call;
 mod case;
 mod cases;
+mod contents;
 mod damage;
+mod fault;
 mod made;
 mod random;
 pub mod reader;
@@ -25,5 +28,9 @@ mod writer;
 pub use call::Call;
 pub use case::{Case, Machine, Step, To};
 pub use cases::cases;
-pub use damage::{block_count, damaged, table, with_nibble};
+pub use damage::{
+    ENTRY, HEAD, LOWEST, MARK_END, PAIRS, block_count, body, damaged, table, with_nibble,
+};
+pub use fault::{FAULTS, Fault, change};
+pub use made::{any_image, clip_image};
 pub use random::random_images;

@@ -1,6 +1,7 @@
 //! Images: of clips, and of any bytes.
 
 use crate::damage::{ENTRY, HEAD, block_count, table};
+use crate::fault::change;
 use crate::reader::long;
 use clip_list::{Start, bytes, image_of, random_start};
 use oracle::random::Random;
@@ -65,5 +66,12 @@ pub fn any_image(random: &mut Random, total: usize, size: u32) -> Vec<u8> {
 pub fn with(image: &[u8], place: usize, bytes: &[u8]) -> Vec<u8> {
     let mut image = image.to_vec();
     image[place..place + bytes.len()].copy_from_slice(bytes);
+    image
+}
+
+/// The image with other bytes at places.
+pub fn with_others(random: &mut Random, image: &[u8], places: &[usize]) -> Vec<u8> {
+    let mut image = image.to_vec();
+    places.iter().for_each(|place| image[*place] ^= change(random));
     image
 }

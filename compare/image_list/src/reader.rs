@@ -1,4 +1,4 @@
-//! Document 01's image, read plainly; its blocks are played by the Rust.
+//! Document 01's image, read plainly, its table as change 4/13 of document 02 tests it; its blocks are played by the Rust.
 
 use block_list::has_lowest_pair;
 use clip_list::{block_count, image_size};
@@ -13,6 +13,21 @@ pub struct Opened<'i> {
     pub coefficients: Coefficients,
     pub entries: Vec<Entry>,
     bytes: &'i [u8],
+}
+
+/// Why a call on an image is refused.
+#[derive(Debug, Clone, Copy, PartialEq)]
+pub struct Refused {
+    pub code: u8,
+    /// With 20, 21 and 22 the block whose entry is bad, else 0.
+    pub block: u32,
+}
+
+impl Refused {
+    /// A refusal that names no block.
+    pub fn by(code: u8) -> Self {
+        Self { code, block: 0 }
+    }
 }
 
 /// What an entry says.
@@ -47,85 +62,99 @@ fn sizes(total: u32, block: u32) -> Sizes {
     Sizes { frames, last, blocks: blocks as usize, whole: whole as usize }
 }
 
-/// Opens an image, or gives code 15 or 16.
-pub fn open(bytes: &[u8]) -> Result<Opened<'_>, u8> {
+/// Opens an image, or gives code 15, or 20, 21 or 22 with the first block whose entry is bad: "entries in rising order".
+pub fn open(bytes: &[u8]) -> Result<Opened<'_>, Refused> {
     if bytes.len() < 56 || bytes[..4] != [0x44, 0x53, 0x50, 0x43] {
-        return Err(15);
+        return Err(Refused::by(15));
     }
     let (total, rate, block) = (long(bytes, 4), long(bytes, 8), long(bytes, 12));
     let is_block = (8..=65_536).contains(&block) && block % 8 == 0;
     if total == 0 || total > 14_680_064 || rate == 0 || !is_block || word(bytes, 50) != 0 {
-        return Err(15);
+        return Err(Refused::by(15));
     }
     let sizes = sizes(total, block);
     if long(bytes, 52) as usize != sizes.blocks || bytes.len() < sizes.whole {
-        return Err(15);
+        return Err(Refused::by(15));
     }
     let coefficients = std::array::from_fn(|place| word(bytes, 16 + 2 * place) as i16);
-    let entries = (0..sizes.blocks).map(|k| entry(bytes, &sizes, block as usize, k));
-    let entries = entries.collect::<Option<_>>().ok_or(16)?;
+    let mut entries = vec![];
+    for k in 0..sizes.blocks {
+        entries.push(entry(bytes, &sizes, block as usize, k)?);
+    }
     Ok(Opened { total, rate, block, gain: word(bytes, 48), coefficients, entries, bytes })
 }
 
-/// The entry of a block, where it is as it should be.
-fn entry(bytes: &[u8], sizes: &Sizes, block: usize, k: usize) -> Option<Entry> {
+/// The entry of a block: "20 for an offset, 21 for a length or zero bytes, 22 for a predictor-and-scale", "in that sequence".
+fn entry(bytes: &[u8], sizes: &Sizes, block: usize, k: usize) -> Result<Entry, Refused> {
+    let bad = |code| Err(Refused { code, block: k as u32 });
     let place = 56 + 16 * k;
     let offset = 56 + 16 * sizes.blocks + block * k;
+    if long(bytes, place) as usize != offset {
+        return bad(20);
+    }
     let frames = (block / 8).min(sizes.frames - block / 8 * k);
     let is_last = k + 1 == sizes.blocks;
     let nibbles = if is_last { 16 * (frames - 1) + sizes.last + 2 } else { 16 * frames };
-    let context = FrameContext {
-        predictor_and_scale: word(bytes, place + 8),
-        last_samples: [word(bytes, place + 10) as i16, word(bytes, place + 12) as i16],
-    };
-    let is_good = long(bytes, place) as usize == offset
-        && long(bytes, place + 4) as usize == nibbles
-        && word(bytes, place + 14) == 0
-        && context.predictor_and_scale == u16::from(bytes[offset]);
-    is_good.then_some(Entry { offset, nibbles, context })
+    if long(bytes, place + 4) as usize != nibbles || word(bytes, place + 14) != 0 {
+        return bad(21);
+    }
+    let predictor_and_scale = word(bytes, place + 8);
+    if predictor_and_scale != u16::from(bytes[offset]) {
+        return bad(22);
+    }
+    let last_samples = [word(bytes, place + 10) as i16, word(bytes, place + 12) as i16];
+    Ok(Entry { offset, nibbles, context: FrameContext { predictor_and_scale, last_samples } })
 }
 
+/// The samples that are played, and the context after them.
+pub type Played = Result<(Vec<i16>, FrameContext), Refused>;
+
 impl Opened<'_> {
+    /// The entry of a block that there is.
+    pub fn entry(&self, k: usize) -> Result<&Entry, Refused> {
+        self.entries.get(k).ok_or(Refused::by(17))
+    }
+
     /// The body of a block.
     pub fn body(&self, entry: &Entry) -> &[u8] {
         &self.bytes[entry.offset..][..entry.nibbles.div_ceil(2)]
     }
 
-    /// Plays a block: its samples, and the context after it.
-    pub fn play(&self, k: usize, room: usize) -> Result<(Vec<i16>, FrameContext), u8> {
-        let entry = self.entries.get(k).ok_or(17)?;
+    /// Plays a block.
+    pub fn play(&self, k: usize, room: usize) -> Played {
+        let entry = self.entry(k)?;
         self.test_pairs()?;
         if room < address_to_sample(entry.nibbles) {
-            return Err(14);
+            return Err(Refused::by(14));
         }
         Ok(decode(self.body(entry), entry.nibbles, &self.coefficients, entry.context))
     }
 
     /// Plays all blocks: their samples, joined, and the context after the last.
-    pub fn play_all(&self, room: usize) -> Result<(Vec<i16>, FrameContext), u8> {
+    pub fn play_all(&self, room: usize) -> Played {
         self.test_pairs()?;
         if room < self.total as usize {
-            return Err(14);
+            return Err(Refused::by(14));
         }
         let played = (0..self.entries.len()).map(|k| self.play(k, usize::MAX));
         let (samples, contexts): (Vec<_>, Vec<_>) =
-            played.collect::<Result<Vec<_>, u8>>()?.into_iter().unzip();
+            played.collect::<Result<Vec<_>, Refused>>()?.into_iter().unzip();
         Ok((samples.concat(), *contexts.last().unwrap()))
     }
 
     /// The samples of all blocks.
-    fn samples(&self) -> Result<Vec<i16>, u8> {
+    fn samples(&self) -> Result<Vec<i16>, Refused> {
         Ok(self.play_all(usize::MAX)?.0)
     }
 
     /// Code 13.
-    fn test_pairs(&self) -> Result<(), u8> {
-        if has_lowest_pair(&self.coefficients) { Err(13) } else { Ok(()) }
+    fn test_pairs(&self) -> Result<(), Refused> {
+        if has_lowest_pair(&self.coefficients) { Err(Refused::by(13)) } else { Ok(()) }
     }
 }
 
 /// Whether two images have equally many samples and play the same ones.
-pub fn same(first: &[u8], second: &[u8]) -> Result<bool, u8> {
+pub fn same(first: &[u8], second: &[u8]) -> Result<bool, Refused> {
     let first = open(first)?;
     first.test_pairs()?;
     let second = open(second)?;

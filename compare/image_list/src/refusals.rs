@@ -2,16 +2,14 @@
 
 use crate::call::Call;
 use crate::case::Case;
-use crate::damage::{ENTRY, HEAD, LOWEST, block_count, table};
+use crate::damage::{ENTRY, HEAD, LOWEST, MARK_END, PAIRS, block_count, table};
 use crate::made::{clip_image, with};
 use crate::reader::long;
 use crate::writer::Writer;
 use oracle::random::Random;
 
-/// The mark's last byte, the entry's last zero byte, the first coefficient pair: with other bytes there, 15, 16 or 13 refuses.
-const MARK_END: usize = 3;
+/// The first entry's last zero byte: with another one there, 21 refuses.
 const ZERO_END: usize = HEAD + 15;
-const PAIRS: usize = 16;
 
 /// Images that are refused, and others with the same bytes altered.
 pub fn refusals(random: &mut Random) -> Vec<Case> {

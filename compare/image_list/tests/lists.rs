@@ -1,5 +1,6 @@
 //! The lines are as said, and the lists have every call and answer.
 
+use image_list::reader::{Refused, same};
 use image_list::{Call, Case, Machine, Step, To, cases, random_images, table};
 use oracle::list::Listed;
 use oracle::random::Random;
@@ -58,7 +59,7 @@ fn the_list_is_large_enough() {
     let answers: String = cases.iter().map(Case::answers).collect();
     let calls = answers.lines().count();
     println!("{} cases, {calls} calls, {} and {} bytes", cases.len(), inputs.len(), answers.len());
-    assert!(calls >= 2000 && inputs.len() + answers.len() <= 500_000);
+    assert!(calls >= 2000 && inputs.len() + answers.len() <= 600_000);
 }
 
 #[test]
@@ -95,12 +96,14 @@ fn each_call_has_an_answer() {
         for (call, _, answer) in calls {
             let words: Vec<_> = answer.split(' ').map(str::len).collect();
             match call {
-                Call::Open => assert_eq!(words, [2, 8, 8, 8, 64, 4, 8], "{answer}"),
-                Call::Body { .. } => assert_eq!((words[0], words.len()), (2, 2), "{answer}"),
-                Call::Play { room, .. } | Call::PlayAll { room } => {
-                    assert_eq!(words, [2, 8, 4, 8, 4 * room], "{answer}");
+                Call::Open => assert_eq!(words, [2, 8, 8, 8, 8, 64, 4, 8], "{answer}"),
+                Call::Body { .. } => {
+                    assert_eq!((words[0], words[1], words.len()), (2, 8, 3), "{answer}");
                 }
-                Call::Same | Call::Reversed => assert_eq!(words, [2, 8], "{answer}"),
+                Call::Play { room, .. } | Call::PlayAll { room } => {
+                    assert_eq!(words, [2, 8, 8, 4, 8, 4 * room], "{answer}");
+                }
+                Call::Same | Call::Reversed => assert_eq!(words, [2, 8, 8], "{answer}"),
             }
         }
     }
@@ -109,22 +112,80 @@ fn each_call_has_an_answer() {
 /// The calls' letters and answers, for comparing with whether the images are the same.
 fn kinds(cases: &[Case]) -> Vec<String> {
     let kind = |(call, _, answer): (Call, _, String)| match (call, &answer[..2]) {
-        (Call::Same | Call::Reversed, "00") => format!("{}{}", call.letter(), &answer[10..]),
+        (Call::Same | Call::Reversed, "00") => format!("{}{}", call.letter(), &answer[19..]),
         (_, code) => format!("{}{code}", call.letter()),
     };
     cases.iter().flat_map(answered).map(kind).collect()
 }
 
+/// All kinds that there are.
+const KINDS: &str = "o00 o0f o14 o15 o16 k00 k0f k11 k14 k15 k16 p00 p0d p0e p0f p11 p14 p15 p16 \
+    a00 a0d a0e a0f a14 a15 a16 s0 s1 s0d s0f s14 s15 s16 r0 r1 r0d r0f r14 r15 r16";
+
 #[test]
 fn every_call_has_every_answer() {
-    let kinds_of_both = [(kinds(&cases()), 5), (kinds(&random_cases(2000)), 20)];
-    let all = "o00 o0f o10 k00 k0f k10 k11 p00 p0d p0e p0f p10 p11 a00 a0d a0e a0f a10 s0 s1 s0d s0f s10 r0 r1 r0d r0f r10";
-    for (kinds, least) in kinds_of_both {
-        for kind in all.split(' ') {
+    for (kinds, least) in [(kinds(&cases()), 5), (kinds(&random_cases(2000)), 20)] {
+        for kind in KINDS.split(' ') {
             let count = kinds.iter().filter(|other| *other == kind).count();
             assert!(count >= least, "{kind}: {count}");
         }
-        assert!(kinds.iter().all(|kind| all.split(' ').any(|known| known == kind)));
+        assert!(kinds.iter().all(|kind| KINDS.split(' ').any(|known| known == kind)));
+    }
+}
+
+/// The calls' letters, codes and blocks, of those that 20, 21 or 22 refuses.
+fn bad_entries(cases: &[Case]) -> Vec<(char, u8, usize)> {
+    let calls = cases.iter().flat_map(answered).map(|(call, _, answer)| {
+        (call.letter(), number(&answer, 0, 2) as u8, number(&answer, 3, 8))
+    });
+    calls.filter(|(_, code, _)| (20..=22).contains(code)).collect()
+}
+
+#[test]
+fn every_call_names_the_first_block_and_later_ones() {
+    for cases in [cases(), random_cases(2000)] {
+        let seen = bad_entries(&cases);
+        for letter in "okpasr".chars() {
+            for code in 20..=22 {
+                let blocks = seen.iter().filter(|bad| (bad.0, bad.1) == (letter, code));
+                let later = blocks.clone().filter(|bad| bad.2 > 0).count();
+                let least = later.min(blocks.count() - later);
+                assert!(least >= 2, "{letter}, {code}: {least}");
+            }
+        }
+    }
+}
+
+/// The images that are compared, in the order of comparing, each with why it is refused, if it is.
+fn compared(case: &Case) -> Vec<[Option<Refused>; 2]> {
+    let of_call = |(call, [first, second], _): (Call, [Vec<u8>; 2], String)| match call {
+        Call::Same => Some([first, second]),
+        Call::Reversed => Some([second, first]),
+        _ => None,
+    };
+    let pairs = answered(case).into_iter().filter_map(of_call);
+    pairs.map(|pair| pair.map(|image| same(&image, &image).err())).collect()
+}
+
+#[test]
+fn two_images_are_refused_in_every_order() {
+    let pairs: Vec<_> = cases().iter().flat_map(compared).collect();
+    let code = |refused: Option<Refused>| refused.map_or(0, |refused| refused.code);
+    let is_told = |[first, second]: [Option<Refused>; 2]| match (first, second) {
+        (Some(first), Some(second)) => first != second || first.code < 20,
+        _ => true,
+    };
+    for codes in [0, 13, 15, 20, 21, 22].map(|a| [0, 13, 15, 20, 21, 22].map(|b| [a, b])).concat() {
+        let mut seen = pairs.iter().filter(|pair| pair.map(code) == codes);
+        assert!(seen.any(|pair| is_told(*pair)), "{codes:?}");
+    }
+}
+
+#[test]
+fn no_other_refusal_names_a_block() {
+    for (_, _, answer) in all().iter().flat_map(answered) {
+        let code = number(&answer, 0, 2);
+        assert!((20..=22).contains(&code) || number(&answer, 3, 8) == 0, "{answer}");
     }
 }
 
@@ -153,11 +214,28 @@ fn the_worked_image() {
     right.extend(b"\0\0\0\x01\0\0\0\x48\0\0\0\x03\0\x01\0\0\0\0\0\0\x01\x40");
     assert_eq!(*image, right);
     let answers: Vec<_> = calls.iter().map(|(_, _, answer)| answer.as_str()).collect();
-    let head = format!("00 00000001 00007d00 00000008 {} 0000 00000001", "0".repeat(64));
-    let played = "00 00000001 0001 00080000 0008";
-    let refused = "11 00000000 0000 00000000 5a5a";
-    assert_eq!(
-        answers,
-        [&head, "00 0140", played, "11 ", refused, played, "00 00000001", "00 00000001"]
-    );
+    let head = format!("00 00000000 00000001 00007d00 00000008 {} 0000 00000001", "0".repeat(64));
+    let (body, none) = ("00 00000000 0140", "11 00000000 ");
+    let played = "00 00000000 00000001 0001 00080000 0008";
+    let refused = "11 00000000 00000000 0000 00000000 5a5a";
+    let same = "00 00000000 00000001";
+    assert_eq!(answers, [&head, body, played, none, refused, played, same, same]);
+}
+
+/// The answers of one row: opening, a body, a block, all blocks, both ways.
+fn row(begun: &str, room: usize) -> Vec<String> {
+    let zeros = "0".repeat(64);
+    let played = |room| format!("{begun} 00000000 0000 00000000 {}", "5a5a".repeat(room));
+    let head = format!("{begun} 00000000 00000000 00000000 {zeros} 0000 00000000");
+    let same = format!("{begun} 00000000");
+    vec![head, format!("{begun} "), played(1), played(room), same.clone(), same]
+}
+
+#[test]
+fn the_worked_table() {
+    let rows = ["14 00000000", "15 00000001", "15 00000001", "16 00000000", "16 00000001"];
+    let rows = rows.into_iter().chain(["16 00000000", "15 00000000", "0f 00000000"]);
+    let right: Vec<_> = rows.flat_map(|begun| row(begun, 15)).collect();
+    let answers = |case: &Case| case.answers().lines().map(str::to_owned).collect::<Vec<_>>();
+    assert_eq!(cases().iter().filter(|case| answers(case) == right).count(), 1);
 }

@@ -1,6 +1,8 @@
 //! Answers that can be compared, and altered to see that a comparison can fail.
 
+use crate::ffi::{Body, Comparison, Opening, Playback};
 use clip_list::State;
+use image_list::reader::Refused;
 use oracle::FrameContext;
 use std::fmt::Debug;
 
@@ -9,9 +11,9 @@ pub trait Answer: PartialEq + Debug {
     /// Makes it another one.
     fn alter(&mut self);
 
-    /// The refusal's number, 0 where the call is accepted.
-    fn code(&self) -> u8 {
-        0
+    /// Why the call is refused, if it is.
+    fn refused(&self) -> Option<Refused> {
+        None
     }
 }
 
@@ -67,8 +69,8 @@ impl<A: Answer, B: Answer> Answer for (A, B) {
         self.1.alter();
     }
 
-    fn code(&self) -> u8 {
-        self.0.code()
+    fn refused(&self) -> Option<Refused> {
+        self.0.refused()
     }
 }
 
@@ -77,20 +79,73 @@ impl<A: Answer, B: Answer, C: Answer> Answer for (A, B, C) {
         self.1.alter();
     }
 
-    fn code(&self) -> u8 {
-        self.0.code()
+    fn refused(&self) -> Option<Refused> {
+        self.0.refused()
     }
 }
 
-impl<T: Answer> Answer for Result<T, u8> {
+/// Why a call is refused: a number, or a number and a block.
+pub trait Reason: PartialEq + Debug {
+    /// Makes it another one.
+    fn alter(&mut self);
+
+    fn refused(&self) -> Refused;
+}
+
+impl Reason for u8 {
     fn alter(&mut self) {
-        match self {
-            Ok(answer) => answer.alter(),
-            Err(code) => code.alter(),
+        *self ^= 1;
+    }
+
+    fn refused(&self) -> Refused {
+        Refused::by(*self)
+    }
+}
+
+/// Where a block is named, it alone is altered.
+impl Reason for Refused {
+    fn alter(&mut self) {
+        match self.code {
+            20..=22 => self.block ^= 1,
+            _ => self.code ^= 1,
         }
     }
 
-    fn code(&self) -> u8 {
-        self.as_ref().err().copied().unwrap_or(0)
+    fn refused(&self) -> Refused {
+        *self
     }
 }
+
+impl<T: Answer, R: Reason> Answer for Result<T, R> {
+    fn alter(&mut self) {
+        match self {
+            Ok(answer) => answer.alter(),
+            Err(reason) => reason.alter(),
+        }
+    }
+
+    fn refused(&self) -> Option<Refused> {
+        self.as_ref().err().map(Reason::refused)
+    }
+}
+
+/// Where a block is named, it alone is altered; else the code.
+macro_rules! answers_of_c {
+    ($($answer:ty)*) => {
+        $(impl Answer for $answer {
+            fn alter(&mut self) {
+                match self.code {
+                    20..=22 => self.entry ^= 1,
+                    _ => self.code ^= 1,
+                }
+            }
+
+            fn refused(&self) -> Option<Refused> {
+                let Self { code, entry, .. } = *self;
+                (code > 0).then_some(Refused { code: code as u8, block: entry })
+            }
+        })*
+    };
+}
+
+answers_of_c!(Opening Body Playback Comparison);

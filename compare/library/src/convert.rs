@@ -2,11 +2,17 @@
 
 use clip_list::{Start, State};
 use doilycairn::{Coefficients, EncoderState, Refusal};
+use image_list::reader::Refused;
 use oracle::{FrameContext, History};
 
 /// The number of a refusal.
 pub fn number(refusal: Refusal) -> u8 {
     refusal.number() as u8
+}
+
+/// The number of a refusal and the block that it names.
+pub fn refused(refusal: Refusal) -> Refused {
+    Refused { code: number(refusal), block: refusal.block().unwrap_or(0) }
 }
 
 pub fn history(history: doilycairn::History) -> History {

@@ -1,15 +1,19 @@
 //! Drives libdoilycairn.a and the unchanged Rust on the same inputs and compares every result.
 //!
 //! What is encoded, played, joined, converted and measured is the Rust's answer; refusals' numbers, states and how an image is made
-//! and read are document 01's, read plainly.
+//! and read are document 01's, and the block of a bad entry document 02's, read plainly.
 
 mod answer;
 mod blocks;
+mod c_calls;
 mod calls;
 mod clips;
+mod contents;
 mod convert;
 mod damage;
+mod damaging;
 mod encoding;
+mod ffi;
 mod frames;
 mod long;
 mod measuring;
@@ -34,13 +38,14 @@ pub struct Part {
 pub const LONG: Part = Part { name: "long", fixed: |_| {}, random: long::random };
 
 /// All other parts.
-pub const PARTS: [Part; 6] = [
+pub const PARTS: [Part; 7] = [
     Part { name: "frames", fixed: frames::fixed, random: frames::random },
     Part { name: "blocks", fixed: blocks::fixed, random: blocks::random },
     Part { name: "stores", fixed: |_| {}, random: stores::random },
     Part { name: "states", fixed: |_| {}, random: states::random },
     Part { name: "calls", fixed: calls::fixed, random: calls::random },
     Part { name: "clips", fixed: |_| {}, random: clips::random },
+    Part { name: "contents", fixed: contents::fixed, random: contents::random },
 ];
 
 /// Runs the fixed list and random cases. The comparison named `wrong` is made with altered answers and must fail.

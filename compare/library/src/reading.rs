@@ -1,14 +1,14 @@
 //! Opening, playing and comparing images both ways.
 
-use crate::convert::{context, number};
+use crate::convert::{context, refused};
 use crate::tally::Tally;
 use doilycairn::{Head, Image, Played, Refusal};
-use image_list::reader;
+use image_list::reader::{self, Refused};
 use oracle::random::Random;
 use oracle::{Coefficients, FrameContext, address_to_sample};
 
 /// N, rate, B, gain and K; and the coefficients.
-type Headed = Result<([u32; 5], Coefficients), u8>;
+type Headed = Result<([u32; 5], Coefficients), Refused>;
 
 fn head(head: &Head) -> ([u32; 5], Coefficients) {
     let Head { total, rate, block, gain, coefficients, blocks } = *head;
@@ -22,7 +22,7 @@ fn right_head(opened: &reader::Opened) -> ([u32; 5], Coefficients) {
 
 /// Opens an image.
 pub fn compare_open(bytes: &[u8], tally: &mut Tally) {
-    let library: Headed = Image::open(bytes).map(|image| head(image.head())).map_err(number);
+    let library: Headed = Image::open(bytes).map(|image| head(image.head())).map_err(refused);
     let right = reader::open(bytes).map(|opened| right_head(&opened));
     tally.compare("open", &bytes, library, right);
 }
@@ -42,20 +42,20 @@ pub fn compare_block(random: &mut Random, bytes: &[u8], k: usize, tally: &mut Ta
 }
 
 /// The count of samples and the context after them, and the output.
-type Output = (Result<(usize, FrameContext), u8>, Vec<i16>);
+type Output = (Result<(usize, FrameContext), Refused>, Vec<i16>);
 
 /// What an output holds before a call.
-fn pattern(room: usize) -> Vec<i16> {
+pub fn pattern(room: usize) -> Vec<i16> {
     (0..room).map(|place| (place * 251) as i16).collect()
 }
 
 fn played_to(room: usize, play: impl FnOnce(&mut [i16]) -> Result<Played, Refusal>) -> Output {
     let mut out = pattern(room);
     let played = play(&mut out);
-    (played.map(|played| (played.samples, context(played.context))).map_err(number), out)
+    (played.map(|played| (played.samples, context(played.context))).map_err(refused), out)
 }
 
-fn right_played_to(room: usize, played: Result<(Vec<i16>, FrameContext), u8>) -> Output {
+fn right_played_to(room: usize, played: reader::Played) -> Output {
     let mut out = pattern(room);
     let right = played.map(|(samples, after)| {
         out[..samples.len()].copy_from_slice(&samples);
@@ -65,16 +65,16 @@ fn right_played_to(room: usize, played: Result<(Vec<i16>, FrameContext), u8>) ->
 }
 
 /// The body's place and length, the length in nibbles, the coefficients and the context.
-type Body = Result<([usize; 3], Coefficients, FrameContext), u8>;
+type Body = Result<([usize; 3], Coefficients, FrameContext), Refused>;
 
 fn compare_body(image: &Image, bytes: &[u8], opened: &reader::Opened, k: usize, tally: &mut Tally) {
     let start = bytes.as_ptr().addr();
-    let library: Body = image.block(k as u32).map_err(number).map(|block| {
+    let library: Body = image.block(k as u32).map_err(refused).map(|block| {
         let place = block.bytes.as_ptr().addr() - start;
         let numbers = [place, block.bytes.len(), block.nibbles as usize];
         (numbers, block.coefficients.0, context(block.context))
     });
-    let right: Body = opened.entries.get(k).ok_or(17).map(|entry| {
+    let right: Body = opened.entry(k).map(|entry| {
         let numbers = [entry.offset, opened.body(entry).len(), entry.nibbles];
         (numbers, opened.coefficients, entry.context)
     });
@@ -91,13 +91,13 @@ pub fn compare_play(bytes: &[u8], tally: &mut Tally) {
         tally.compare("play_into", &(bytes, room), library, right);
     }
     let right = opened.play_all(total).map(|(samples, _)| samples);
-    tally.compare("play", &bytes, image.play().map_err(number), right.clone());
-    let in_turn = image.samples().map(Iterator::collect).map_err(number);
+    tally.compare("play", &bytes, image.play().map_err(refused), right.clone());
+    let in_turn = image.samples().map(Iterator::collect).map_err(refused);
     tally.compare("samples", &bytes, in_turn, right);
 }
 
 /// Compares two images.
 pub fn compare_same(first: &[u8], second: &[u8], tally: &mut Tally) {
-    let library = doilycairn::same(first, second).map_err(number);
+    let library = doilycairn::same(first, second).map_err(refused);
     tally.compare("same", &(first, second), library, reader::same(first, second));
 }

@@ -1,6 +1,7 @@
 //! Compares answers and counts what differs.
 
 use crate::answer::Answer;
+use image_list::reader::Refused;
 use std::collections::BTreeMap;
 use std::fmt::{self, Debug};
 
@@ -15,15 +16,17 @@ pub struct Tally {
     /// How often each comparison was made.
     pub compared: BTreeMap<&'static str, u64>,
     /// How often each refusal was seen, by its number.
-    pub refused: [u64; 19],
+    pub refused: [u64; 23],
+    /// How often each comparison saw 20, 21 and 22, and whether of a later block than the first.
+    pub bad_entries: BTreeMap<(&'static str, u8, bool), u64>,
     /// The comparison that is made with altered answers.
     wrong: Option<String>,
 }
 
 impl Tally {
     pub fn new(part: &'static str, wrong: Option<String>) -> Self {
-        let compared = BTreeMap::new();
-        Self { part, cases: 0, differences: 0, compared, refused: [0; 19], wrong }
+        let (compared, bad_entries) = (BTreeMap::new(), BTreeMap::new());
+        Self { part, cases: 0, differences: 0, compared, refused: [0; 23], bad_entries, wrong }
     }
 
     /// Compares the library's answer with the one that it should give.
@@ -35,7 +38,11 @@ impl Tally {
         mut right: T,
     ) {
         *self.compared.entry(what).or_default() += 1;
-        self.refused[usize::from(right.code())] += 1;
+        let Refused { code, block } = right.refused().unwrap_or(Refused::by(0));
+        self.refused[usize::from(code)] += 1;
+        if (20..=22).contains(&code) {
+            *self.bad_entries.entry((what, code, block > 0)).or_default() += 1;
+        }
         if self.wrong.as_deref() == Some(what) {
             right.alter();
         }

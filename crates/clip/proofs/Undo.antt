@@ -9,7 +9,7 @@ use lib.IntN.{ℤ}
 use lib.ListN.{length, drop}
 use lib.Seq.{drop-at}
 use Rattle.clip.specs.Image.{cut, startShape}
-use Rattle.whole.specs.Outcome.{Outcome, accepted, refused}
+use Rattle.whole.specs.Outcome.{Outcome, accepted, refusedAt}
 use Rattle.clip.specs.declared.Encoder.{Encoder}
 use Rattle.layout.specs.Sizes.{imageSize, cutDown}
 use Rattle.clip.specs.Encoding.{encoderShape, Left, left, valid, feedAnswer, feed, closeAnswer, close, start}
@@ -43,7 +43,7 @@ module _ (e : Encoder) (l m : List ℕ) (s : SameSoFar e l m) where
   feed-by xs (accepted u) p =
       let g = piece-same xs (left e l) (left e m) (feed-accepted e (length xs) (length l) p .limits .wide) (record { state = refl; bytes = s }) in
       record { outcome = refl; encoder = g .state; bytes = g .bytes }
-  feed-by xs (refused n) p = record { outcome = refl; encoder = refl; bytes = s }
+  feed-by xs (refusedAt n j) p = record { outcome = refl; encoder = refl; bytes = s }
 
   -- Feeding a piece to a state with two buffers that it goes on with alike.
   pub feed-same : (xs : List ℤ) → SameEffect (feed e xs l) (feed e xs m)
@@ -57,7 +57,7 @@ module _ (e : Encoder) (l m : List ℕ) (s : SameSoFar e l m) where
       let w = close-accepted e (length l) p in
       let g = end-same e (w .limits) (w .all) l m s in
       record { outcome = refl; encoder = g .state; bytes = g .bytes }
-  close-by (refused n) p = record { outcome = refl; encoder = refl; bytes = s }
+  close-by (refusedAt n j) p = record { outcome = refl; encoder = refl; bytes = s }
 
   -- And closing it.
   pub close-same : SameEffect (close e l) (close e m)
@@ -72,7 +72,7 @@ module _ (e : Encoder) (l : List ℕ) where
       let g = feed-accepted e (length xs) (length l) p in
       let r = g .rest in
       piece-later xs (left e l) (record { limits = g .limits; rest = omega arith; unclosed = feed-open e (length xs) (length l) p .0 })
-  feed-by-later xs (refused n) p = later-refl (left e l)
+  feed-by-later xs (refusedAt n j) p = later-refl (left e l)
 
   -- Feeding writes bytes that were unwritten, and no others.
   pub feed-later : (xs : List ℤ) → Later (left e l) (feed e xs l .left)
@@ -81,7 +81,7 @@ module _ (e : Encoder) (l : List ℕ) where
 
   close-by-later : (a : Outcome Unit) → closeAnswer e (length l) ≡ a → Later (left e l) (closeBy a (left e l) .left)
   close-by-later (accepted u) p = let w = close-accepted e (length l) p in end-later e (w .limits) (w .all) l (close-unclosed e (length l) p)
-  close-by-later (refused n) p = later-refl (left e l)
+  close-by-later (refusedAt n j) p = later-refl (left e l)
 
   -- So does closing.
   pub close-later : Later (left e l) (close e l .left)

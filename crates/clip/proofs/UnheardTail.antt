@@ -12,7 +12,7 @@ use lib.Seq.{sets, sets-eq, take-all, take-suc, take-set-le, getD-set-same}
 use Rattle.layout.specs.Fields.{mark}
 use Rattle.frame.specs.declared.EncodedFrame.{EncodedFrame}
 use Rattle.frame.specs.Frame.{encodeFrame, historyAfter}
-use Rattle.whole.specs.Outcome.{Outcome, accepted, refused}
+use Rattle.whole.specs.Outcome.{Outcome, accepted, refusedAt}
 use Rattle.clip.specs.declared.Encoder.{Encoder}
 use Rattle.clip.specs.Runs.{Call, feeds, closes, seen, callEffect, run}
 use Rattle.clip.specs.Unheard.{framed, Alike}
@@ -112,7 +112,7 @@ end-unheard e l f s = rw (padded-same (e .fed) (e .frame) f s)
 
 feed-by : (a : Outcome Unit) (xs : List ℤ) (s t : Left) → Unheard s t → feedBy a s xs .left .bytes ≡ feedBy a t xs .left .bytes
 feed-by (accepted a) xs s t u = piece-unheard xs s t u .bytes
-feed-by (refused n) xs s t u = u .bytes
+feed-by (refusedAt n j) xs s t u = u .bytes
 
 -- what stands past the samples fed is never heard: feeding leaves the same image
 pub feed-unheard : (e : Encoder) (f : List ℤ) (xs : List ℤ) (l : List ℕ) → Alike (e .fed) (e .frame) f → feed e xs l .left .bytes ≡ feed (framed e f) xs l .left .bytes
@@ -121,7 +121,7 @@ feed-unheard e f xs l s = feed-by (feedAnswer e (length xs) (length l)) xs (left
 
 close-by : (a : Outcome Unit) (e : Encoder) (f : List ℤ) (l : List ℕ) → Alike (e .fed) (e .frame) f → closeBy a (left e l) .left .bytes ≡ closeBy a (left (framed e f) l) .left .bytes
 close-by (accepted u) e f l s = ap (λ (t : Left). t .bytes) (end-unheard e l f s)
-close-by (refused n) e f l s = refl
+close-by (refusedAt n j) e f l s = refl
 
 -- and so does closing
 pub close-unheard : (e : Encoder) (f : List ℤ) (l : List ℕ) → Alike (e .fed) (e .frame) f → close e l .left .bytes ≡ close (framed e f) l .left .bytes
@@ -137,7 +137,7 @@ record CallUnheard (o p : CallEffect) : Type 0 where
 
 feed-call-by : (a : Outcome Unit) (xs : List ℤ) (s t : Left) → Unheard s t → CallUnheard (feedBy a s xs) (feedBy a t xs)
 feed-call-by (accepted a) xs s t u = record { outcome = refl; left-alike = piece-unheard xs s t u }
-feed-call-by (refused n) xs s t u = record { outcome = refl; left-alike = u }
+feed-call-by (refusedAt n j) xs s t u = record { outcome = refl; left-alike = u }
 
 feed-call : (e : Encoder) (l : List ℕ) (f : List ℤ) (xs : List ℤ) → Alike (e .fed) (e .frame) f → CallUnheard (feed e xs l) (feed (framed e f) xs l)
 unfolding feed feedAnswer valid
@@ -166,7 +166,7 @@ end-alike e l = go (eqb (e .fed % 14) 0)
 close-call-by : (a : Outcome Unit) (e : Encoder) (l : List ℕ) (f : List ℤ) → Alike (e .fed) (e .frame) f → CallUnheard (closeBy a (left e l)) (closeBy a (left (framed e f) l))
 close-call-by (accepted u) e l f s =
     record { outcome = refl; left-alike = subst (λ (v : Left). Unheard (finish (left e l)) v) (end-unheard e l f s) (end-alike e l) }
-close-call-by (refused n) e l f s = record { outcome = refl; left-alike = record { bytes = refl; frames = s; state = refl } }
+close-call-by (refusedAt n j) e l f s = record { outcome = refl; left-alike = record { bytes = refl; frames = s; state = refl } }
 
 close-call : (e : Encoder) (l : List ℕ) (f : List ℤ) → Alike (e .fed) (e .frame) f → CallUnheard (close e l) (close (framed e f) l)
 unfolding close closeAnswer valid

@@ -13,7 +13,7 @@ use Rattle.whole.specs.Frames.{frameAt, most, frameCount}
 use Rattle.whole.proofs.Stores.{take-replicate}
 use Rattle.layout.specs.Sizes.{blockCount, bodyBytes, imageSize, cutDown}
 use Rattle.layout.specs.Fields.{mark, noMark}
-use Rattle.whole.specs.Outcome.{Outcome, accepted, refused, effect}
+use Rattle.whole.specs.Outcome.{Outcome, accepted, refusedAt, effect}
 use Rattle.clip.specs.Image.{cut, startShape, headBytes, contextBytes, noContext, tableBytes, freshBytes, coefficientBytes}
 use Rattle.clip.specs.Encoding.{Left, left, countsOk, valid, feedAnswer, feed, closeAnswer, close, begun, startAnswer, start}
 use Rattle.layout.specs.Limits.{numbersOk}
@@ -93,7 +93,7 @@ module _ (g : Start) (xs : List ℤ) where
 
   -- an accepted call leads on
   legal-next : (c : Bool) → Legal g xs c → (k : Call) (a : Outcome Unit) → plainAnswer g (plain xs c) k ≡ a → (let m = plainNext a (plain xs c) k in Legal g (m .samples) (m .closed))
-  legal-next c L k (refused n) e = L
+  legal-next c L k (refusedAt n j) e = L
   legal-next true L (feeds p) (accepted tt) e = absurd (not-both e)
   legal-next false L (feeds p) (accepted tt) e = record { few = omega (arith, length-append xs p, feed-open false p L e); all = λ z. absurd (closed-not z) }
   legal-next c L closes (accepted u) e = record { few = L .few; all = λ z. omega (arith, close-open c L e) }
@@ -116,12 +116,12 @@ module _ (g : Start) (F : Fine g) (rest : List ℕ) (xs : List ℤ) where
   close-answered c L = rw (state-valid g F xs c L, long-enough g F rest xs c)
 
   feed-by : (c : Bool) → Legal g xs c → (p : List ℤ) (a : Outcome Unit) → plainAnswer g (plain xs c) (feeds p) ≡ a → feedBy a (leftAfter g rest xs c) p ≡ effect a (next g rest xs c a (feeds p))
-  feed-by c L p (refused n) e = refl
+  feed-by c L p (refusedAt n j) e = refl
   feed-by true L p (accepted u) e = absurd (not-both e)
   feed-by false L p (accepted u) e = ap (effect (accepted tt)) (piece-follows g F rest xs p (feed-open g xs false p L e))
 
   close-by : (c : Bool) → Legal g xs c → (a : Outcome Unit) → plainAnswer g (plain xs c) closes ≡ a → closeBy a (leftAfter g rest xs c) ≡ effect a (next g rest xs c a closes)
-  close-by c L (refused n) e = refl
+  close-by c L (refusedAt n j) e = refl
   close-by true L (accepted u) e = absurd (not-both e)
   close-by false L (accepted u) e = ap (effect (accepted tt)) (end-follows g F rest xs (close-open g xs false L e))
 

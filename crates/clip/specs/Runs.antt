@@ -6,7 +6,7 @@ use lib.Dec.{ltb}
 use lib.IntN.{ℤ}
 use lib.ListN.{length, getD, take, replicate}
 use Rattle.whole.specs.Frames.{frameAt}
-use Rattle.whole.specs.Outcome.{Outcome, accepted, refused, Effect}
+use Rattle.whole.specs.Outcome.{Outcome, accepted, refusedAt, refused, Effect}
 use Rattle.layout.specs.Fields.{mark, noMark}
 use Rattle.layout.specs.Sizes.{blockCount, bodyBytes}
 use Rattle.frame.specs.Frame.{encodeFrame, historyAfter}
@@ -101,7 +101,7 @@ plainAnswer g m closes = cond (m .closed) (refused 9) (cond (ltb (length (m .sam
 abbrev pub plainNext : Outcome Unit → Plain → Call → Plain
 plainNext (accepted u) m (feeds p) = plain (m .samples ++ p) (m .closed)
 plainNext (accepted u) m closes = plain (m .samples) true
-plainNext (refused n) m c = m
+plainNext (refusedAt n j) m c = m
 
 -- the machine after some calls
 unfoldable pub plainAfter : Start → Plain → List Call → Plain

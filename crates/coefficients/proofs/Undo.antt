@@ -10,7 +10,7 @@ use lib.Dec.{eqb}
 use lib.Ieee.{Float, nan}
 use lib.IntN.{ℤ}
 use lib.ListN.{length, getD}
-use Rattle.whole.specs.Outcome.{Outcome, accepted, refused, withValues}
+use Rattle.whole.specs.Outcome.{Outcome, accepted, refusedAt, withValues}
 use Rattle.whole.proofs.Outcomes.{not-both}
 use Rattle.coefficients.specs.declared.CoefficientCalculator.{CoefficientCalculator}
 use Rattle.coefficients.specs.declared.framing.Found.{Found}
@@ -38,7 +38,7 @@ pub record SameProcess (e f : ProcessEffect) : Type 0 where
 
 process-by : (o : Outcome Unit) (m n : Measuring) (xs : List ℤ) → Same m n → SameProcess (processBy o m xs) (processBy o n xs)
 process-by (accepted u) m n xs s = let q = piece-same xs m n s in record { outcome = refl; calculator = q .state; store = q .store }
-process-by (refused k) m n xs s = record { outcome = refl; calculator = s .state; store = s .store }
+process-by (refusedAt k j) m n xs s = record { outcome = refl; calculator = s .state; store = s .store }
 
 -- Processing a piece on two stores of one length that are the same in the numbers of the records counted.
 pub process-same : (c : CoefficientCalculator) (xs : List ℤ) (s t : List Float) → SameSoFar (c .records) s t → SameProcess (process c xs s) (process c xs t)
@@ -50,7 +50,7 @@ process-same c xs s t a =
 
 process-by-later : (o : Outcome Unit) (m : Measuring) (xs : List ℤ) → Later m (processBy o m xs .left)
 process-by-later (accepted u) m xs = piece-later xs m
-process-by-later (refused k) m xs = later-refl m
+process-by-later (refusedAt k j) m xs = later-refl m
 
 -- Processing leaves the numbers of the records counted before it.
 pub process-later : (c : CoefficientCalculator) (xs : List ℤ) (s : List Float) → Later (measuring c s) (process c xs s .left)
@@ -121,7 +121,7 @@ module _ (c : CoefficientCalculator) where
         store = same-earlier (c .records) (paddedCount c) (paddedStore c s) (paddedStore c t) padded-counts q;
         written = λ e. q;
       }
-  finish-by (refused k) s t a = record { outcome = refl; coefficients = refl; calculator = refl; store = a; written = λ e. absurd (not-both e) }
+  finish-by (refusedAt k j) s t a = record { outcome = refl; coefficients = refl; calculator = refl; store = a; written = λ e. absurd (not-both e) }
 
   -- Asking on two such stores.
   pub finish-same : (s t : List Float) → SameSoFar (c .records) s t → SameFinish (finish c s) (finish c t)
@@ -132,7 +132,7 @@ module _ (c : CoefficientCalculator) where
 
   writes-by : (o : Outcome Unit) (s : List Float) (i : ℕ) → i ≢ 2 * c .records → i ≢ 2 * c .records + 1 → getD (finishBy o c s .store) i nan ≡ getD s i nan
   writes-by (accepted u) s i n k = padded-writes s i n k
-  writes-by (refused l) s i n k = refl
+  writes-by (refusedAt l j) s i n k = refl
 
   -- Asking writes numbers 2r and 2r + 1 at most, those of the record after the r that the state counts.
   pub finish-writes : (s : List Float) (i : ℕ) → i ≢ 2 * c .records → i ≢ 2 * c .records + 1 → getD (finish c s .store) i nan ≡ getD s i nan
@@ -145,7 +145,7 @@ module _ (c : CoefficientCalculator) where
         count = le-refl (c .records);
         store = record { size = sym (padded-length s); numbers = λ i l. sym (padded-writes s i (λ e. omega arith) (λ e. omega arith)) };
       }
-  finish-by-later (refused k) s = later-refl (measuring c s)
+  finish-by-later (refusedAt k j) s = later-refl (measuring c s)
 
   -- So it leaves the numbers of the records counted.
   pub finish-later : (s : List Float) → Later (measuring c s) (let o = finish c s in measuring (o .calculator) (o .store))

@@ -11,7 +11,7 @@ use lib.Ieee.{Float}
 use lib.IntN.{ℤ}
 use lib.ListN.{length, length-append}
 use Rattle.whole.specs.Frames.{most}
-use Rattle.whole.specs.Outcome.{Outcome, accepted, refused, withValues}
+use Rattle.whole.specs.Outcome.{Outcome, accepted, refusedAt, refused, withValues}
 use Rattle.whole.proofs.Outcomes.{failed}
 use Rattle.coefficients.specs.Measure.{needed, Measuring, measuring, fresh, valid, processAnswer, process, finishAnswer, finish, finishBy}
 use Rattle.coefficients.proofs.ByOutcome.{ProcessEffect, processBy}
@@ -101,11 +101,11 @@ module _ (s : List Float) (ws : List (List ℤ)) (xs : List ℤ) (m : Measuring)
             leaves = rw (next (accepted u) e, plain (accepted u) e) (rw append-nil (piece-follows s ws xs p m f (w .1)));
             few = rw (plain (accepted u) e) (omega (arith, length-append xs p, w .0));
           }
-      go (refused n) e =
+      go (refusedAt n j) e =
           record {
-            answers = rw (by (refused n) e, plain (refused n) e);
-            leaves = rw (next (refused n) e, plain (refused n) e) none-asked;
-            few = rw (plain (refused n) e) l;
+            answers = rw (by (refusedAt n j) e, plain (refusedAt n j) e);
+            leaves = rw (next (refusedAt n j) e, plain (refusedAt n j) e) none-asked;
+            few = rw (plain (refusedAt n j) e) l;
           }
 
   ask-step : Step s ws xs m asks
@@ -124,11 +124,11 @@ module _ (s : List Float) (ws : List (List ℤ)) (xs : List ℤ) (m : Measuring)
             leaves = rw (by (accepted u) e, plain (accepted u) e) (asked-follows s ws xs m f);
             few = rw (plain (accepted u) e) l;
           }
-      go (refused n) e =
+      go (refusedAt n j) e =
           record {
-            answers = rw (by (refused n) e, plain (refused n) e);
-            leaves = rw (by (refused n) e, plain (refused n) e) none-asked;
-            few = rw (plain (refused n) e) l;
+            answers = rw (by (refusedAt n j) e, plain (refusedAt n j) e);
+            leaves = rw (by (refusedAt n j) e, plain (refusedAt n j) e) none-asked;
+            few = rw (plain (refusedAt n j) e) l;
           }
 
   pub call-step : (c : Call) → Step s ws xs m c

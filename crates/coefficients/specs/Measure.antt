@@ -8,7 +8,7 @@ use lib.Ieee.{Float}
 use lib.ListN.{length, getD, set, replicate}
 use lib.Seq.{sets}
 use Rattle.whole.specs.Frames.{most, frameCount}
-use Rattle.whole.specs.Outcome.{Outcome, accepted, refused, ifAccepted, Effect, effect}
+use Rattle.whole.specs.Outcome.{Outcome, accepted, refusedAt, refused, ifAccepted, Effect, effect}
 use Rattle.coefficients.specs.declared.Answer.{Answer}
 use Rattle.coefficients.specs.declared.Answer.the-variants.{Accepted, Refused}
 use Rattle.coefficients.specs.declared.CoefficientCalculator.{CoefficientCalculator}
@@ -131,7 +131,7 @@ finishEffect o cs c s = record { outcome = o; coefficients = cs; calculator = c;
 -- an accepted asking leaves the state as it was; a refused one changes nothing, and its coefficients are zeros
 abbrev pub finishBy : Outcome Unit → CoefficientCalculator → List Float → FinishEffect
 finishBy (accepted u) c s = finishEffect (accepted u) (recordCoefficients (Store.records (paddedStore c s) (paddedCount c))) c (paddedStore c s)
-finishBy (refused n) c s = finishEffect (refused n) (replicate 16 (pos 0)) c s
+finishBy (refusedAt n j) c s = finishEffect (refusedAt n j) (replicate 16 (pos 0)) c s
 
 -- an asking on a store
 unfoldable pub finish : CoefficientCalculator → List Float → FinishEffect

@@ -6,7 +6,7 @@ use lib.Dec.{ltb}
 use lib.IntN.{ℤ, pos}
 use lib.ListN.{length, take, drop, replicate}
 use Rattle.whole.specs.Frames.{frameAt, most, frameCount}
-use Rattle.whole.specs.Outcome.{Outcome, accepted, refused, withValues}
+use Rattle.whole.specs.Outcome.{Outcome, accepted, refusedAt, refused, withValues}
 use Rattle.coefficients.specs.declared.framing.Found.{Found}
 use Rattle.coefficients.specs.declared.framing.Found.the-variants.{Nothing, One}
 use Rattle.coefficients.specs.declared.merging.Record.{Record}
@@ -55,7 +55,7 @@ plainOutcome size xs asks = cond (ltb size (needed (length xs))) (refused 3) (ac
 abbrev pub plainNext : Outcome (List ℤ) → List ℤ → Call → List ℤ
 plainNext (accepted cs) xs (measures p) = xs ++ p
 plainNext (accepted cs) xs asks = xs
-plainNext (refused n) xs c = xs
+plainNext (refusedAt n j) xs c = xs
 
 -- what a list of calls answers
 unfoldable pub plainRun : ℕ → List ℤ → List Call → List (Outcome (List ℤ))

@@ -6,7 +6,7 @@ use lib.IntN.{ℤ}
 use lib.ListN.{length, drop}
 use lib.Seq.{sets}
 use Rattle.whole.specs.Frames.{frameCount}
-use Rattle.whole.specs.Outcome.{Outcome, accepted, refused}
+use Rattle.whole.specs.Outcome.{Outcome, accepted, refusedAt}
 use Rattle.coefficients.specs.declared.CoefficientCalculator.{CoefficientCalculator}
 use Rattle.coefficients.specs.declared.merging.Record.{Record}
 use Rattle.coefficients.specs.Measure.{calculator}
@@ -53,7 +53,7 @@ plainAfter size xs (c ∷ cs) = plainAfter size (plainNext (plainOutcome size xs
 abbrev pub askedAt : Outcome (List ℤ) → List ℤ → Call → List (List ℤ)
 askedAt (accepted cs) xs (measures p) = []
 askedAt (accepted cs) xs asks = xs ∷ []
-askedAt (refused n) xs c = []
+askedAt (refusedAt n j) xs c = []
 
 -- what had been measured at each accepted asking of some calls, in turn
 unfoldable pub plainAsked : ℕ → List ℤ → List Call → List (List ℤ)

@@ -1,5 +1,4 @@
--- No refusal has the number 0: code 0 is told only where a call is accepted. Assumes nothing.
-use Prim.Native.Nat.{_<_}
+-- No refusal has the number 0, so that code 0 is told only where a call is accepted; and none has the number 16. Assumes nothing.
 use native.Mathlib.Omega.{arith}
 use Rattle.coefficients.specs.declared.Refusal as Measuring
 use Rattle.coefficients.specs.declared.Refusal.the-variants as OfMeasuring
@@ -16,35 +15,38 @@ use Rattle.image.specs.Opening as ImageNumbers
 use Rattle.block.specs.declared.Refusal as Block
 use Rattle.block.specs.declared.Refusal.the-variants as OfBlock
 use Rattle.block.specs.Refusals as BlockNumbers
+use Rattle.doilycairn.specs.Codes.{RefusalNumber}
 
-pub measuring-refused : (r : Measuring.Refusal) → 0 < MeasuringNumbers.code r
-measuring-refused OfMeasuring.InvalidState = omega arith
-measuring-refused OfMeasuring.TooManySamples = omega arith
-measuring-refused OfMeasuring.StoreTooShort = omega arith
+pub measuring-refused : (r : Measuring.Refusal) → RefusalNumber (MeasuringNumbers.code r)
+measuring-refused OfMeasuring.InvalidState = (omega arith, λ e. omega arith)
+measuring-refused OfMeasuring.TooManySamples = (omega arith, λ e. omega arith)
+measuring-refused OfMeasuring.StoreTooShort = (omega arith, λ e. omega arith)
 
-pub frame-refused : (r : Frame.Refusal) → 0 < FrameNumbers.code r
-frame-refused OfFrame.CoefficientOutside = omega arith
+pub frame-refused : (r : Frame.Refusal) → RefusalNumber (FrameNumbers.code r)
+frame-refused OfFrame.CoefficientOutside = (omega arith, λ e. omega arith)
 
-pub clip-refused : (r : Clip.Refusal) → 0 < ClipNumbers.code r
-clip-refused OfClip.InvalidState = omega arith
-clip-refused OfClip.BadSampleCount = omega arith
-clip-refused OfClip.RateZero = omega arith
-clip-refused OfClip.BadBlockSize = omega arith
-clip-refused OfClip.CoefficientOutside = omega arith
-clip-refused OfClip.ImageTooShort = omega arith
-clip-refused OfClip.AlreadyClosed = omega arith
-clip-refused OfClip.PieceTooLong = omega arith
-clip-refused OfClip.Unfinished = omega arith
+pub clip-refused : (r : Clip.Refusal) → RefusalNumber (ClipNumbers.code r)
+clip-refused OfClip.InvalidState = (omega arith, λ e. omega arith)
+clip-refused OfClip.BadSampleCount = (omega arith, λ e. omega arith)
+clip-refused OfClip.RateZero = (omega arith, λ e. omega arith)
+clip-refused OfClip.BadBlockSize = (omega arith, λ e. omega arith)
+clip-refused OfClip.CoefficientOutside = (omega arith, λ e. omega arith)
+clip-refused OfClip.ImageTooShort = (omega arith, λ e. omega arith)
+clip-refused OfClip.AlreadyClosed = (omega arith, λ e. omega arith)
+clip-refused OfClip.PieceTooLong = (omega arith, λ e. omega arith)
+clip-refused OfClip.Unfinished = (omega arith, λ e. omega arith)
 
-pub image-refused : (r : Image.Refusal) → 0 < ImageNumbers.code r
-image-refused OfImage.LowestPair = omega arith
-image-refused OfImage.OutputTooShort = omega arith
-image-refused OfImage.BadHead = omega arith
-image-refused OfImage.BadEntry = omega arith
-image-refused OfImage.NoSuchBlock = omega arith
+pub image-refused : (r : Image.Refusal) → RefusalNumber (ImageNumbers.code r)
+image-refused OfImage.LowestPair = (omega arith, λ e. omega arith)
+image-refused OfImage.OutputTooShort = (omega arith, λ e. omega arith)
+image-refused OfImage.BadHead = (omega arith, λ e. omega arith)
+image-refused OfImage.NoSuchBlock = (omega arith, λ e. omega arith)
+image-refused (OfImage.BadOffset j) = (omega arith, λ e. omega arith)
+image-refused (OfImage.BadLength j) = (omega arith, λ e. omega arith)
+image-refused (OfImage.BadHeader j) = (omega arith, λ e. omega arith)
 
-pub block-refused : (r : Block.Refusal) → 0 < BlockNumbers.code r
-block-refused OfBlock.LengthOutOfRange = omega arith
-block-refused OfBlock.LowestPair = omega arith
-block-refused OfBlock.OutputTooShort = omega arith
-block-refused OfBlock.CoefficientsDiffer = omega arith
+pub block-refused : (r : Block.Refusal) → RefusalNumber (BlockNumbers.code r)
+block-refused OfBlock.LengthOutOfRange = (omega arith, λ e. omega arith)
+block-refused OfBlock.LowestPair = (omega arith, λ e. omega arith)
+block-refused OfBlock.OutputTooShort = (omega arith, λ e. omega arith)
+block-refused OfBlock.CoefficientsDiffer = (omega arith, λ e. omega arith)

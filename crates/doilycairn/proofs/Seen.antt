@@ -1,13 +1,13 @@
 -- A call's return, packed from a lower call's answer, is what the definition makes of that answer. Assumes nothing.
 use mathlib.Core.List.{List}
-use mathlib.Core.Path.{_≡_, ap, _∙_}
+use mathlib.Core.Path.{_≡_, ap, ap₂, _∙_}
 use Prim.Native.Nat.{ℕ, _+_, _/_}
 use lib.Ieee.{Float}
 use lib.IntN.{ℤ, pos}
 use Rattle.block.specs.declared.FrameContext.{FrameContext}
 use Rattle.block.specs.Context.{newContext}
 use Rattle.block.specs.Frame.{Playing, playing}
-use Rattle.whole.specs.Outcome.{Outcome, accepted, refused, Effect, effect}
+use Rattle.whole.specs.Outcome.{Outcome, accepted, refusedAt, Effect, effect}
 use Rattle.clip.specs.declared.Encoder.{Encoder}
 use Rattle.clip.specs.Encoding as Clip
 use Rattle.coefficients.specs.declared.CoefficientCalculator.{CoefficientCalculator}
@@ -25,7 +25,7 @@ use Rattle.doilycairn.specs.declared.reading.Opening.{Opening}
 use Rattle.doilycairn.specs.declared.writing.Frame.{Frame}
 use Rattle.doilycairn.specs.Blocks as Blocks
 use Rattle.doilycairn.specs.Blocks.{joinedAnswer, playSeen, joinSeen}
-use Rattle.doilycairn.specs.Codes.{outcomeCode}
+use Rattle.doilycairn.specs.Codes.{outcomeCode, outcomeEntry}
 use Rattle.doilycairn.specs.Measuring.{processSeen, finishSeen}
 use Rattle.doilycairn.specs.Reading.{openSeen, bodyAt, handed, bodyInC}
 use Rattle.doilycairn.specs.Writing.{frameCode, frameSeen, clipSeen}
@@ -52,9 +52,9 @@ clip-seen o e l p q = ap (λ (k : ℕ). effect (record { code = k; encoder = e }
 
 -- ---- an image
 
-pub open-seen : (o : Outcome Unit) (h : Head) {e : Effect (Outcome Unit) Head} {k : ℕ}
-    → k ≡ outcomeCode o → effect o h ≡ e → _≡_ {A = Opening} (record { code = k; head = h }) (openSeen e)
-open-seen o h p q = ap (λ (k : ℕ). record { code = k; head = h }) p ∙ ap openSeen q
+pub open-seen : (o : Outcome Unit) (h : Head) {e : Effect (Outcome Unit) Head} {k j : ℕ}
+    → k ≡ outcomeCode o → j ≡ outcomeEntry o → effect o h ≡ e → _≡_ {A = Opening} (record { code = k; entry = j; head = h }) (openSeen e)
+open-seen o h p r q = ap₂ (λ (k j : ℕ). record { code = k; entry = j; head = h }) p r ∙ ap openSeen q
 
 pub play-seen : (o : Outcome ℕ) (c : FrameContext) (out : List ℤ) {e : Effect (Outcome ℕ) Playing} {r : Playback}
     → r ≡ Blocks.playedAnswer o c → effect o (playing c out) ≡ e → effect r out ≡ playSeen e
@@ -62,7 +62,7 @@ play-seen o c out p q = ap (λ (r : Playback). effect r out) p ∙ ap playSeen q
 
 -- the entry's numbers, and two nibbles a byte
 pub body-told : (l : List ℕ) (k offset bytes nibbles : ℕ) (c : FrameContext) → offset ≡ offsetIn l k → nibbles ≡ lengthIn l k → bytes ≡ (nibbles + 1) / 2 → c ≡ contextIn l k
-    → _≡_ {A = Body} (record { code = 0; offset = offset; bytes = bytes; nibbles = nibbles; context = c }) (bodyAt l k)
+    → _≡_ {A = Body} (record { code = 0; entry = 0; offset = offset; bytes = bytes; nibbles = nibbles; context = c }) (bodyAt l k)
 unfolding bodyAt
 body-told l k offset bytes nibbles c p q e r = rw (e, p, q, r)
 
@@ -72,10 +72,11 @@ unfolding bodyAt bodyInC blockBody bodyIn
 body-found l k p q = rw (p, q)
 
 -- refused, it is nowhere and has no bytes
-pub body-refused : (l : List ℕ) (k n : ℕ) {code : ℕ} {c : FrameContext}
-    → code ≡ n → c ≡ newContext → blockAnswer l k ≡ refused n → handed (record { code = code; offset = 0; bytes = 0; nibbles = 0; context = c }) l ≡ bodyInC l k
+pub body-refused : (l : List ℕ) (k n j : ℕ) {code entry : ℕ} {c : FrameContext}
+    → code ≡ n → entry ≡ j → c ≡ newContext → blockAnswer l k ≡ refusedAt n j
+    → handed (record { code = code; entry = entry; offset = 0; bytes = 0; nibbles = 0; context = c }) l ≡ bodyInC l k
 unfolding bodyInC blockBody
-body-refused l k n p z q = rw (p, z, q)
+body-refused l k n j p r z q = rw (p, r, z, q)
 
 -- ---- blocks
 

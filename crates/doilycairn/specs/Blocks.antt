@@ -5,15 +5,15 @@ use lib.IntN.{ℤ}
 use Rattle.block.specs.declared.FrameContext.{FrameContext}
 use Rattle.block.specs.Frame.{Playing}
 use Rattle.whole.specs.Outcome.{Outcome, valueOr, Effect, effect}
-use Rattle.doilycairn.specs.Codes.{outcomeCode}
+use Rattle.doilycairn.specs.Codes.{outcomeCode, outcomeEntry}
 use Rattle.doilycairn.specs.declared.blocks.Joining.{Joining}
 use Rattle.doilycairn.specs.declared.blocks.Playback.{Playback}
 
 -- ---- playing bytes
 
--- the sample count and code 0, or no samples and document 01's number
+-- the sample count and code 0, or no samples, the refusal's number and the block that it names
 abbrev pub playedAnswer : Outcome ℕ → FrameContext → Playback
-playedAnswer o c = record { code = outcomeCode o; samples = valueOr o 0; context = c }
+playedAnswer o c = record { code = outcomeCode o; entry = outcomeEntry o; samples = valueOr o 0; context = c }
 
 -- what C sees of a call of playing: what it returns, and the output after it
 abbrev pub playSeen : Effect (Outcome ℕ) Playing → Effect Playback (List ℤ)

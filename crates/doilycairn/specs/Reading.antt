@@ -14,17 +14,21 @@ use Rattle.image.specs.Playing.{contextIn}
 use Rattle.doilycairn.specs.declared.reading.Body.{Body}
 use Rattle.doilycairn.specs.declared.reading.Comparison.{Comparison}
 use Rattle.doilycairn.specs.declared.reading.Opening.{Opening}
-use Rattle.doilycairn.specs.Codes.{outcomeCode}
+use Rattle.doilycairn.specs.Codes.{outcomeCode, outcomeEntry}
 
 -- the number of an answer
 abbrev pub codeOf : Answer → ℕ
 codeOf a = outcomeCode (outcome a)
 
+-- the block that an answer names
+abbrev pub entryOf : Answer → ℕ
+entryOf a = outcomeEntry (outcome a)
+
 -- ---- opening
 
 -- what C sees of opening
 abbrev pub openSeen : Effect (Outcome Unit) Head → Opening
-openSeen e = record { code = outcomeCode (e .outcome); head = e .left }
+openSeen e = record { code = outcomeCode (e .outcome); entry = outcomeEntry (e .outcome); head = e .left }
 
 -- ---- the body of a block
 
@@ -34,16 +38,16 @@ handed r l = effect r (take (r .bytes) (drop (r .offset) l))
 
 -- where block k's entry says that its body stands, two nibbles a byte, and the entry's context
 unfoldable pub bodyAt : List ℕ → ℕ → Body
-bodyAt l k = record { code = 0; offset = offsetIn l k; bytes = (lengthIn l k + 1) / 2; nibbles = lengthIn l k; context = contextIn l k }
+bodyAt l k = record { code = 0; entry = 0; offset = offsetIn l k; bytes = (lengthIn l k + 1) / 2; nibbles = lengthIn l k; context = contextIn l k }
 
--- the bytes that it points to are the block's body; refused, the number, and zeros
+-- the bytes that it points to are the block's body; refused, the number and the block that it names, and zeros
 unfoldable pub bodyInC : List ℕ → ℕ → Effect Body (List ℕ)
 bodyInC l k =
     let o = blockAnswer l k in
-    effect (ifAccepted o (bodyAt l k) (record { code = outcomeCode o; offset = 0; bytes = 0; nibbles = 0; context = newContext })) (blockBody l k)
+    effect (ifAccepted o (bodyAt l k) (record { code = outcomeCode o; entry = outcomeEntry o; offset = 0; bytes = 0; nibbles = 0; context = newContext })) (blockBody l k)
 
 -- ---- sameness
 
--- whether they are the same, with code 0, or not the same and document 01's number
+-- whether they are the same, with code 0, or not the same, the refusal's number and the block that it names
 abbrev pub comparedAnswer : Outcome Bool → Comparison
-comparedAnswer o = record { code = outcomeCode o; same = valueOr o false }
+comparedAnswer o = record { code = outcomeCode o; entry = outcomeEntry o; same = valueOr o false }

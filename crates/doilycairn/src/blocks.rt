@@ -9,10 +9,11 @@ use block::FrameContext;
 use block::JoinAnswer;
 use block::PlayAnswer;
 
-// What playing returns.
+// What playing returns. `entry` is 0 where no image is played.
 #[repr(C)]
 pub struct Playback {
     pub code: u32,
+    pub entry: u32,
     pub samples: u64,
     pub context: FrameContext,
 }
@@ -31,11 +32,13 @@ fn played_answer(answer: PlayAnswer, context: FrameContext) -> Playback
     match answer {
         PlayAnswer::Played(samples) => Playback {
             code: 0,
+            entry: 0,
             samples: samples,
             context: context,
         },
         PlayAnswer::Refused(why) => Playback {
             code: block::code(why),
+            entry: 0,
             samples: 0,
             context: context,
         },

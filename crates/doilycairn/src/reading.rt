@@ -7,7 +7,7 @@ ghost use Rattle.image.specs.Sameness.{sameOutcome, same};
 ghost use Rattle.image.specs.WholeImage.{playAll};
 ghost use Rattle.whole.specs.Outcome.{effect};
 ghost use Rattle.doilycairn.specs.Blocks.{playedAnswer, playSeen};
-ghost use Rattle.doilycairn.specs.Reading.{codeOf, openSeen, bodyAt, handed, bodyInC, comparedAnswer};
+ghost use Rattle.doilycairn.specs.Reading.{codeOf, entryOf, openSeen, bodyAt, handed, bodyInC, comparedAnswer};
 use crate::blocks::Playback;
 use block::FrameContext;
 use image::Answer;
@@ -16,10 +16,11 @@ use image::PlayAnswer;
 use image::SameAnswer;
 use image::bodies::read_entry;
 
-// What opening returns.
+// What opening returns. `entry` is here and below the block whose entry is bad, with codes 20, 21 and 22; else 0.
 #[repr(C)]
 pub struct Opening {
     pub code: u32,
+    pub entry: u32,
     pub head: Head,
 }
 
@@ -27,6 +28,7 @@ pub struct Opening {
 #[repr(C)]
 pub struct Body {
     pub code: u32,
+    pub entry: u32,
     pub offset: u32,
     pub bytes: u32,
     pub nibbles: u32,
@@ -37,6 +39,7 @@ pub struct Body {
 #[repr(C)]
 pub struct Comparison {
     pub code: u32,
+    pub entry: u32,
     pub same: bool,
 }
 
@@ -50,39 +53,54 @@ fn code_of(answer: Answer) -> u32
     }
 }
 
-// The sample count of an answer, or its number.
+// The block that an answer names.
+fn entry_of(answer: Answer) -> u32
+    ensures { λ r. ⌜ r ≡ entryOf answer ⌝ }
+{
+    match answer {
+        Answer::Accepted => 0,
+        Answer::Refused(why) => image::bad_block(why),
+    }
+}
+
+// The sample count of an answer, or its number and the block that it names.
 fn played_answer(answer: PlayAnswer, context: FrameContext) -> Playback
     ensures { λ r. ⌜ r ≡ playedAnswer (playOutcome answer) context ⌝ }
 {
     match answer {
         PlayAnswer::Played(samples) => Playback {
             code: 0,
+            entry: 0,
             samples: samples,
             context: context,
         },
         PlayAnswer::Refused(why) => Playback {
             code: image::code(why),
+            entry: image::bad_block(why),
             samples: 0,
             context: context,
         },
     }
 }
 
-// Whether an answer is `Same`, or its number.
+// Whether an answer is `Same`, or its number and the block that it names.
 fn compared_answer(answer: SameAnswer) -> Comparison
     ensures { λ r. ⌜ r ≡ comparedAnswer (sameOutcome answer) ⌝ }
 {
     match answer {
         SameAnswer::Same => Comparison {
             code: 0,
+            entry: 0,
             same: true,
         },
         SameAnswer::Different => Comparison {
             code: 0,
+            entry: 0,
             same: false,
         },
         SameAnswer::Refused(why) => Comparison {
             code: image::code(why),
+            entry: image::bad_block(why),
             same: false,
         },
     }
@@ -98,6 +116,7 @@ fn body_at(image: &[u8], k: usize) -> Body
     let context = entry.context;
     Body {
         code: 0,
+        entry: 0,
         offset: entry.offset,
         bytes: nibbles / 2 + nibbles % 2,
         nibbles: nibbles,
@@ -115,6 +134,7 @@ pub extern "C" fn doilycairn_open(image: &[u8]) -> Opening
     let head = done.head;
     Opening {
         code: code_of(answer),
+        entry: entry_of(answer),
         head: head,
     }
 }
@@ -131,6 +151,7 @@ pub extern "C" fn doilycairn_block_body(image: &[u8], k: u32) -> Body
             let context = FrameContext::new();
             Body {
                 code: image::code(why),
+                entry: image::bad_block(why),
                 offset: 0,
                 bytes: 0,
                 nibbles: 0,

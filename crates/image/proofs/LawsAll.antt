@@ -30,7 +30,8 @@ use Rattle.image.specs.Sameness.{blockSamples, samplesFrom, samplesIn, c
 use Rattle.image.specs.WholeImage.{allAnswer, contextAfter, allInto, playAll}
 use Rattle.image.proofs.OpenImages.{opened, opens}
 use Rattle.image.proofs.Joined.{samples-snoc, samples-count}
-use Rattle.image.proofs.LawsBody.{room-accepted, room-accepts, and-then}
+use Rattle.image.proofs.LawsBody.{room-accepted, room-accepts}
+use Rattle.image.proofs.TestsInTurn.{and-then}
 use Rattle.image.proofs.LawsPlayed.{block-count}
 
 -- ---- what an accepted call tells

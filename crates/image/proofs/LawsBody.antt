@@ -20,13 +20,14 @@ use Rattle.layout.specs.Limits.{Limits}
 use Rattle.layout.specs.Sizes.{bodiesPlace, lastSamples, blockCount, bodyBytes, imageSize, blockOffset, blockLength}
 use Rattle.whole.specs.Frames.{frameCount}
 use Rattle.layout.proofs.SizeLaws.{block-place, block-first}
-use Rattle.whole.specs.Outcome.{Outcome, accepted, refused}
+use Rattle.whole.specs.Outcome.{Outcome, accepted, refusedAt}
 use Rattle.image.specs.Reading.{shapeIn, totalIn, blockIn, blocksIn, coefficientsIn, offsetIn, lengthIn, headerIn, newestIn, olderIn}
-use Rattle.image.specs.Opening.{andThen, openAnswer}
+use Rattle.image.specs.Opening.{openAnswer}
 use Rattle.image.specs.inner.Asked.{Found, Playable}
 use Rattle.image.specs.Bodies.{blockAnswer, bodyIn, blockBody}
 use Rattle.image.specs.Playing.{contextIn, roomAnswer, playAnswer}
-use Rattle.whole.proofs.Outcomes.{not-both, failed}
+use Rattle.whole.proofs.Outcomes.{failed}
+use Rattle.image.proofs.TestsInTurn.{and-then}
 use Rattle.image.proofs.OpenImages.{opened, opens}
 use Rattle.image.proofs.Places.{Within, within}
 
@@ -72,10 +73,6 @@ module _ (s : Shape) (k : ℕ) (L : Limits s) (h : k < blockCount s) where
           omega arith
 
 -- ---- what an accepted call tells
-
-pub and-then : (a b : Outcome Unit) → andThen a b ≡ accepted tt → (a ≡ accepted tt) × (b ≡ accepted tt)
-and-then (accepted u) b p = (refl, p)
-and-then (refused n) b p = absurd (not-both p)
 
 pub block-accepted : (l : List ℕ) (k : ℕ) → blockAnswer l k ≡ accepted tt → Found l k
 unfolding blockAnswer
@@ -159,6 +156,6 @@ body-some l k e =
     let n = body-length l k f in
     rw e (omega arith)
 
-pub body-none : (l : List ℕ) (k n : ℕ) → blockAnswer l k ≡ refused n → blockBody l k ≡ []
+pub body-none : (l : List ℕ) (k n j : ℕ) → blockAnswer l k ≡ refusedAt n j → blockBody l k ≡ []
 unfolding blockBody
-body-none l k n e = rw e
+body-none l k n j e = rw e

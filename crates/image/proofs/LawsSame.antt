@@ -12,7 +12,7 @@ use Rattle.image.specs.Opening.{openAnswer}
 use Rattle.image.specs.inner.Asked.{Opens}
 use Rattle.image.specs.Sameness.{compareAnswer, bothAnswer, equalSamples, samplesIn, sameSound}
 use Rattle.image.proofs.OpenImages.{opened, opens}
-use Rattle.image.proofs.LawsBody.{and-then}
+use Rattle.image.proofs.TestsInTurn.{and-then}
 
 -- an image that opens and can be played
 pub record Comparable (l : List ℕ) : Type 0 where

@@ -2,6 +2,7 @@
 pub mod Places
 pub mod Marks
 pub mod Coefficients
+pub mod TestsInTurn
 pub mod OpenImages
 pub mod LawsBody
 pub mod LawsPlayed
@@ -15,5 +16,7 @@ pub mod LawsSame
 pub mod Worked
 pub mod LawsAll
 pub mod BlocksPlayed
+pub mod BadEntries
+pub mod WhereSixteenStood
 mod LawsTurn
 mod EntriesInTurn

@@ -10,14 +10,16 @@ use lib.ListN.{length, getD}
 use Rattle.layout.specs.Limits.{numbersOk, totalOk, blockOk}
 use Rattle.layout.specs.Limits.{Limits}
 use Rattle.layout.specs.declared.Shape.{Shape}
-use Rattle.whole.proofs.Outcomes.{passed}
+use Rattle.whole.proofs.Outcomes.{passed, passed-at}
 use Rattle.layout.specs.Sizes.{shape, blockCount, imageSize, blockOffset, blockLength}
 use Rattle.whole.specs.Frames.{most}
 use Rattle.layout.proofs.LimitLaws.{both-true, numbers-sound}
-use Rattle.whole.specs.Outcome.{Outcome, accepted, refused}
+use Rattle.whole.specs.Outcome.{Outcome, accepted}
 use Rattle.image.specs.Reading.{shapeIn, totalIn, rateIn, blockIn, zeroIn, blocksIn, offsetIn, lengthIn, headerIn, entryZeroIn}
-use Rattle.image.specs.Opening.{markOk, numbersFit, headOk, entryOk, entriesOk, openAnswer}
-use Rattle.image.specs.inner.Asked.{Headed, EntryFits, Opens}
+use Rattle.image.specs.FirstBad.{EntryFits}
+use Rattle.image.specs.Opening.{markOk, numbersFit, headOk, entryAnswer, entriesAnswer, openAnswer}
+use Rattle.image.specs.inner.Asked.{Headed, Opens}
+use Rattle.image.proofs.TestsInTurn.{and-then}
 
 -- ---- the numbers
 
@@ -86,21 +88,22 @@ head-right l h =
 -- ---- the entries
 
 module _ (l : List ℕ) (s : Shape) where
-  pub entry-says : (j : ℕ) → entryOk l s j ≡ true → EntryFits l s j
-  unfolding entryOk
-  entry-says j h =
-      let o = both-true (eqb (offsetIn l j) (blockOffset s j)) _ h in
-      let k = both-true (eqb (lengthIn l j) (blockLength s j)) _ (o .1) in
-      let z = both-true (eqb (entryZeroIn l j) 0) _ (k .1) in
+  pub entry-says : (j : ℕ) → entryAnswer l s j ≡ accepted tt → EntryFits l s j
+  unfolding entryAnswer
+  entry-says j p =
+      let o = passed-at (eqb (offsetIn l j) (blockOffset s j)) 20 j _ p in
+      let k = passed-at (eqb (lengthIn l j) (blockLength s j) && eqb (entryZeroIn l j) 0) 21 j _ (o .1) in
+      let z = both-true (eqb (lengthIn l j) (blockLength s j)) _ (k .0) in
+      let h = passed-at (eqb (headerIn l j) (getD l (blockOffset s j) 0)) 22 j (accepted tt) (k .1) in
       record {
         offset = eqb-true (offsetIn l j) (blockOffset s j) (o .0);
-        nibbles = eqb-true (lengthIn l j) (blockLength s j) (k .0);
-        zeros = eqb-true (entryZeroIn l j) 0 (z .0);
-        header = eqb-true (headerIn l j) (getD l (blockOffset s j) 0) (z .1);
+        nibbles = eqb-true (lengthIn l j) (blockLength s j) (z .0);
+        zeros = eqb-true (entryZeroIn l j) 0 (z .1);
+        header = eqb-true (headerIn l j) (getD l (blockOffset s j) 0) (h .0);
       }
 
-  pub entry-fits : (j : ℕ) → EntryFits l s j → entryOk l s j ≡ true
-  unfolding entryOk
+  pub entry-fits : (j : ℕ) → EntryFits l s j → entryAnswer l s j ≡ accepted tt
+  unfolding entryAnswer
   entry-fits j e =
       rw (
         eq-eqb (offsetIn l j) (blockOffset s j) (e .offset),
@@ -109,17 +112,17 @@ module _ (l : List ℕ) (s : Shape) where
         eq-eqb (headerIn l j) (getD l (blockOffset s j) 0) (e .header),
       )
 
-  pub entries-say : (j k : ℕ) → entriesOk l s j k ≡ true → (i : ℕ) → j ≤ i → i < j + k → EntryFits l s i
-  unfolding entriesOk
+  pub entries-say : (j k : ℕ) → entriesAnswer l s j k ≡ accepted tt → (i : ℕ) → j ≤ i → i < j + k → EntryFits l s i
+  unfolding entriesAnswer
   entries-say j zero h i p q = absurd (omega arith)
-  entries-say j (suc k) h i p q = go (entries-say (suc j) k (both-true (entryOk l s j) _ h .1) i) (both-true (entryOk l s j) _ h .0) (eqb i j) refl
+  entries-say j (suc k) h i p q = go (entries-say (suc j) k (and-then (entryAnswer l s j) _ h .1) i) (and-then (entryAnswer l s j) _ h .0) (eqb i j) refl
     where
-      go : (suc j ≤ i → i < suc j + k → EntryFits l s i) → entryOk l s j ≡ true → (t : Bool) → eqb i j ≡ t → EntryFits l s i
-      go rec e true z = entry-says i (ap (entryOk l s) (eqb-true i j z) ∙ e)
+      go : (suc j ≤ i → i < suc j + k → EntryFits l s i) → entryAnswer l s j ≡ accepted tt → (t : Bool) → eqb i j ≡ t → EntryFits l s i
+      go rec e true z = entry-says i (ap (entryAnswer l s) (eqb-true i j z) ∙ e)
       go rec e false z = let d = eqb-false i j z in rec (omega (arith, p, d)) (omega arith)
 
-  pub entries-fit : (j k : ℕ) → ((i : ℕ) → j ≤ i → i < j + k → EntryFits l s i) → entriesOk l s j k ≡ true
-  unfolding entriesOk
+  pub entries-fit : (j k : ℕ) → ((i : ℕ) → j ≤ i → i < j + k → EntryFits l s i) → entriesAnswer l s j k ≡ accepted tt
+  unfolding entriesAnswer
   entries-fit j zero f = refl
   entries-fit j (suc k) f = rw (entry-fits j (f j (omega arith) (omega arith))) (entries-fit (suc j) k (λ i p q. f i (omega arith) (omega arith)))
 
@@ -130,8 +133,7 @@ unfolding openAnswer
 opened l p =
     let k = blockCount (shapeIn l) in
     let h = passed (headOk l) 15 _ p in
-    let e = passed (entriesOk l (shapeIn l) 0 k) 16 (accepted tt) (h .1) in
-    record { head = head-says l (h .0); entries = λ j lt. entries-say l (shapeIn l) 0 k (e .0) j (omega arith) (omega arith) }
+    record { head = head-says l (h .0); entries = λ j lt. entries-say l (shapeIn l) 0 k (h .1) j (omega arith) (omega arith) }
 
 pub opens : (l : List ℕ) → Opens l → openAnswer l ≡ accepted tt
 unfolding openAnswer

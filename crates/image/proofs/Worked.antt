@@ -14,7 +14,7 @@ use Rattle.layout.specs.Sizes.{lastSamples, blockCount, bodyBytes, imageSize, b
 use Rattle.whole.specs.Frames.{frameCount}
 use Rattle.whole.specs.Outcome.{Outcome, accepted, refused}
 use Rattle.image.specs.Reading.{totalIn, rateIn, blockIn, zeroIn, blocksIn, signedAt, coefficientsUpTo, coefficientsIn, offsetIn, lengthIn, headerIn, newestIn, olderIn, entryZeroIn}
-use Rattle.image.specs.Opening.{markOk, numbersFit, headOk, entryOk, entriesOk, openAnswer}
+use Rattle.image.specs.Opening.{markOk, numbersFit, headOk, entryAnswer, entriesAnswer, openAnswer}
 use Rattle.image.specs.Bodies.{bodyIn}
 use Rattle.image.specs.Playing.{contextIn}
 use Rattle.image.specs.Sameness.{blockSamples, samplesFrom, samplesIn}
@@ -29,7 +29,7 @@ clip mark told header =
 
 -- it opens, and plays 8
 pub opens : openAnswer (clip (0x44 ∷ 0x53 ∷ 0x50 ∷ 0x43 ∷ []) 1 1) ≡ accepted tt
-unfolding openAnswer headOk numbersFit markOk entriesOk entryOk totalIn rateIn blockIn zeroIn blocksIn offsetIn lengthIn headerIn entryZeroIn
+unfolding openAnswer headOk numbersFit markOk entriesAnswer entryAnswer totalIn rateIn blockIn zeroIn blocksIn offsetIn lengthIn headerIn entryZeroIn
     numbersOk frameCount lastSamples blockCount bodyBytes imageSize blockOffset blockLength
 opens = refl
 

@@ -6,4 +6,6 @@ pub mod Playing
 pub mod Sameness
 pub mod WholeImage
 pub mod BlocksInTurn
+pub mod FirstBad
+pub mod CodeSixteen
 pub mod inner

@@ -5,7 +5,7 @@ use Prim.Native.Nat.{ℕ, zero, suc}
 use lib.Dec.{eqb, leb}
 use lib.IntN.{pos}
 use lib.ListN.{length, getD, replicate}
-use Rattle.whole.specs.Outcome.{Outcome, accepted, refused, ifAccepted, Effect, effect}
+use Rattle.whole.specs.Outcome.{Outcome, accepted, refusedAt, refused, ifAccepted, Effect, effect}
 use Rattle.layout.specs.declared.Shape.{Shape}
 use Rattle.layout.specs.Fields.{mark}
 use Rattle.layout.specs.Limits.{numbersOk}
@@ -14,28 +14,44 @@ use Rattle.image.specs.declared.Answer.{Answer}
 use Rattle.image.specs.declared.Answer.the-variants.{Accepted, Refused}
 use Rattle.image.specs.declared.Head.{Head}
 use Rattle.image.specs.declared.Refusal.{Refusal}
-use Rattle.image.specs.declared.Refusal.the-variants.{LowestPair, OutputTooShort, BadHead, BadEntry, NoSuchBlock}
+use Rattle.image.specs.declared.Refusal.the-variants.{LowestPair, OutputTooShort, BadHead, NoSuchBlock, BadOffset, BadLength, BadHeader}
 use Rattle.image.specs.Reading.{totalIn, rateIn, blockIn, zeroIn, blocksIn, shapeIn, headIn, offsetIn, lengthIn, headerIn, entryZeroIn}
 
 -- ---- answers
 
--- document 01's number of each refusal
+-- the number of each refusal in documents 01 and 02
 abbrev pub code : Refusal → ℕ
 code LowestPair = 13
 code OutputTooShort = 14
 code BadHead = 15
-code BadEntry = 16
 code NoSuchBlock = 17
+code (BadOffset j) = 20
+code (BadLength j) = 21
+code (BadHeader j) = 22
 
--- what an answer says: accepted, with no values, or the refusal's number
+-- the block whose entry is bad, 0 where none is named
+abbrev pub badBlock : Refusal → ℕ
+badBlock LowestPair = 0
+badBlock OutputTooShort = 0
+badBlock BadHead = 0
+badBlock NoSuchBlock = 0
+badBlock (BadOffset j) = j
+badBlock (BadLength j) = j
+badBlock (BadHeader j) = j
+
+-- a refusal's number, and the block that it names
+abbrev pub refusal : {A : Type 0} → Refusal → Outcome A
+refusal r = refusedAt (code r) (badBlock r)
+
+-- what an answer says: accepted, with no values, or the refusal
 abbrev pub outcome : Answer → Outcome Unit
 outcome Accepted = accepted tt
-outcome (Refused r) = refused (code r)
+outcome (Refused r) = refusal r
 
 -- a refusal, or else what the next tests say
 abbrev pub andThen : Outcome Unit → Outcome Unit → Outcome Unit
 andThen (accepted u) next = next
-andThen (refused n) next = refused n
+andThen (refusedAt n j) next = refusedAt n j
 
 -- ---- 15
 
@@ -56,25 +72,26 @@ numbersFit total rate block kk zeros len = numbersOk 0 total block rate && (eqb 
 unfoldable pub headOk : List ℕ → Bool
 headOk l = leb 56 (length l) && (markOk l && numbersFit (totalIn l) (rateIn l) (blockIn l) (blocksIn l) (zeroIn l) (length l))
 
--- ---- 16
+-- ---- 20, 21, 22
 
--- "an entry's offset, length or zero bytes are not as in 2, or its predictor-and-scale isn't its body's first byte"
-unfoldable pub entryOk : List ℕ → Shape → ℕ → Bool
-entryOk l s j = eqb (offsetIn l j) (blockOffset s j) && (eqb (lengthIn l j) (blockLength s j) && (eqb (entryZeroIn l j) 0 && eqb (headerIn l j) (getD l (blockOffset s j) 0)))
+-- "20 for an offset, 21 for a length or zero bytes, 22 for a predictor-and-scale", "tested in that sequence within an entry"
+unfoldable pub entryAnswer : List ℕ → Shape → ℕ → Outcome Unit
+entryAnswer l s j =
+    cond (not (eqb (offsetIn l j) (blockOffset s j))) (refusedAt 20 j)
+    (cond (not (eqb (lengthIn l j) (blockLength s j) && eqb (entryZeroIn l j) 0)) (refusedAt 21 j)
+    (cond (not (eqb (headerIn l j) (getD l (blockOffset s j) 0))) (refusedAt 22 j)
+    (accepted tt)))
 
--- k entries from block j's on
-unfoldable pub entriesOk : List ℕ → Shape → ℕ → ℕ → Bool
-entriesOk l s j zero = true
-entriesOk l s j (suc k) = entryOk l s j && entriesOk l s (suc j) k
+-- "entries in rising order": k entries from block j's on
+unfoldable pub entriesAnswer : List ℕ → Shape → ℕ → ℕ → Outcome Unit
+entriesAnswer l s j zero = accepted tt
+entriesAnswer l s j (suc k) = andThen (entryAnswer l s j) (entriesAnswer l s (suc j) k)
 
 -- ---- opening
 
--- codes 15, 16
+-- codes 15; 20, 21, 22
 unfoldable pub openAnswer : List ℕ → Outcome Unit
-openAnswer l =
-    cond (not (headOk l)) (refused 15)
-    (cond (not (entriesOk l (shapeIn l) 0 (blockCount (shapeIn l)))) (refused 16)
-    (accepted tt))
+openAnswer l = cond (not (headOk l)) (refused 15) (entriesAnswer l (shapeIn l) 0 (blockCount (shapeIn l)))
 
 -- what a refused opening gives: all zeros
 abbrev pub noHead : Head

@@ -16,7 +16,7 @@ use Rattle.image.specs.declared.bodies.Entry.{Entry}
 use Rattle.image.specs.declared.PlayAnswer.{PlayAnswer}
 use Rattle.image.specs.declared.PlayAnswer.the-variants.{Played, Refused}
 use Rattle.image.specs.Reading.{coefficientsIn, offsetIn, lengthIn, headerIn, newestIn, olderIn}
-use Rattle.image.specs.Opening.{code, andThen}
+use Rattle.image.specs.Opening.{refusal, andThen}
 use Rattle.image.specs.Bodies.{blockAnswer, bodyIn}
 
 -- the context of block k's entry
@@ -31,14 +31,14 @@ readEntry l k = record { offset = offsetIn l k; nibbles = lengthIn l k; context 
 unfoldable pub roomAnswer : List ℤ → ℕ → ℕ → Outcome Unit
 roomAnswer cs n room = cond (lowestPair cs) (refused 13) (cond (ltb room n) (refused 14) (accepted tt))
 
--- codes 15, 16, 17, 13, 14
+-- codes 15; 20, 21, 22; 17, 13, 14
 unfoldable pub playAnswer : List ℕ → ℕ → ℕ → Outcome Unit
 playAnswer l k room = andThen (blockAnswer l k) (roomAnswer (coefficientsIn l) (addressToSample (lengthIn l k)) room)
 
--- what an answer of playing says: the sample count, or the refusal's number
+-- what an answer of playing says: the sample count, or the refusal
 abbrev pub playOutcome : PlayAnswer → Outcome ℕ
 playOutcome (Played n) = accepted n
-playOutcome (Refused r) = refused (code r)
+playOutcome (Refused r) = refusal r
 
 -- n samples as they are left in the output; refused, no context and the output unaltered
 abbrev pub played : Outcome Unit → ℕ → Playing → List ℤ → Effect (Outcome ℕ) Playing

@@ -10,7 +10,7 @@ use Rattle.block.specs.Refusals as Tests
 use Rattle.image.specs.declared.SameAnswer.{SameAnswer}
 use Rattle.image.specs.declared.SameAnswer.the-variants.{Same, Different, Refused}
 use Rattle.image.specs.Reading.{totalIn, blocksIn, coefficientsIn, lengthIn}
-use Rattle.image.specs.Opening.{code, andThen, openAnswer}
+use Rattle.image.specs.Opening.{refusal, andThen, openAnswer}
 use Rattle.image.specs.Bodies.{bodyIn}
 use Rattle.image.specs.Playing.{contextIn}
 
@@ -38,7 +38,7 @@ equalSamples (x ∷ xs) (y ∷ ys) = Tests.equal x y && equalSamples xs ys
 unfoldable pub sameSound : List ℕ → List ℕ → Bool
 sameSound a b = eqb (totalIn a) (totalIn b) && equalSamples (samplesIn a) (samplesIn b)
 
--- codes 15, 16, 13
+-- codes 15; 20, 21, 22; 13
 unfoldable pub compareAnswer : List ℕ → Outcome Unit
 compareAnswer l = andThen (openAnswer l) (cond (Tests.lowestPair (coefficientsIn l)) (refused 13) (accepted tt))
 
@@ -46,11 +46,11 @@ compareAnswer l = andThen (openAnswer l) (cond (Tests.lowestPair (coefficientsIn
 unfoldable pub bothAnswer : List ℕ → List ℕ → Outcome Unit
 bothAnswer a b = andThen (compareAnswer a) (compareAnswer b)
 
--- what an answer of comparing says: whether they are the same, or the refusal's number
+-- what an answer of comparing says: whether they are the same, or the refusal
 abbrev pub sameOutcome : SameAnswer → Outcome Bool
 sameOutcome Same = accepted true
 sameOutcome Different = accepted false
-sameOutcome (Refused r) = refused (code r)
+sameOutcome (Refused r) = refusal r
 
 -- "Two images are the same when both open, N is equal and the played samples are equal"
 unfoldable pub same : List ℕ → List ℕ → Outcome Bool

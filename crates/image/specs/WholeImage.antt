@@ -14,7 +14,7 @@ use Rattle.image.specs.Bodies.{bodyIn}
 use Rattle.image.specs.Playing.{contextIn, roomAnswer, played}
 use Rattle.image.specs.Sameness.{samplesIn}
 
--- codes 15, 16, 13, 14
+-- codes 15; 20, 21, 22; 13, 14
 unfoldable pub allAnswer : List ℕ → ℕ → Outcome Unit
 allAnswer l room = andThen (openAnswer l) (roomAnswer (coefficientsIn l) (totalIn l) room)
 

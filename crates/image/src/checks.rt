@@ -1,18 +1,18 @@
-// The tests of the calls, in document 01's sequence.
+// The tests of the calls, in the documents' sequence.
 ghost use mathlib.Core.Path.{_≡_};
 ghost use Rattle.image.specs.Opening.{outcome, openAnswer};
 ghost use Rattle.image.specs.Playing.{roomAnswer};
 ghost use Rattle.image.specs.Sameness.{compareAnswer, bothAnswer};
 use crate::Answer;
 use crate::Refusal;
-use crate::entries::entries_ok;
+use crate::entries::entries_answer;
 use crate::heading::head_ok;
 use crate::heading::read_coefficients;
 use block::coefficients::lowest_pair;
 use layout::fields::get32;
 use layout::sizes::shape_of;
 
-// Codes 15 and 16.
+// Codes 15, 20, 21 and 22.
 pub(crate) fn open_answer(image: &[u8]) -> Answer
     ensures { λ r. ⌜ outcome r ≡ openAnswer (now (image .entry)) ⌝ }
 {
@@ -20,10 +20,7 @@ pub(crate) fn open_answer(image: &[u8]) -> Answer
         return Answer::Refused(Refusal::BadHead);
     }
     let shape = shape_of(get32(image, 4), get32(image, 12));
-    if !entries_ok(image, shape) {
-        return Answer::Refused(Refusal::BadEntry);
-    }
-    Answer::Accepted
+    entries_answer(image, shape)
 }
 
 // Codes 13 and 14, for so many samples and an output of some room.
@@ -39,7 +36,7 @@ pub(crate) fn room_answer(coefficients: [i16; 16], samples: u64, room: usize) ->
     Answer::Accepted
 }
 
-// Codes 15, 16 and 13.
+// Codes 15, 20, 21, 22 and 13.
 fn compare_answer(image: &[u8]) -> Answer
     ensures { λ r. ⌜ outcome r ≡ compareAnswer (now (image .entry)) ⌝ }
 {
@@ -56,7 +53,7 @@ fn compare_answer(image: &[u8]) -> Answer
     }
 }
 
-// Codes 15, 16 and 13 of the first image, then of the second.
+// Codes 15, 20, 21, 22 and 13 of the first image, then of the second.
 pub(crate) fn both_answer(a: &[u8], b: &[u8]) -> Answer
     ensures { λ r. ⌜ outcome r ≡ bothAnswer (now (a .entry)) (now (b .entry)) ⌝ }
 {

@@ -1,7 +1,7 @@
 // Reading a clip image: opening, the body of a block, playing, sameness.
 ghost use mathlib.Core.Path.{_≡_};
 ghost use Rattle.block.specs.Frame.{playing};
-ghost use Rattle.image.specs.Opening.{code, outcome, noHead, openImage};
+ghost use Rattle.image.specs.Opening.{code, badBlock, outcome, noHead, openImage};
 ghost use Rattle.whole.specs.Outcome.{effect};
 ghost use Rattle.image.specs.Bodies.{blockAnswer, blockPart};
 ghost use Rattle.image.specs.Playing.{playOutcome, play};
@@ -27,13 +27,15 @@ use playing::play_found;
 use playing::play_opened;
 use playing::refused_playback;
 
-// Why a call is refused.
+// Why a call is refused; the last three name the block whose entry is bad.
 pub enum Refusal {
     LowestPair,
     OutputTooShort,
     BadHead,
-    BadEntry,
     NoSuchBlock,
+    BadOffset(u32),
+    BadLength(u32),
+    BadHeader(u32),
 }
 
 pub enum Answer {
@@ -77,7 +79,7 @@ pub enum SameAnswer {
     Refused(Refusal),
 }
 
-// Document 01's number of a refusal.
+// The number of a refusal in documents 01 and 02.
 pub fn code(refusal: Refusal) -> u32
     ensures { λ r. ⌜ r ≡ code refusal ⌝ }
 {
@@ -85,8 +87,25 @@ pub fn code(refusal: Refusal) -> u32
         Refusal::LowestPair => 13,
         Refusal::OutputTooShort => 14,
         Refusal::BadHead => 15,
-        Refusal::BadEntry => 16,
         Refusal::NoSuchBlock => 17,
+        Refusal::BadOffset(_) => 20,
+        Refusal::BadLength(_) => 21,
+        Refusal::BadHeader(_) => 22,
+    }
+}
+
+// The block whose entry is bad, or 0 where the refusal names none.
+pub fn bad_block(refusal: Refusal) -> u32
+    ensures { λ r. ⌜ r ≡ badBlock refusal ⌝ }
+{
+    match refusal {
+        Refusal::LowestPair => 0,
+        Refusal::OutputTooShort => 0,
+        Refusal::BadHead => 0,
+        Refusal::NoSuchBlock => 0,
+        Refusal::BadOffset(j) => j,
+        Refusal::BadLength(j) => j,
+        Refusal::BadHeader(j) => j,
     }
 }
 
@@ -127,7 +146,7 @@ pub fn open(image: &[u8]) -> Opening
     }
 }
 
-// Whether there is a block k, by codes 15, 16 and 17: what `block_body` and `play` ask first.
+// Whether there is a block k, by codes 15, 20, 21, 22 and 17: what `block_body` and `play` ask first.
 pub fn block_answer(image: &[u8], k: u32) -> Answer
     ensures { λ r. ⌜ outcome r ≡ blockAnswer (now (image .entry)) k ⌝ }
 {

@@ -6,13 +6,13 @@ ghost use Rattle.block.specs.Context.{newContext};
 ghost use Rattle.block.specs.Frame.{playing};
 ghost use Rattle.block.specs.Play.{playInto};
 ghost use Rattle.image.specs.inner.Asked.{Opens, Found, Playable, AllPlayable};
-ghost use Rattle.image.specs.Opening.{outcome, code};
+ghost use Rattle.image.specs.Opening.{outcome, refusal};
 ghost use Rattle.image.specs.Reading.{totalIn, coefficientsIn, lengthIn};
 ghost use Rattle.image.specs.Bodies.{bodyIn};
 ghost use Rattle.image.specs.Playing.{contextIn, readEntry, roomAnswer, playOutcome};
 ghost use Rattle.image.specs.inner.Played.{playBy, playAllBy};
 ghost use Rattle.image.specs.WholeImage.{allInto};
-ghost use Rattle.whole.specs.Outcome.{refused, effect};
+ghost use Rattle.whole.specs.Outcome.{effect};
 use crate::Answer;
 use crate::PlayAnswer;
 use crate::Playback;
@@ -29,7 +29,7 @@ use layout::fields::get32;
 
 // What a refused call of playing gives.
 pub(crate) fn refused_playback(why: Refusal) -> Playback
-    ensures { λ r. ⌜ (playOutcome (r .answer) ≡ refused (code why)) × (r .context ≡ newContext) ⌝ }
+    ensures { λ r. ⌜ (playOutcome (r .answer) ≡ refusal why) × (r .context ≡ newContext) ⌝ }
 {
     let context = FrameContext::new();
     Playback {

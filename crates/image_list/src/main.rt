@@ -3,8 +3,8 @@
 // (four digits), 5 how many (two), 7 the bytes. The others are calls: 1 and 5 the lengths of the two images that are playing (four each), 9 the
 // block's number (eight), 17 the output's length (four). o opens the first image, k finds the body of a block of it, p plays that block, a
 // plays all blocks, s compares the first with the second, r the second with the first. A call is answered by a line: 00 or the refusal's
-// number; then the head's values, the body, the count, the context and the whole output, which has 5A in each byte at first, or 1 where the
-// images are the same.
+// number; the block whose entry is bad, or 0; then the head's values, the body, the count, the context and the whole output, which has 5A in
+// each byte at first, or 1 where the images are the same.
 mod text;
 
 ghost use mathlib.Core.Path.{_≡_};
@@ -12,6 +12,7 @@ ghost use lib.ListN.{length};
 use image::Answer;
 use image::PlayAnswer;
 use image::Playback;
+use image::Refusal;
 use image::SameAnswer;
 use replay::byte;
 use replay::double_word;
@@ -21,15 +22,16 @@ use replay::print_field;
 use replay::print_samples;
 use replay::print_space;
 use replay::word;
-use text::print_code;
+use text::print_accepted;
 use text::print_context;
 use text::print_head;
+use text::print_refusal;
 
-// Writes 0, or the refusal's number.
+// Writes 0, or the refusal.
 fn print_answer(answer: Answer) {
     match answer {
-        Answer::Accepted => print_code(0),
-        Answer::Refused(why) => print_code(image::code(why)),
+        Answer::Accepted => print_accepted(),
+        Answer::Refused(why) => print_refusal(why),
     }
 }
 
@@ -57,10 +59,16 @@ fn fresh_samples() -> [i16; 512]
     [23130; 512]
 }
 
-// Writes 0 and a value, or the refusal's number and 0.
-fn print_value(code: u32, value: u64) {
-    print_code(code);
+// Writes 0 and a value.
+fn print_value(value: u64) {
+    print_accepted();
     print_field(value, 8);
+}
+
+// Writes the refusal, and 0 for the value.
+fn print_no_value(why: Refusal) {
+    print_refusal(why);
+    print_field(0, 8);
 }
 
 // Plays a block, or all.
@@ -77,8 +85,8 @@ fn play_to(letter: u8, image: &[u8], k: u32, out: &mut [i16]) {
     let answer = done.answer;
     let context = done.context;
     match answer {
-        PlayAnswer::Played(count) => print_value(0, count),
-        PlayAnswer::Refused(why) => print_value(image::code(why), 0),
+        PlayAnswer::Played(count) => print_value(count),
+        PlayAnswer::Refused(why) => print_no_value(why),
     }
     print_context(context);
     print_space();
@@ -96,9 +104,9 @@ fn play(letter: u8, image: &[u8], k: u32, room: usize) {
 fn same(first: &[u8], second: &[u8]) {
     let answer = image::same(first, second);
     match answer {
-        SameAnswer::Same => print_value(0, 1),
-        SameAnswer::Different => print_value(0, 0),
-        SameAnswer::Refused(why) => print_value(image::code(why), 0),
+        SameAnswer::Same => print_value(1),
+        SameAnswer::Different => print_value(0),
+        SameAnswer::Refused(why) => print_no_value(why),
     }
 }
 

@@ -1,13 +1,21 @@
 // The line of an answer.
 use block::FrameContext;
 use image::Head;
+use image::Refusal;
 use replay::print_field;
 use replay::print_samples;
 use replay::print_space;
 
-// Writes 0, or the refusal's number.
-pub(crate) fn print_code(code: u32) {
-    io::print_hex(1, code as u64, 2);
+// Writes that a call is accepted: number 0, and block 0.
+pub(crate) fn print_accepted() {
+    io::print_hex(1, 0, 2);
+    print_field(0, 8);
+}
+
+// Writes a refusal's number, and the block whose entry is bad.
+pub(crate) fn print_refusal(why: Refusal) {
+    io::print_hex(1, image::code(why) as u64, 2);
+    print_field(image::bad_block(why) as u64, 8);
 }
 
 // Writes a head's values, in the image's order.

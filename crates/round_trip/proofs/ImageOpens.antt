@@ -26,7 +26,8 @@ use Rattle.round_trip.proofs.FramesPlayed.{Audible, contextBefore, hist
 use Rattle.whole.specs.Outcome.{accepted}
 use Rattle.image.specs.Reading.{shapeIn, totalIn, rateIn, blockIn, gainIn, zeroIn, blocksIn, signedAt, coefficientsUpTo, coefficientsIn, offsetIn, lengthIn, headerIn, newestIn, olderIn, entryZeroIn}
 use Rattle.image.specs.Opening.{markOk, openAnswer}
-use Rattle.image.specs.inner.Asked.{Headed, EntryFits, Opens}
+use Rattle.image.specs.FirstBad.{EntryFits}
+use Rattle.image.specs.inner.Asked.{Headed, Opens}
 use Rattle.image.specs.Playing.{contextIn}
 use Rattle.image.proofs.OpenImages.{opens}
 

@@ -5,7 +5,7 @@ use lib.IntN.{ℤ, pos}
 use lib.ListN.{getD}
 use mir.Syntax.{w16}
 use mir.Val.{SFits}
-use Rattle.whole.specs.Outcome.{Outcome, accepted, refused}
+use Rattle.whole.specs.Outcome.{Outcome, accepted, refusedAt}
 use Rattle.coefficients.specs.Runs as measured
 use Rattle.coefficients.specs.Runs.{measures, asks}
 use Rattle.clip.specs.Runs as encoded
@@ -34,7 +34,7 @@ encodingCalls (p ∷ ps) = feeds p ∷ encodingCalls ps
 unfoldable pub lastCoefficients : List (Outcome (List ℤ)) → List ℤ
 lastCoefficients [] = []
 lastCoefficients (accepted cs ∷ []) = cs
-lastCoefficients (refused n ∷ []) = []
+lastCoefficients (refusedAt n j ∷ []) = []
 lastCoefficients (o ∷ q ∷ os) = lastCoefficients (q ∷ os)
 
 -- what each call answered

@@ -1,25 +1,29 @@
--- What a call answers, by document 01's numbers, and what it leaves. Definitions only.
+-- What a call answers, by the documents' numbers, and what it leaves. Definitions only.
 use Prim.Native.Nat.{ℕ}
 
--- the values of an accepted call, or the number of a refusal
+-- the values of an accepted call; or the number of a refusal, and the block whose entry is bad, 0 where none is named
 pub data Outcome (A : Type 0) : Type 0 where
   accepted : A → Outcome A
-  refused : ℕ → Outcome A
+  refusedAt : ℕ → ℕ → Outcome A
+
+-- a refusal that names no block
+abbrev pub refused : {A : Type 0} → ℕ → Outcome A
+refused n = refusedAt n 0
 
 -- the outcome of a call that has values where it is accepted
 abbrev pub withValues : {A : Type 0} → Outcome Unit → A → Outcome A
 withValues (accepted u) v = accepted v
-withValues (refused n) v = refused n
+withValues (refusedAt n j) v = refusedAt n j
 
 -- the value of an accepted call; where it is refused, another
 abbrev pub valueOr : {A : Type 0} → Outcome A → A → A
 valueOr (accepted v) w = v
-valueOr (refused n) w = w
+valueOr (refusedAt n j) w = w
 
 -- the one where a call is accepted, the other where it is refused
 abbrev pub ifAccepted : {A B : Type 0} → Outcome A → B → B → B
 ifAccepted (accepted a) x y = x
-ifAccepted (refused n) x y = y
+ifAccepted (refusedAt n j) x y = y
 
 -- what a call answers, and what it leaves: its state and the buffers that it was lent
 pub record Effect (A B : Type 0) : Type 0 where

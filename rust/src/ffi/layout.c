@@ -10,7 +10,7 @@ static void codes(void) {
     NUMBER(INVALID_STATE), NUMBER(TOO_MANY_SAMPLES), NUMBER(STORE_TOO_SHORT), NUMBER(BAD_SAMPLE_COUNT), NUMBER(RATE_ZERO);
     NUMBER(BAD_BLOCK_SIZE), NUMBER(COEFFICIENT_OUTSIDE), NUMBER(IMAGE_TOO_SHORT), NUMBER(ALREADY_CLOSED);
     NUMBER(PIECE_TOO_LONG), NUMBER(UNFINISHED), NUMBER(LENGTH_OUT_OF_RANGE), NUMBER(LOWEST_PAIR), NUMBER(OUTPUT_TOO_SHORT);
-    NUMBER(BAD_HEAD), NUMBER(BAD_ENTRY), NUMBER(NO_SUCH_BLOCK), NUMBER(COEFFICIENTS_DIFFER);
+    NUMBER(BAD_HEAD), NUMBER(NO_SUCH_BLOCK), NUMBER(COEFFICIENTS_DIFFER), NUMBER(BAD_OFFSET), NUMBER(BAD_LENGTH), NUMBER(BAD_HEADER);
 }
 
 int main(void) {
@@ -26,10 +26,10 @@ int main(void) {
     SIZE(finished), FIELD(finished, code), FIELD(finished, coefficients), FIELD(finished, calculator);
     SIZE(frame), FIELD(frame, code), FIELD(frame, bytes), FIELD(frame, passes), FIELD(frame, history);
     SIZE(encoding), FIELD(encoding, code), FIELD(encoding, encoder);
-    SIZE(opening), FIELD(opening, code), FIELD(opening, head);
-    SIZE(body), FIELD(body, code), FIELD(body, offset), FIELD(body, bytes), FIELD(body, nibbles), FIELD(body, context);
-    SIZE(playback), FIELD(playback, code), FIELD(playback, samples), FIELD(playback, context);
-    SIZE(comparison), FIELD(comparison, code), FIELD(comparison, same);
+    SIZE(opening), FIELD(opening, code), FIELD(opening, entry), FIELD(opening, head);
+    SIZE(body), FIELD(body, code), FIELD(body, entry), FIELD(body, offset), FIELD(body, bytes), FIELD(body, nibbles), FIELD(body, context);
+    SIZE(playback), FIELD(playback, code), FIELD(playback, entry), FIELD(playback, samples), FIELD(playback, context);
+    SIZE(comparison), FIELD(comparison, code), FIELD(comparison, entry), FIELD(comparison, same);
     SIZE(joining), FIELD(joining, code), FIELD(joining, nibbles);
     NUMBER(MAX_SAMPLES), NUMBER(MIN_BLOCK_SIZE), NUMBER(MAX_BLOCK_SIZE);
     codes();

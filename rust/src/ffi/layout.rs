@@ -41,10 +41,10 @@ fn rust_layouts() -> String {
     layout!(text, "finished", Finished, code, coefficients, calculator);
     layout!(text, "frame", Frame, code, bytes, passes, history);
     layout!(text, "encoding", Encoding, code, encoder);
-    layout!(text, "opening", Opening, code, head);
-    layout!(text, "body", Body, code, offset, bytes, nibbles, context);
-    layout!(text, "playback", Playback, code, samples, context);
-    layout!(text, "comparison", Comparison, code, same);
+    layout!(text, "opening", Opening, code, entry, head);
+    layout!(text, "body", Body, code, entry, offset, bytes, nibbles, context);
+    layout!(text, "playback", Playback, code, entry, samples, context);
+    layout!(text, "comparison", Comparison, code, entry, same);
     layout!(text, "joining", Joining, code, nibbles);
     text
 }
@@ -54,8 +54,10 @@ fn rust_numbers() -> String {
     let mut text = format!("MAX_SAMPLES {MAX_SAMPLES}\n");
     writeln!(text, "MIN_BLOCK_SIZE {}", BLOCK_SIZES.start()).unwrap();
     writeln!(text, "MAX_BLOCK_SIZE {}", BLOCK_SIZES.end()).unwrap();
-    for refusal in Refusal::ALL {
-        for (i, letter) in format!("{refusal:?}").chars().enumerate() {
+    for refusal in Refusal::NUMBERS.iter().filter_map(|number| Refusal::from_number(*number, 0)) {
+        let shown = format!("{refusal:?}");
+        let name = shown.split(' ').next().unwrap();
+        for (i, letter) in name.chars().enumerate() {
             if i > 0 && letter.is_ascii_uppercase() {
                 text.push('_');
             }

@@ -83,25 +83,32 @@ fn reading_gives_zeros() {
     let (state, mut image) = started();
     let opening = open(&image);
     let none = Head { total: 0, rate: 0, block: 0, gain: 0, coefficients: COEFFICIENTS, blocks: 0 };
-    assert_eq!((opening.code, opening.head), (15, none));
+    assert_eq!((opening.code, opening.entry, opening.head), (15, 0, none));
     let fed = feed(state, &[100; 20], &mut image).encoder;
     assert_eq!(close(fed, &mut image).code, 0);
     let body = block_body(&image, 2);
-    assert_eq!((body.code, body.offset, body.bytes, body.nibbles), (17, 0, 0, 0));
+    assert_eq!((body.code, body.entry), (17, 0));
+    assert_eq!((body.offset, body.bytes, body.nibbles), (0, 0, 0));
     assert_eq!(body.context, FrameContext::default());
     for playback in [play(&image, 0, &mut [0; 13]), play_all(&image, &mut [0; 19])] {
-        assert_eq!((playback.code, playback.samples), (14, 0));
+        assert_eq!((playback.code, playback.entry, playback.samples), (14, 0, 0));
         assert_eq!(playback.context, FrameContext::default());
     }
     let comparison = same(&image, &[]);
-    assert_eq!((comparison.code, comparison.same), (15, false));
+    assert_eq!((comparison.code, comparison.entry, comparison.same), (15, 0, false));
 }
 
 #[test]
 fn playing_bytes_gives_back_the_context() {
     let context = FrameContext { predictor_and_scale: 0x23, last_samples: [1, 2] };
-    let playback = play_bytes(&[0; 8], 16, &COEFFICIENTS, context, &mut [0; 13]);
-    assert_eq!((playback.code, playback.samples, playback.context), (14, 0, context));
+    let lowest = Coefficients([i16::MIN; 16]);
+    for (code, nibbles, coefficients) in
+        [(12, 17, &COEFFICIENTS), (13, 16, &lowest), (14, 16, &COEFFICIENTS)]
+    {
+        let playback = play_bytes(&[0; 8], nibbles, coefficients, context, &mut [0; 13]);
+        assert_eq!((playback.code, playback.entry), (code, 0));
+        assert_eq!((playback.samples, playback.context), (0, context));
+    }
 }
 
 #[test]

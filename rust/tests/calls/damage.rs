@@ -1,6 +1,7 @@
-//! Damaged images: every bit of head and table turned over, every shorter length.
+//! Damaged images: every bit of head and table turned over, every shorter length, and damage in many places.
 
 use crate::clips::{Random, encode, noise, tone};
+use crate::reading;
 use doilycairn::{Image, Refusal, same};
 use std::collections::BTreeSet;
 
@@ -9,21 +10,30 @@ use std::collections::BTreeSet;
 enum Effect {
     /// A field that may have any value: the image opens, and says something else.
     Other,
-    Head,
-    /// By 15 where the count of blocks or the size becomes wrong, else by 16.
-    HeadOrEntry,
-    Entry,
+    /// A field that has one value.
+    Refused(Refusal),
+    /// A field that tells the count of blocks, the size and the lengths: by 15 where one of the first two becomes wrong, else so.
+    HeadOr(Refusal),
 }
 
-fn effect(place: usize) -> Effect {
+/// The effect on an image of so many blocks. Another N gives the last block another length, another B the first.
+fn effect(place: usize, blocks: u32) -> Effect {
     match place {
-        0..4 | 50..56 => Effect::Head,
-        4..8 | 12..16 => Effect::HeadOrEntry,
+        0..4 | 50..56 => Effect::Refused(Refusal::BadHead),
+        4..8 => Effect::HeadOr(Refusal::BadLength { block: blocks - 1 }),
+        12..16 => Effect::HeadOr(Refusal::BadLength { block: 0 }),
         8..12 | 16..50 => Effect::Other,
-        _ => match (place - 56) % 16 {
-            10..14 => Effect::Other,
-            _ => Effect::Entry,
-        },
+        _ => entry_effect((place - 56) as u32 / 16, (place - 56) % 16),
+    }
+}
+
+/// The effect of a byte of a block's entry.
+fn entry_effect(block: u32, place: usize) -> Effect {
+    match place {
+        0..4 => Effect::Refused(Refusal::BadOffset { block }),
+        4..8 | 14..16 => Effect::Refused(Refusal::BadLength { block }),
+        8..10 => Effect::Refused(Refusal::BadHeader { block }),
+        _ => Effect::Other,
     }
 }
 
@@ -44,27 +54,26 @@ fn every_bit_of_head_and_table() {
     for (place, bit) in (0..table).flat_map(|place| (0..8).map(move |bit| (place, bit))) {
         let mut bytes = whole.clone();
         bytes[place] ^= 1 << bit;
-        match (effect(place), Image::open(&bytes)) {
+        let opened = Image::open(&bytes);
+        assert_eq!(opened.err(), reading::refusal(&bytes));
+        match (effect(place, blocks.len() as u32), opened) {
             (Effect::Other, Ok(damaged)) => {
                 let is_head_same = damaged.head() == image.head();
                 assert!(!is_head_same || !damaged.blocks().eq(blocks.iter().copied()));
                 assert_eq!(damaged.play().unwrap().len(), clip.len());
                 same(&bytes, &whole).unwrap();
             }
-            (Effect::Head, Err(Refusal::BadHead)) => {
-                refused_alike(&bytes, &whole, Refusal::BadHead)
+            (Effect::Refused(expected), Err(why)) if why == expected => {
+                refused_alike(&bytes, &whole, why)
             }
-            (Effect::Entry, Err(Refusal::BadEntry)) => {
-                refused_alike(&bytes, &whole, Refusal::BadEntry)
-            }
-            (Effect::HeadOrEntry, Err(why @ (Refusal::BadHead | Refusal::BadEntry))) => {
+            (Effect::HeadOr(expected), Err(why)) if [expected, Refusal::BadHead].contains(&why) => {
                 refused_alike(&bytes, &whole, why);
-                seen.insert(why);
+                seen.insert((place < 8, why));
             }
             (effect, opened) => panic!("byte {place}, bit {bit}: {effect:?}, {opened:?}"),
         }
     }
-    assert_eq!(seen.len(), 2);
+    assert_eq!(seen.len(), 4);
 }
 
 #[test]
@@ -80,8 +89,11 @@ fn the_first_byte_of_a_body_is_in_its_entry() {
         let mut bytes = whole.clone();
         bytes[place] ^= 0x11;
         let opened = Image::open(&bytes).map(|image| image.play().unwrap().len());
-        let is_first = offsets.contains(&place);
-        assert_eq!(opened, if is_first { Err(Refusal::BadEntry) } else { Ok(200) });
+        let expected = match offsets.iter().position(|offset| *offset == place) {
+            Some(block) => Err(Refusal::BadHeader { block: block as u32 }),
+            None => Ok(200),
+        };
+        assert_eq!(opened, expected);
     }
 }
 
@@ -116,7 +128,9 @@ fn limits_of_the_head() {
 
 /// Reads all there is to read of bytes that may be an image, and says whether they opened.
 fn read_all(bytes: &[u8]) -> bool {
-    let Ok(image) = Image::open(bytes) else { return false };
+    let opened = Image::open(bytes);
+    assert_eq!(opened.err(), reading::refusal(bytes));
+    let Ok(image) = opened else { return false };
     let mut out = vec![0; image.head().total as usize];
     let blocks = image.blocks().enumerate();
     let counts = blocks.map(|(k, block)| {

@@ -1,4 +1,4 @@
-//! Every refusal by its number, in document 01's sequence, with nothing written.
+//! Every refusal by its number, in the documents' sequence, with nothing written.
 
 use crate::clips::{encode, start_of, tone};
 use doilycairn::*;
@@ -275,12 +275,15 @@ fn number_14() {
 }
 
 #[test]
-fn numbers_15_to_17() {
+fn numbers_15_20_21_22_and_17() {
     let bytes = encode(&tone(50), 16);
     assert_eq!(Image::open(&bytes[..55]).unwrap_err().number(), 15);
-    let mut damaged = bytes.clone();
-    damaged[59] ^= 1;
-    assert_eq!(Image::open(&damaged).unwrap_err().number(), 16);
+    for (place, number, block) in [(59, 20, 0), (63, 21, 0), (86, 21, 1), (81, 22, 1)] {
+        let mut damaged = bytes.clone();
+        damaged[place] ^= 1;
+        let why = Image::open(&damaged).unwrap_err();
+        assert_eq!((why.number(), why.block()), (number, Some(block)));
+    }
     let image = Image::open(&bytes).unwrap();
     assert_eq!(image.head().blocks, 2);
     for k in [2, 3, u32::MAX] {

@@ -52,13 +52,22 @@ fn the_count_of_samples_counts() {
 #[test]
 fn the_first_image_is_tested_first() {
     let good = encode(&tone(100), 8);
-    let (mut lowest, mut entry) = (good.clone(), good.clone());
-    lowest[44..48].copy_from_slice(&[0x80, 0, 0x80, 0]);
-    entry[56] = 1;
+    let with = |place: usize, values: &[u8]| {
+        let mut bytes = good.clone();
+        bytes[place..place + values.len()].copy_from_slice(values);
+        bytes
+    };
+    let lowest = with(44, &[0x80, 0, 0x80, 0]);
+    let entry = |block: usize, place: usize| with(56 + 16 * block + place, &[0xff]);
+    let (offset, other_offset, length, header) =
+        (entry(0, 0), entry(7, 0), entry(5, 15), entry(7, 8));
     let all = [
         (&good[..], None),
         (&good[..9], Some(Refusal::BadHead)),
-        (&entry, Some(Refusal::BadEntry)),
+        (&offset, Some(Refusal::BadOffset { block: 0 })),
+        (&other_offset, Some(Refusal::BadOffset { block: 7 })),
+        (&length, Some(Refusal::BadLength { block: 5 })),
+        (&header, Some(Refusal::BadHeader { block: 7 })),
         (&lowest, Some(Refusal::LowestPair)),
     ];
     for (first, first_why) in all {

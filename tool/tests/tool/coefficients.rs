@@ -31,7 +31,7 @@ fn what_is_none_is_refused() {
     run("few").expect(3, "few: 3 coefficients; sixteen are needed");
     run("words").expect(3, "words: line 1: 'one' is not a number");
     run("noise").expect(3, "is not a number");
-    run("damaged").expect(4, "(refusal 16)");
+    run("damaged").expect(4, "(refusal 20); byte 56: its offset is ");
     run("absent").expect(5, "cannot read absent");
     assert!(!folder.has("out"));
 }

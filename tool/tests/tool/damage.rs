@@ -4,8 +4,26 @@ use crate::parse::Value;
 use crate::support::{Folder, Random, image, sound};
 use doilycairn::{Image, Refusal};
 
-/// `check` of these bytes: the library's verdict, and findings.
-fn checked(folder: &Folder, bytes: &[u8]) -> Value {
+/// Expects an object to name this refusal, and the block whose entry is bad.
+#[track_caller]
+pub fn names(json: &Value, refusal: Refusal) {
+    assert_eq!(json.number("refusal"), f64::from(refusal.number()));
+    let block = refusal.block().map_or(Value::Null, |block| Value::Number(block.into()));
+    assert_eq!(json.get("block"), &block);
+}
+
+/// Where in its entry the fields stand that this refusal is for.
+fn fields(refusal: Refusal) -> &'static [usize] {
+    match refusal {
+        Refusal::BadOffset { .. } => &[0],
+        Refusal::BadLength { .. } => &[4, 14],
+        Refusal::BadHeader { .. } => &[8],
+        _ => &[],
+    }
+}
+
+/// `check` of these bytes: the library's verdict, and findings of which the first is that verdict.
+pub fn checked(folder: &Folder, bytes: &[u8]) -> Value {
     folder.write("damaged", bytes);
     let run = folder.run("check --json damaged");
     let json = Value::of_line(&run.out);
@@ -14,12 +32,17 @@ fn checked(folder: &Folder, bytes: &[u8]) -> Value {
     match verdict {
         Ok(()) => {
             assert_eq!((run.status, json.get("sound")), (0, &Value::Bool(true)));
-            assert_eq!(json.get("refusal"), &Value::Null);
+            assert_eq!([json.get("refusal"), json.get("block")], [&Value::Null; 2]);
         }
         Err(refusal) => {
             assert_eq!((run.status, json.get("sound")), (1, &Value::Bool(false)));
-            assert_eq!(json.number("refusal"), f64::from(refusal.number()));
-            assert!(!json.list("findings").is_empty(), "{refusal}: nothing found");
+            let [first, ..] = json.list("findings") else { panic!("{refusal}: nothing found") };
+            names(&json, refusal);
+            names(first, refusal);
+            if let Some(block) = refusal.block() {
+                let place = first.number("byte") as usize - (56 + 16 * block as usize);
+                assert!(fields(refusal).contains(&place), "{refusal}: {json:?}");
+            }
         }
     }
     json
@@ -110,7 +133,7 @@ fn every_command_refuses_and_keeps_the_old_output() {
     entry[63] ^= 1;
     for (bytes, refusal) in [
         (&good[..70], Refusal::BadHead),
-        (&entry, Refusal::BadEntry),
+        (&entry, Refusal::BadLength { block: 0 }),
         (&lowest, Refusal::LowestPair),
     ] {
         folder.write("bad", bytes);

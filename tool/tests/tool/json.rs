@@ -1,7 +1,9 @@
 //! `--json`: one object, of failures too.
 
+use crate::damage::names;
 use crate::parse::Value;
 use crate::support::{Folder, image, sound, wav};
+use doilycairn::Refusal;
 use std::ffi::OsStr;
 use std::os::unix::ffi::OsStrExt;
 
@@ -47,10 +49,11 @@ fn failures_have_their_numbers() {
     let folder = Folder::new();
     folder.write("none", "x");
     let json = Value::of_line(&folder.run("decode --json none out").out);
-    assert_eq!(json.get("error").number("refusal"), 15.0);
+    names(json.get("error"), Refusal::BadHead);
     assert!(json.get("error").text("message").starts_with("none: not an image"));
     let json = Value::of_line(&folder.run("decode --json absent out").out);
-    assert_eq!(json.get("error").get("refusal"), &Value::Null);
+    let error = json.get("error");
+    assert_eq!([error.get("refusal"), error.get("block")], [&Value::Null; 2]);
     let json = Value::of_line(&folder.run("what --json").out);
     assert_eq!((json.text("command"), json.number("status")), ("", 2.0));
 }

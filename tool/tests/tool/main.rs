@@ -8,6 +8,7 @@ mod decode;
 mod demo;
 mod dropped;
 mod encode;
+mod entries;
 mod followed;
 mod generated;
 mod help;

@@ -3,16 +3,16 @@ use mathlib.Core.Bool.{true, false}
 use mathlib.Core.List.{List}
 use mathlib.Core.Path.{_≡_}
 use Prim.Native.Nat.{ℕ, _≤_, _<_}
-use lib.ListN.{length, getD}
+use lib.ListN.{length}
 use Rattle.block.specs.Address.{addressToSample}
 use Rattle.block.specs.Refusals.{lowestPair}
 use Rattle.layout.specs.Limits.{Limits}
-use Rattle.layout.specs.declared.Shape.{Shape}
-use Rattle.layout.specs.Sizes.{blockCount, bodiesPlace, imageSize, blockOffset, blockLength}
+use Rattle.layout.specs.Sizes.{blockCount, bodiesPlace, imageSize}
 use Rattle.whole.specs.Frames.{frameCount}
 use Rattle.image.specs.declared.Head.{Head}
 use Rattle.image.specs.inner.ByFrames.{frameSamples}
-use Rattle.image.specs.Reading.{totalIn, rateIn, blockIn, shapeIn, zeroIn, blocksIn, coefficientsIn, headIn, offsetIn, lengthIn, headerIn, entryZeroIn}
+use Rattle.image.specs.Reading.{totalIn, rateIn, blockIn, shapeIn, zeroIn, blocksIn, coefficientsIn, headIn, lengthIn}
+use Rattle.image.specs.FirstBad.{EntryFits}
 use Rattle.image.specs.Opening.{markOk}
 
 -- a head that 15 does not refuse
@@ -24,13 +24,6 @@ pub record Headed (l : List ℕ) : Type 0 where
   pub blocks : blocksIn l ≡ blockCount (shapeIn l)
   pub zeros : zeroIn l ≡ 0
   pub size : imageSize (shapeIn l) ≤ length l
-
--- an entry that 16 does not refuse
-pub record EntryFits (l : List ℕ) (s : Shape) (j : ℕ) : Type 0 where
-  pub offset : offsetIn l j ≡ blockOffset s j
-  pub nibbles : lengthIn l j ≡ blockLength s j
-  pub zeros : entryZeroIn l j ≡ 0
-  pub header : headerIn l j ≡ getD l (blockOffset s j) 0
 
 pub record Opens (l : List ℕ) : Type 0 where
   pub head : Headed l

@@ -11,6 +11,14 @@ fn length(bytes: &[u8]) -> usize {
     u16::from_be_bytes([bytes[0], bytes[1]]).into()
 }
 
+/// How the answer of a refused call begins: its code, and the block whose entry is bad, else 0.
+fn verdict(refusal: Refusal) -> String {
+    format!("{:02x} {:08x}", refusal.number(), refusal.block().unwrap_or(0))
+}
+
+/// How the answer of an accepted call begins.
+const ACCEPTED: &str = "00 00000000";
+
 fn opened(image: &[u8]) -> String {
     let zeros = "0".repeat(64);
     match Image::open(image) {
@@ -20,18 +28,18 @@ fn opened(image: &[u8]) -> String {
             let [total, rate, block] = numbers.map(|number| format!("{number:08x}"));
             let (gain, blocks) = (head.gain, head.blocks);
             let coefficients = digits_of(&coefficients.0);
-            format!("00 {total} {rate} {block} {coefficients} {gain:04x} {blocks:08x}")
+            format!("{ACCEPTED} {total} {rate} {block} {coefficients} {gain:04x} {blocks:08x}")
         }
         Err(refusal) => {
-            format!("{:02x} 00000000 00000000 00000000 {zeros} 0000 00000000", refusal.number())
+            format!("{} 00000000 00000000 00000000 {zeros} 0000 00000000", verdict(refusal))
         }
     }
 }
 
 fn body(image: &[u8], k: u32) -> String {
     match Image::open(image).and_then(|image| image.block(k)) {
-        Ok(block) => format!("00 {}", digits(block.bytes)),
-        Err(refusal) => format!("{:02x} ", refusal.number()),
+        Ok(block) => format!("{ACCEPTED} {}", digits(block.bytes)),
+        Err(refusal) => verdict(refusal),
     }
 }
 
@@ -42,17 +50,17 @@ fn played(image: &[u8], k: Option<u32>, room: usize) -> String {
         Some(k) => image.play_block(k, &mut out),
         None => image.play_into(&mut out),
     });
-    let code = played.err().map_or(0, Refusal::number);
+    let verdict = played.err().map_or(ACCEPTED.into(), verdict);
     let (count, context) =
         played.map_or((0, FrameContext::default()), |it| (it.samples, it.context));
     let (header, history) = (context.predictor_and_scale, digits_of(&context.last_samples));
-    format!("{code:02x} {count:08x} {header:04x} {history} {}", digits_of(&out))
+    format!("{verdict} {count:08x} {header:04x} {history} {}", digits_of(&out))
 }
 
 fn compared(first: &[u8], second: &[u8]) -> String {
     match same(first, second) {
-        Ok(is_same) => format!("00 {:08x}", u8::from(is_same)),
-        Err(refusal) => format!("{:02x} {:08x}", refusal.number(), 0),
+        Ok(is_same) => format!("{ACCEPTED} {:08x}", u8::from(is_same)),
+        Err(refusal) => format!("{} {:08x}", verdict(refusal), 0),
     }
 }
 

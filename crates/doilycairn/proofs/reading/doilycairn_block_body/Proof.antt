@@ -25,12 +25,15 @@ new-requires c κs = search needs
 code-requires : tie.Need-code-requires
 code-requires c κs = search needs
 
+bad-block-requires : tie.Need-bad-block-requires
+bad-block-requires c κs = search needs
+
 returns : tie.Need-returns
 returns c = body-found _ _ (c .body-at .ensures) (sym (c .before .before .before .block-answer .ensures) ∙ ap outcome (c .before .enum-told .given .1))
 
 returns-2 : tie.Need-returns-2
-returns-2 c = body-refused _ _ _ (c .code .ensures) (c .before .new .ensures) (sym (c .before .before .before .before .before .block-answer .ensures)
-    ∙ ap outcome (c .before .before .before .answer .given .1))
+returns-2 c = body-refused _ _ _ _ (c .before .code .ensures) (c .bad-block .ensures) (c .before .before .new .ensures) (sym (c .before .before .before .before .before .before .block-answer .ensures)
+    ∙ ap outcome (c .before .before .before .before .answer .given .1))
 
 pub doilycairn-block-body-spec : {M : Type 1} → statement M
 doilycairn-block-body-spec =
@@ -42,5 +45,6 @@ doilycairn-block-body-spec =
     enum-known-answer
     new-requires
     code-requires
+    bad-block-requires
     returns
     returns-2)

@@ -10,8 +10,11 @@ open-requires c κs = search needs
 code-of-requires : tie.Need-code-of-requires
 code-of-requires c κs = search needs
 
+entry-of-requires : tie.Need-entry-of-requires
+entry-of-requires c κs = search needs
+
 returns : tie.Need-returns
-returns c = open-seen _ _ (c .code-of .ensures) (c .before .before .«open» .ensures)
+returns c = open-seen _ _ (c .before .code-of .ensures) (c .entry-of .ensures) (c .before .before .before .«open» .ensures)
 
 pub doilycairn-open-spec : {M : Type 1} → statement M
-doilycairn-open-spec = tie.close (tie.spec open-requires code-of-requires returns)
+doilycairn-open-spec = tie.close (tie.spec open-requires code-of-requires entry-of-requires returns)

@@ -37,20 +37,13 @@ get32-requires-2 c κs = omega (arith, headed (c .before) .long)
 shape-of-requires : tie.Need-shape-of-requires
 shape-of-requires c κs = search needs
 
-entries-ok-requires : tie.Need-entries-ok-requires
-entries-ok-requires c κs = let h = headed (c .before .before .before) in rw (read c) (h .limits, h .size)
+entries-answer-requires : tie.Need-entries-answer-requires
+entries-answer-requires c κs = let h = headed (c .before .before .before) in rw (read c) (h .limits, h .size)
 
 returns-2 : tie.Need-returns-2
 unfolding openAnswer
-returns-2 c = let d = c .before .before .before .before .before .before in
-    let e = c .before .entries-ok in
-    simp (← d .head-ok .ensures, not-false (d .head-ok .result) (c .before .before .before .before .before .if1 .left), ← read (c .before .before), ← e .ensures, not-true (e .result) (c .if2 .taken))
-
-returns-3 : tie.Need-returns-3
-unfolding openAnswer
-returns-3 c = let d = c .before .before .before .before .before .before in
-    let e = c .before .entries-ok in
-    simp (← d .head-ok .ensures, not-false (d .head-ok .result) (c .before .before .before .before .before .if1 .left), ← read (c .before .before), ← e .ensures, not-false (e .result) (c .if2 .left))
+returns-2 c = let d = c .before .before .before .before .before in
+    simp (← d .head-ok .ensures, not-false (d .head-ok .result) (c .before .before .before .before .if1 .left), ← read (c .before), ← c .entries-answer .ensures)
 
 pub open-answer-spec : {M : Type 1} → statement M
 open-answer-spec =
@@ -61,6 +54,5 @@ open-answer-spec =
     get32-requires
     get32-requires-2
     shape-of-requires
-    entries-ok-requires
-    returns-2
-    returns-3)
+    entries-answer-requires
+    returns-2)

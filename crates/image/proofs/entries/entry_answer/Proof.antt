@@ -1,4 +1,4 @@
--- `entry_ok` meets its contract. Assumes nothing.
+-- `entry_answer` meets its contract. Assumes nothing.
 use borrow.Author.Needs.{needs}
 use denote.Ref.{now}
 use mathlib.Core.Path.{_≡_, ap, _∙_}
@@ -8,11 +8,11 @@ use borrow.Author.Tests.{eq-eqb, ne-eqb}
 use lib.ListN.{length}
 use Rattle.layout.specs.Fields.{at16, at32}
 use Rattle.layout.specs.Sizes.{blockOffset, blockCount}
-use Rattle.image.specs.Opening.{entryOk}
+use Rattle.image.specs.Opening.{entryAnswer}
 use Rattle.image.specs.Reading.{offsetIn, lengthIn, headerIn, entryZeroIn}
 use Rattle.image.proofs.Places.{Within, within}
-use Rattle.image.proofs.entries.entry_ok.Statement.{statement}
-use Rattle.image.proofs.entries.entry_ok.Tie as tie
+use Rattle.image.proofs.entries.entry_answer.Statement.{statement}
+use Rattle.image.proofs.entries.entry_answer.Tie as tie
 use Rattle.whole.specs.Frames.{frameCount}
 
 -- the entry and its body's first byte are within the image
@@ -52,6 +52,9 @@ mul-offset c = let w = inside c in omega (arith, w .start)
 add-offset : tie.Need-add-offset
 add-offset c = let w = inside c in omega (arith, w .start, w .all, w .further, c .before .before .before .pre .1)
 
+cast-block : tie.Need-cast-block
+cast-block c = let w = inside c in omega (arith, w .small)
+
 get32-requires : tie.Need-get32-requires
 get32-requires c κs = let w = inside c in omega (arith, w .entry, c .before .entry-place .ensures)
 
@@ -59,7 +62,7 @@ cast-if1 : tie.Need-cast-if1
 cast-if1 c = search needs
 
 returns : tie.Need-returns
-unfolding entryOk
+unfolding entryAnswer
 returns c = simp (← offset (c .before), ← begins (c .before .before), ne-eqb _ _ (c .if1 .taken))
 
 add-get32 : tie.Need-add-get32
@@ -75,7 +78,7 @@ block-length-requires : tie.Need-block-length-requires
 block-length-requires c κs = let p = c .before .before .before .before .before .before .pre in (p .0, p .2)
 
 returns-2 : tie.Need-returns-2
-unfolding entryOk
+unfolding entryAnswer
 returns-2 c = simp (
   ← offset (c .before .before .before .before),
   ← begins (c .before .before .before .before .before),
@@ -92,7 +95,7 @@ get16-requires : tie.Need-get16-requires
 get16-requires c κs = let d = c .before .before .before .before .before in let w = inside d in omega (arith, w .entry, d .before .entry-place .ensures)
 
 returns-3 : tie.Need-returns-3
-unfolding entryOk
+unfolding entryAnswer
 returns-3 c = let d = c .before .before .before in
     simp (
       ← offset (d .before .before .before),
@@ -118,28 +121,49 @@ byte-requires : tie.Need-byte-requires
 byte-requires c κs = search needs
 
 returns-4 : tie.Need-returns-4
-unfolding entryOk
-returns-4 c = let d = c .before .before .before .before .before .before in
+unfolding entryAnswer
+returns-4 c = let b = c .before in
+    let d = b .before .before .before .before .before .before in
     simp (
       ← offset (d .before .before .before),
       ← begins (d .before .before .before .before),
       eq-eqb _ _ (d .before .before .if1 .left),
       ← nibbles (d .before),
       ← d .block-length .ensures .0,
-      eq-eqb _ _ (c .before .before .before .before .before .if2 .left),
-      ← zeros (c .before .before .before .before),
-      eq-eqb _ _ (c .before .before .before .if3 .left),
-      ← header (c .before .before),
-      c .byte .ensures,
+      eq-eqb _ _ (b .before .before .before .before .before .if2 .left),
+      ← zeros (b .before .before .before .before),
+      eq-eqb _ _ (b .before .before .before .if3 .left),
+      ← header (b .before .before),
+      ← b .byte .ensures,
+      ne-eqb _ _ (c .if4 .taken),
     )
 
-pub entry-ok-spec : {M : Type 1} → statement M
-entry-ok-spec =
+returns-5 : tie.Need-returns-5
+unfolding entryAnswer
+returns-5 c = let b = c .before in
+    let d = b .before .before .before .before .before .before in
+    simp (
+      ← offset (d .before .before .before),
+      ← begins (d .before .before .before .before),
+      eq-eqb _ _ (d .before .before .if1 .left),
+      ← nibbles (d .before),
+      ← d .block-length .ensures .0,
+      eq-eqb _ _ (b .before .before .before .before .before .if2 .left),
+      ← zeros (b .before .before .before .before),
+      eq-eqb _ _ (b .before .before .before .if3 .left),
+      ← header (b .before .before),
+      ← b .byte .ensures,
+      eq-eqb _ _ (c .if4 .left),
+    )
+
+pub entry-answer-spec : {M : Type 1} → statement M
+entry-answer-spec =
     tie.close
     (tie.spec
     entry-place-requires
     mul-offset
     add-offset
+    cast-block
     get32-requires
     cast-if1
     returns
@@ -155,4 +179,5 @@ entry-ok-spec =
     get16-requires-2
     shared-slice-read-byte
     byte-requires
-    returns-4)
+    returns-4
+    returns-5)

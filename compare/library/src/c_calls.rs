@@ -1,0 +1,93 @@
+//! Each call that reads an image, through C and as documents 01 and 02 say, every field of its answer and the whole output.
+
+use crate::ffi::{self, Body, Comparison, Context, Head, Opening, Playback};
+use crate::reading::pattern;
+use crate::tally::Tally;
+use image_list::reader::{Opened, Played, Refused, same};
+use oracle::FrameContext;
+
+/// An image as it is read, whether it opens or not.
+pub type Read<'i> = Result<Opened<'i>, Refused>;
+
+/// The code and the entry of an answer.
+fn begun<T>(answer: &Result<T, Refused>) -> (u32, u32) {
+    answer.as_ref().err().map_or((0, 0), |refused| (refused.code.into(), refused.block))
+}
+
+/// What is shown of an image where answers differ.
+fn shown(image: &[u8]) -> &[u8] {
+    &image[..image.len().min(1000)]
+}
+
+fn context(context: FrameContext) -> Context {
+    let FrameContext { predictor_and_scale, last_samples } = context;
+    Context { predictor_and_scale, last_samples }
+}
+
+fn head(opened: &Opened) -> Head {
+    let Opened { total, rate, block, gain, coefficients, .. } = *opened;
+    Head { total, rate, block, gain, coefficients, blocks: opened.entries.len() as u32 }
+}
+
+/// Opens an image.
+pub fn compare_open(image: &[u8], read: &Read, tally: &mut Tally) {
+    let (code, entry) = begun(read);
+    let head = read.as_ref().map(head).unwrap_or_default();
+    tally.compare("open", &shown(image), ffi::open(image), Opening { code, entry, head });
+}
+
+/// Finds the body of block `k`.
+pub fn compare_body(image: &[u8], read: &Read, k: u32, tally: &mut Tally) {
+    let found = opened(read).and_then(|opened| Ok((opened, opened.entry(k as usize)?)));
+    let (code, entry) = begun(&found);
+    let mut right = Body { code, entry, ..Body::default() };
+    if let Ok((opened, found)) = found {
+        right.offset = found.offset as u32;
+        right.bytes = opened.body(found).len() as u32;
+        right.nibbles = found.nibbles as u32;
+        right.context = context(found.context);
+    }
+    tally.compare("block_body", &(shown(image), k), ffi::block_body(image, k), right);
+}
+
+/// The image where it opens, else why not.
+fn opened<'r, 'i>(read: &'r Read<'i>) -> Result<&'r Opened<'i>, Refused> {
+    read.as_ref().map_err(|refused| *refused)
+}
+
+/// Plays block `k` with a room.
+pub fn compare_play(image: &[u8], read: &Read, k: u32, room: usize, tally: &mut Tally) {
+    let mut out = pattern(room);
+    let library = ffi::play(image, k, &mut out);
+    let played = opened(read).and_then(|opened| opened.play(k as usize, room));
+    let (right, right_out) = right_playback(room, played);
+    tally.compare("play", &(shown(image), k, room), library, right);
+    tally.compare("play's output", &(shown(image), k, room), out, right_out);
+}
+
+/// Plays all blocks with a room.
+pub fn compare_play_all(image: &[u8], read: &Read, room: usize, tally: &mut Tally) {
+    let mut out = pattern(room);
+    let library = ffi::play_all(image, &mut out);
+    let played = opened(read).and_then(|opened| opened.play_all(room));
+    let (right, right_out) = right_playback(room, played);
+    tally.compare("play_all", &(shown(image), room), library, right);
+    tally.compare("play_all's output", &(shown(image), room), out, right_out);
+}
+
+/// The answer of playing, and the output after it.
+fn right_playback(room: usize, played: Played) -> (Playback, Vec<i16>) {
+    let (code, entry) = begun(&played);
+    let (samples, after) = played.unwrap_or_default();
+    let mut out = pattern(room);
+    out[..samples.len()].copy_from_slice(&samples);
+    (Playback { code, entry, samples: samples.len() as u64, context: context(after) }, out)
+}
+
+/// Compares two images.
+pub fn compare_same(first: &[u8], second: &[u8], tally: &mut Tally) {
+    let right = same(first, second);
+    let (code, entry) = begun(&right);
+    let right = Comparison { code, entry, same: right.unwrap_or_default().into() };
+    tally.compare("same", &(shown(first), shown(second)), ffi::same(first, second), right);
+}

@@ -1,0 +1,66 @@
+//! Damaged contents, through C: each byte of head and table, all pairs of them, and two refused images in every order.
+
+use crate::damaging::Damaging;
+use crate::tally::Tally;
+use image_list::{Fault, HEAD, LOWEST, PAIRS, any_image, clip_image};
+use oracle::random::Random;
+
+/// Eight damages of a small image, and bad entries behind the first 65,536 and at the end of the longest table.
+pub fn fixed(tally: &mut Tally) {
+    let mut random = Random::new(1);
+    let image = clip_image(&mut random, 15, 8);
+    let mut damaging = Damaging::new(&mut random, tally, &image);
+    for places in [&[59][..], &[79], &[87], &[64], &[96], &[65, 75], &[71, 65], &[55, 59]] {
+        let changes: Vec<_> = places.iter().map(|place| (*place, 1)).collect();
+        damaging.compare_with(&changes);
+    }
+    let longest = longest();
+    let mut damaging = Damaging::new(&mut random, tally, &longest);
+    for (fault, k) in
+        [(Fault::Offset, 65_536), (Fault::Length, 1_048_575), (Fault::Body, 1_048_575)]
+    {
+        damaging.compare_with(&[(fault.places(&longest, k).start, 1)]);
+    }
+}
+
+/// Silence of 14,680,064 samples in blocks of one frame.
+fn longest() -> Vec<u8> {
+    let blocks = 1_048_576;
+    let mut image = [&b"DSPC"[..], &[0, 0xe0, 0, 0, 0, 0, 0, 1, 0, 0, 0, 8]].concat();
+    image.resize(HEAD - 4, 0);
+    image.extend(u32::to_be_bytes(blocks));
+    for k in 0..blocks {
+        image.extend((56 + 16 * blocks + 8 * k).to_be_bytes());
+        image.extend([0, 0, 0, 16, 0, 0, 0, 0, 0, 0, 0, 0]);
+    }
+    image.resize(image.len() + 8 * blocks as usize, 0);
+    image
+}
+
+/// An image of 2 to 12 blocks, damaged in all ways.
+pub fn random(random: &mut Random, tally: &mut Tally) {
+    let image = image(random);
+    let mut damaging = Damaging::new(random, tally, &image);
+    damaging.bytes();
+    damaging.pairs();
+    damaging.lengths();
+    damaging.orders();
+}
+
+/// A small image, of a clip or of any bytes, with bytes after it sometimes, and sometimes with a pair that is not played.
+fn image(random: &mut Random) -> Vec<u8> {
+    let per_block = 1 + random.below(3);
+    let blocks = 2 + random.below(11);
+    let frames = per_block * blocks - random.below(per_block);
+    let total = 14 * frames - random.below(14);
+    let size = (8 * per_block + random.below(8)) as u32;
+    let mut image = match random.below(2) {
+        0 => any_image(random, total, size),
+        _ => clip_image(random, total, size),
+    };
+    if random.below(8) == 0 {
+        image[PAIRS + 4..PAIRS + 8].copy_from_slice(&LOWEST);
+    }
+    image.resize(image.len() + random.below_one(&[1, 20]), 0x5a);
+    image
+}

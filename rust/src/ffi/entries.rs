@@ -1,0 +1,142 @@
+//! The five calls that test a table name the same entry, and beside it an answer is as a refused one; beside every other code there is no entry.
+
+use super::*;
+
+/// A verdict: the code, and the block whose entry is bad.
+type Verdict = (u32, u32);
+
+/// The closed image of a clip of silence, in blocks of 8 bytes.
+fn silence(total: u32) -> Vec<u8> {
+    let (coefficients, history) = (Coefficients([0; 16]), History { newest: 0, older: 0 });
+    let clip = Start { total, rate: 32_000, block_size: 8, gain: 0, coefficients, history };
+    let mut image = vec![0; image_size(total, 8) as usize];
+    let started = start(&clip, &mut image).encoder;
+    let fed = feed(started, &vec![0; total as usize], &mut image).encoder;
+    assert_eq!(close(fed, &mut image).code, 0);
+    image
+}
+
+/// The image with the lowest bit of each of these bytes turned over.
+fn altered(image: &[u8], places: &[usize]) -> Vec<u8> {
+    let mut damaged = image.to_vec();
+    for &place in places {
+        damaged[place] ^= 1;
+    }
+    damaged
+}
+
+fn opening_says(image: &[u8]) -> Verdict {
+    let Opening { code, entry, head } = open(image);
+    if code != 0 {
+        let coefficients = Coefficients([0; 16]);
+        let none = Head { total: 0, rate: 0, block: 0, gain: 0, coefficients, blocks: 0 };
+        assert_eq!(head, none);
+    }
+    (code, entry)
+}
+
+fn body_says(image: &[u8], k: u32) -> Verdict {
+    let Body { code, entry, offset, bytes, nibbles, context } = block_body(image, k);
+    if code != 0 {
+        assert_eq!((offset, bytes, nibbles, context), (0, 0, 0, FrameContext::default()));
+    }
+    (code, entry)
+}
+
+/// What playing with this room says: a refused call writes nothing.
+fn playback_says(room: usize, call: impl FnOnce(&mut [i16]) -> Playback) -> Verdict {
+    let mut out = vec![0x5a5a; room];
+    let Playback { code, entry, samples, context } = call(&mut out);
+    if code != 0 {
+        assert_eq!((samples, context), (0, FrameContext::default()));
+        assert!(out.iter().all(|sample| *sample == 0x5a5a));
+    }
+    (code, entry)
+}
+
+fn comparison_says(first: &[u8], second: &[u8]) -> Verdict {
+    let Comparison { code, entry, same } = same(first, second);
+    assert!(code == 0 || !same);
+    (code, entry)
+}
+
+/// The one verdict of all calls on a damaged image, whatever else would be wrong after it: the block's number, the room, the other image.
+fn verdict(damaged: &[u8], whole: &[u8]) -> Verdict {
+    let verdict = opening_says(damaged);
+    assert_ne!(verdict.0, 0);
+    for k in [0, 1, 2, u32::MAX] {
+        assert_eq!(body_says(damaged, k), verdict);
+        for room in [0, 14] {
+            assert_eq!(playback_says(room, |out| play(damaged, k, out)), verdict);
+        }
+    }
+    for room in [0, 100] {
+        assert_eq!(playback_says(room, |out| play_all(damaged, out)), verdict);
+    }
+    assert_eq!(comparison_says(damaged, whole), verdict);
+    assert_eq!(comparison_says(whole, damaged), verdict);
+    assert_eq!(comparison_says(damaged, &whole[..10]), verdict);
+    assert_eq!(comparison_says(&whole[..10], damaged), (15, 0));
+    verdict
+}
+
+/// Entries at 56 and 72, bodies at 88 and 96.
+#[test]
+fn the_worked_table() {
+    let whole = silence(15);
+    assert_eq!(whole.len(), 98);
+    for (places, expected) in [
+        (&[59][..], (20, 0)),
+        (&[79], (21, 1)),
+        (&[87], (21, 1)),
+        (&[64], (22, 0)),
+        (&[96], (22, 1)),
+        (&[65, 75], (22, 0)),
+        (&[71, 65], (21, 0)),
+        (&[55, 59], (15, 0)),
+    ] {
+        assert_eq!(verdict(&altered(&whole, places), &whole), expected, "{places:?}");
+    }
+}
+
+#[test]
+fn every_pair_of_bytes_of_the_table() {
+    let whole = silence(40);
+    let table = 56..56 + 16 * 3;
+    let is_tested = |place: &usize| !(10..14).contains(&((place - 56) % 16));
+    let places: Vec<usize> = table.filter(is_tested).collect();
+    let mut seen = std::collections::BTreeSet::new();
+    for &a in &places {
+        for &b in &places {
+            let places = if a == b { &[a][..] } else { &[a, b] };
+            seen.insert(verdict(&altered(&whole, places), &whole));
+        }
+    }
+    let expected = [20, 21, 22].into_iter().flat_map(|code| (0..3).map(move |k| (code, k)));
+    assert!(seen.into_iter().eq(expected));
+}
+
+#[test]
+fn beside_an_accepted_call_there_is_none() {
+    let whole = silence(15);
+    assert_eq!(opening_says(&whole), (0, 0));
+    assert_eq!(body_says(&whole, 1), (0, 0));
+    assert_eq!(playback_says(14, |out| play(&whole, 1, out)), (0, 0));
+    assert_eq!(playback_says(15, |out| play_all(&whole, out)), (0, 0));
+    assert_eq!(comparison_says(&whole, &whole), (0, 0));
+    let (coefficients, context) = (Coefficients([0; 16]), FrameContext::default());
+    let bytes = |out: &mut [i16]| play_bytes(&[0; 8], 16, &coefficients, context, out);
+    assert_eq!(playback_says(14, bytes), (0, 0));
+}
+
+#[test]
+fn beside_13_there_is_none() {
+    let whole = silence(15);
+    let mut lowest = whole.clone();
+    lowest[16..20].copy_from_slice(&[0x80, 0, 0x80, 0]);
+    assert_eq!(playback_says(14, |out| play(&lowest, 1, out)), (13, 0));
+    assert_eq!(playback_says(15, |out| play_all(&lowest, out)), (13, 0));
+    assert_eq!(comparison_says(&lowest, &altered(&whole, &[79])), (13, 0));
+    assert_eq!(comparison_says(&altered(&whole, &[79]), &lowest), (21, 1));
+    assert_eq!(comparison_says(&whole, &lowest), (13, 0));
+}
