@@ -20,7 +20,7 @@ use Rattle.layout.specs.Limits.{Limits}
 use Rattle.layout.specs.Sizes.{bodiesPlace, lastSamples, blockCount, bodyBytes, imageSize, blockOffset, blockLength}
 use Rattle.whole.specs.Frames.{frameCount}
 use Rattle.layout.proofs.SizeLaws.{block-place, block-first}
-use Rattle.whole.specs.Outcome.{Outcome, accepted, refusedAt}
+use Rattle.whole.specs.Outcome.{accepted, refusedAt}
 use Rattle.image.specs.Reading.{shapeIn, totalIn, blockIn, blocksIn, coefficientsIn, offsetIn, lengthIn, headerIn, newestIn, olderIn}
 use Rattle.image.specs.Opening.{openAnswer}
 use Rattle.image.specs.inner.Asked.{Found, Playable}
