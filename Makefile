@@ -1,6 +1,6 @@
 # Builds libdoilycairn.a, the examples in C and C++ and the tool; installs the header, the archive, the pkg-config file and the tool where it is built.
 
-VERSION = 0.2.0
+VERSION := $(shell awk '/define DOILYCAIRN_VERSION_/ {v = v dot $$3; dot = "."} END {print v}' include/doilycairn.h)
 PREFIX ?= /usr/local
 DESTDIR ?=
 CFLAGS ?= -O2 -g

@@ -27,7 +27,8 @@ int main(int argc, char **argv) {
 
     size_t count = opened.head.total;
     int16_t *samples = allocate(count, sizeof *samples);
-    check("play all", doilycairn_play_all(image, image_len, samples, count).code);
+    doilycairn_playback played = doilycairn_play_all(image, image_len, samples, count);
+    check_reading("play all", played.code, played.entry);
     uint8_t *bytes = to_bytes(samples, count);
     write_file(argv[2], bytes, 2 * count);
     printf("%s: %zu samples at %u, %u blocks\n", argv[2], count, (unsigned)opened.head.rate, (unsigned)opened.head.blocks);

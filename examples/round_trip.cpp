@@ -19,10 +19,11 @@ template <class T> static const T *lent(const std::vector<T> &elements) {
 // What a call gave, if it is a refusal: thrown, so that nothing goes on.
 struct Refusal {
     std::uint32_t code;
+    std::uint32_t entry; // with 20, 21 and 22 the block whose entry is bad
 };
 
-static void check(std::uint32_t code) {
-    if (code != DOILYCAIRN_ACCEPTED) throw Refusal{code};
+static void check(std::uint32_t code, std::uint32_t entry = 0) {
+    if (code != DOILYCAIRN_ACCEPTED) throw Refusal{code, entry};
 }
 
 static std::vector<std::uint8_t> encode(const std::vector<std::int16_t> &clip) {
@@ -44,9 +45,10 @@ static std::vector<std::uint8_t> encode(const std::vector<std::int16_t> &clip) {
 
 static std::vector<std::int16_t> play(const std::vector<std::uint8_t> &image) {
     const auto opened = doilycairn_open(lent(image), image.size());
-    check(opened.code);
+    check(opened.code, opened.entry);
     std::vector<std::int16_t> out(opened.head.total);
-    check(doilycairn_play_all(lent(image), image.size(), lent(out), out.size()).code);
+    const auto played = doilycairn_play_all(lent(image), image.size(), lent(out), out.size());
+    check(played.code, played.entry);
     return out;
 }
 

@@ -9,7 +9,7 @@
 /* Writes what a code says, in words, after the block whose entry is bad if the code speaks of one. */
 void write_message(FILE *out, uint32_t code, uint32_t entry);
 
-/* Ends the program with exit status 2 and the refusal's message, unless the call was accepted. */
+/* Ends the program with exit status 2 and the refusal's message, unless the call, one that reads no image, was accepted. */
 void check(const char *call, uint32_t code);
 
 /* The same for a call that reads an image, whose answer may name a block. */

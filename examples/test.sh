@@ -77,7 +77,12 @@ damage 161
 refused "same: block 6: the entry's predictor-and-scale is not the body's first byte (refusal 22)" "$bin/compare" damaged clip
 damage $((56 + 16 * 7 + 4096))
 refused "open: block 1: the entry's predictor-and-scale is not the body's first byte (refusal 22)" "$bin/play" damaged damaged.raw
-[ ! -e none ] && [ ! -e cut.raw ] && [ ! -e damaged.raw ]
+for file in none cut.raw damaged.raw; do
+    if [ -e $file ]; then
+        echo "failed: $file was written" >&2
+        exit 1
+    fi
+done
 
 expect 0 "$bin/refusals"
 # The image that docs/FORMAT.md explains byte by byte.

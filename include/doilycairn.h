@@ -47,6 +47,11 @@ extern "C" {
 #define DOILYCAIRN_CHECK(condition) _Static_assert(condition, #condition)
 #endif
 
+/* The version of this header and of its archive. Where the second number is another, programs have to be compiled anew. */
+#define DOILYCAIRN_VERSION_MAJOR 0
+#define DOILYCAIRN_VERSION_MINOR 2
+#define DOILYCAIRN_VERSION_PATCH 0
+
 /* Samples in a frame, and its bytes: a header byte, then two nibbles a byte. */
 #define DOILYCAIRN_FRAME_SAMPLES 14
 #define DOILYCAIRN_FRAME_BYTES 8

@@ -169,7 +169,7 @@ impl Refusal {
         })
     }
 
-    /// What went wrong, in words.
+    /// What went wrong, in words alone; as text (`Display`) a refusal has its block and its number too.
     pub const fn message(self) -> &'static str {
         match self {
             Refusal::InvalidState => "the state is not one that a run of calls gives",

@@ -39,10 +39,7 @@ fn one(args: &Args, job: &Job, console: &Console) -> Result<Status, Failure> {
     let file = ImageFile::read(job.input)?;
     match tested(&file.bytes) {
         Ok((head, seams)) => sound(job, &file, &head, &seams, args.has("--strict"), console),
-        Err(refusal) => {
-            let found = all_findings(&file.bytes, refusal);
-            damaged(job, &file, refusal, &found, console)
-        }
+        Err(refusal) => damaged(job, &file, refusal, console),
     }
 }
 
@@ -86,23 +83,23 @@ fn damaged(
     job: &Job,
     file: &ImageFile,
     refusal: Refusal,
-    found: &[Finding],
     console: &Console,
 ) -> Result<Status, Failure> {
+    let found = || all_findings(&file.bytes, refusal);
     let mut fields = path_fields("input", "input_hex", job.input);
     fields.push(("sound", Json::Bool(false)));
     fields.extend(refusal_fields(Some(refusal)));
     fields.extend([
         ("message", Json::text(refusal.message())),
-        ("findings", Json::list(found.iter().map(finding_json))),
+        ("findings", Json::list(found().map(finding_json))),
     ]);
     console.answer(Status::No, fields, Words::Status, |out| {
-        let words = Paint::of(Stream::Out).text(Colour::Bad, &verdict(refusal, found));
+        let words = Paint::of(Stream::Out).text(Colour::Bad, &verdict(refusal, found().next()));
         writeln!(out, "{}: {words}", file.name)?;
         if is_dsp(job.input) {
             writeln!(out, "  {NO_DSP}")?;
         }
-        tell(found, out)
+        tell(found(), out)
     })
 }
 
@@ -113,46 +110,46 @@ fn tested(bytes: &[u8]) -> Result<(Head, Vec<Seam>), Refusal> {
 }
 
 /// What looks wrong in the head or the table, or the pair that cannot be played.
-fn all_findings(bytes: &[u8], refusal: Refusal) -> Vec<Finding> {
+fn all_findings(bytes: &[u8], refusal: Refusal) -> Box<dyn Iterator<Item = Finding> + '_> {
     if refusal != Refusal::LowestPair {
-        return findings(bytes);
+        return Box::new(findings(bytes));
     }
     let pairs = bytes[16..48].chunks(4).enumerate();
     let lowest = pairs.filter(|(_, pair)| *pair == [0x80, 0, 0x80, 0]);
-    let finding = |(i, _): (usize, &[u8])| Finding {
+    let finding = move |(i, _): (usize, &[u8])| Finding {
         refusal,
         byte: 16 + 4 * i,
         words: format!("pair {i} of the coefficients is -32,768 twice"),
     };
-    lowest.map(finding).collect()
+    Box::new(lowest.map(finding))
 }
 
-fn finding_json<'a>(finding: &Finding) -> Json<'a> {
+fn finding_json<'a>(finding: Finding) -> Json<'a> {
     let mut fields = vec![("byte", Json::Whole(finding.byte as i64))];
     fields.extend(refusal_fields(Some(finding.refusal)));
-    fields.push(("message", Json::text(&finding.words)));
+    fields.push(("message", Json::text(finding.words)));
     Json::Object(fields)
 }
 
 /// The library's verdict; where an entry is bad, in the words of the first finding.
-fn verdict(refusal: Refusal, found: &[Finding]) -> String {
-    match (refusal.block(), found.first()) {
+fn verdict(refusal: Refusal, first: Option<Finding>) -> String {
+    match (refusal.block(), first) {
         (Some(block), Some(first)) => {
-            format!("block {}: {} (refusal {})", count(block), first.words, refusal.number())
+            format!("block {block}: {} (refusal {})", first.words, refusal.number())
         }
         _ => refusal.to_string(),
     }
 }
 
 /// What was found; only the byte, where the verdict has the words.
-fn tell(found: &[Finding], out: &mut dyn Write) -> io::Result<()> {
-    for (i, finding) in found.iter().take(TOLD).enumerate() {
+fn tell(mut found: impl Iterator<Item = Finding>, out: &mut dyn Write) -> io::Result<()> {
+    for (i, finding) in found.by_ref().take(TOLD).enumerate() {
         match (i, finding.refusal.block()) {
             (0, Some(_)) => writeln!(out, "  at byte {}", count(finding.byte as u64))?,
             _ => writeln!(out, "  {finding}")?,
         }
     }
-    match found.len().saturating_sub(TOLD) {
+    match found.count() {
         0 => Ok(()),
         more => writeln!(out, "  and {} more; --json lists all", count(more as u64)),
     }

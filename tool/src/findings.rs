@@ -31,7 +31,7 @@ impl fmt::Display for Finding {
     fn fmt(&self, f: &mut fmt::Formatter) -> fmt::Result {
         match self.refusal.block() {
             Some(block) => {
-                let (byte, block) = (count(self.byte as u64), count(block));
+                let byte = count(self.byte as u64);
                 write!(f, "byte {byte}, block {block}: {}", self.words)
             }
             None => f.write_str(&self.at_byte()),
@@ -40,10 +40,11 @@ impl fmt::Display for Finding {
 }
 
 /// All that looks wrong: in the head, or else in the table of blocks. They stand in the sequence in which the library tests, so
-/// that the first calls for the refusal that it gives.
-pub fn findings(bytes: &[u8]) -> Vec<Finding> {
+/// that the first calls for the refusal that it gives. They are made as they are asked for: a long table may have millions.
+pub fn findings(bytes: &[u8]) -> impl Iterator<Item = Finding> {
     let in_head = head_findings(bytes);
-    if in_head.is_empty() { entry_findings(bytes) } else { in_head }
+    let blocks = if in_head.is_empty() { be32(bytes, 52) as usize } else { 0 };
+    in_head.into_iter().chain((0..blocks).flat_map(|k| entry_findings(bytes, k)))
 }
 
 fn be32(bytes: &[u8], at: usize) -> u32 {
@@ -116,26 +117,25 @@ fn sizes(len: usize, blocks: u32, total: u32, block: u32, size: usize) -> Vec<Fi
     found
 }
 
-/// Entries that do not fit a head that is as it should be, by rising block.
-fn entry_findings(bytes: &[u8]) -> Vec<Finding> {
+/// What is wrong with the entry of block `k`, of a head that is as it should be.
+fn entry_findings(bytes: &[u8], k: usize) -> Vec<Finding> {
     let [total, block, blocks] = [4, 12, 52].map(|at| be32(bytes, at) as usize);
-    let mut found = vec![];
-    for k in 0..blocks {
-        let frames = total.div_ceil(14).saturating_sub(k * block / 8).min(block / 8);
-        let samples = (total - 14 * k * (block / 8)).min(14 * frames);
-        let offset = HEAD + ENTRY * blocks + block * k;
-        let nibbles = samples + 2 * frames;
-        found.extend(entry(bytes, k, offset, nibbles));
-    }
-    found
+    let frames = total.div_ceil(14).saturating_sub(k * block / 8).min(block / 8);
+    let samples = (total - 14 * k * (block / 8)).min(14 * frames);
+    let offset = HEAD + ENTRY * blocks + block * k;
+    entry(bytes, k, offset, samples + 2 * frames)
 }
 
-/// What is wrong with the entry of block `k`, by rising refusal.
+/// What is wrong with an entry that should have this offset and this length, by rising refusal.
 fn entry(bytes: &[u8], k: usize, offset: usize, nibbles: usize) -> Vec<Finding> {
     let (at, block) = (HEAD + ENTRY * k, k as u32);
     let tests = [
-        (Refusal::BadOffset { block }, at, number("offset", be32(bytes, at), offset)),
-        (Refusal::BadLength { block }, at + 4, number("length", be32(bytes, at + 4), nibbles)),
+        (Refusal::BadOffset { block }, at, number("offset", be32(bytes, at), offset, "")),
+        (
+            Refusal::BadLength { block },
+            at + 4,
+            number("length", be32(bytes, at + 4), nibbles, " nibbles"),
+        ),
         (Refusal::BadLength { block }, at + 14, zero_bytes(&bytes[at + 14..at + 16])),
         (Refusal::BadHeader { block }, at + 8, header(&bytes[at + 8..at + 10], offset, bytes)),
     ];
@@ -145,15 +145,16 @@ fn entry(bytes: &[u8], k: usize, offset: usize, nibbles: usize) -> Vec<Finding> 
     tests.into_iter().filter_map(finding).collect()
 }
 
-/// What is wrong with an entry's number.
-fn number(name: &str, has: u32, wanted: usize) -> Option<String> {
-    let words = || format!("its {name} is {} and not {}", count(has), count(wanted as u64));
+/// What is wrong with an entry's number, in this unit.
+fn number(name: &str, has: u32, wanted: usize, unit: &str) -> Option<String> {
+    let words = || format!("its {name} is {} and not {}{unit}", count(has), count(wanted as u64));
     (has as usize != wanted).then(words)
 }
 
 /// What is wrong with an entry's zero bytes.
 fn zero_bytes(has: &[u8]) -> Option<String> {
-    (has != [0, 0]).then(|| format!("its zero bytes are {:02x} {:02x}", has[0], has[1]))
+    (has != [0, 0])
+        .then(|| format!("its zero bytes are {:02x} {:02x} and not 00 00", has[0], has[1]))
 }
 
 /// What is wrong with an entry's header, of a body at this offset.

@@ -75,7 +75,7 @@ impl ImageFile {
     /// Opens it; a refusal comes with the first thing that looks wrong.
     pub fn open(&self) -> Result<Image<'_>, Failure> {
         Image::open(&self.bytes).map_err(|refusal| {
-            let first = findings(&self.bytes).into_iter().next();
+            let first = findings(&self.bytes).next();
             let failure = Failure::refused(&self.name, refusal)
                 .with(first.map(|first| format!("; {}", first.at_byte())).unwrap_or_default());
             if self.is_dsp { failure.with(format!("; {NO_DSP}")) } else { failure }

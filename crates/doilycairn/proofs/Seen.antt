@@ -7,7 +7,7 @@ use lib.IntN.{ℤ, pos}
 use Rattle.block.specs.declared.FrameContext.{FrameContext}
 use Rattle.block.specs.Context.{newContext}
 use Rattle.block.specs.Frame.{Playing, playing}
-use Rattle.whole.specs.Outcome.{Outcome, accepted, refusedAt, Effect, effect}
+use Rattle.whole.specs.Outcome.{Outcome, accepted, refusedAt, outcomeCode, outcomeEntry, Effect, effect}
 use Rattle.clip.specs.declared.Encoder.{Encoder}
 use Rattle.clip.specs.Encoding as Clip
 use Rattle.coefficients.specs.declared.CoefficientCalculator.{CoefficientCalculator}
@@ -25,7 +25,6 @@ use Rattle.doilycairn.specs.declared.reading.Opening.{Opening}
 use Rattle.doilycairn.specs.declared.writing.Frame.{Frame}
 use Rattle.doilycairn.specs.Blocks as Blocks
 use Rattle.doilycairn.specs.Blocks.{joinedAnswer, playSeen, joinSeen}
-use Rattle.doilycairn.specs.Codes.{outcomeCode, outcomeEntry}
 use Rattle.doilycairn.specs.Measuring.{processSeen, finishSeen}
 use Rattle.doilycairn.specs.Reading.{openSeen, bodyAt, handed, bodyInC}
 use Rattle.doilycairn.specs.Writing.{frameCode, frameSeen, clipSeen}

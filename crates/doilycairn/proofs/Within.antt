@@ -4,10 +4,9 @@ use mathlib.Core.Path.{_≡_, refl}
 use Prim.Native.Nat.{ℕ, _+_, _≤_}
 use native.Mathlib.Omega.{arith}
 use lib.ListN.{length}
-use Rattle.whole.specs.Outcome.{Outcome, accepted, refusedAt, ifAccepted}
+use Rattle.whole.specs.Outcome.{Outcome, accepted, refusedAt, ifAccepted, outcomeCode, outcomeEntry}
 use Rattle.block.specs.Context.{newContext}
 use Rattle.doilycairn.specs.declared.reading.Body.{Body}
-use Rattle.doilycairn.specs.Codes.{outcomeCode, outcomeEntry}
 use Rattle.image.specs.Bodies.{blockAnswer}
 use Rattle.image.proofs.LawsBody.{block-accepted, found-end}
 use Rattle.doilycairn.specs.Reading.{bodyAt, bodyInC}

@@ -4,8 +4,7 @@ use Prim.Native.Nat.{ℕ}
 use lib.IntN.{ℤ}
 use Rattle.block.specs.declared.FrameContext.{FrameContext}
 use Rattle.block.specs.Frame.{Playing}
-use Rattle.whole.specs.Outcome.{Outcome, valueOr, Effect, effect}
-use Rattle.doilycairn.specs.Codes.{outcomeCode, outcomeEntry}
+use Rattle.whole.specs.Outcome.{Outcome, valueOr, outcomeCode, outcomeEntry, Effect, effect}
 use Rattle.doilycairn.specs.declared.blocks.Joining.{Joining}
 use Rattle.doilycairn.specs.declared.blocks.Playback.{Playback}
 

@@ -1,9 +1,8 @@
 -- Measuring and asking for coefficients, as C sees them. Definitions only.
 use mathlib.Core.List.{List}
 use lib.Ieee.{Float}
-use Rattle.whole.specs.Outcome.{Outcome, Effect, effect}
+use Rattle.whole.specs.Outcome.{Outcome, outcomeCode, Effect, effect}
 use Rattle.coefficients.specs.Measure.{Measuring, FinishEffect}
-use Rattle.doilycairn.specs.Codes.{outcomeCode}
 use Rattle.doilycairn.specs.declared.measuring.Processed.{Processed}
 use Rattle.doilycairn.specs.declared.measuring.Finished.{Finished}
 

@@ -3,7 +3,7 @@ use mathlib.Core.Bool.{Bool, true, false}
 use mathlib.Core.List.{List}
 use Prim.Native.Nat.{ℕ, _+_, _/_}
 use lib.ListN.{take, drop}
-use Rattle.whole.specs.Outcome.{Outcome, valueOr, ifAccepted, Effect, effect}
+use Rattle.whole.specs.Outcome.{Outcome, valueOr, ifAccepted, outcomeCode, outcomeEntry, Effect, effect}
 use Rattle.block.specs.Context.{newContext}
 use Rattle.image.specs.declared.Answer.{Answer}
 use Rattle.image.specs.declared.Head.{Head}
@@ -14,7 +14,6 @@ use Rattle.image.specs.Playing.{contextIn}
 use Rattle.doilycairn.specs.declared.reading.Body.{Body}
 use Rattle.doilycairn.specs.declared.reading.Comparison.{Comparison}
 use Rattle.doilycairn.specs.declared.reading.Opening.{Opening}
-use Rattle.doilycairn.specs.Codes.{outcomeCode, outcomeEntry}
 
 -- the number of an answer
 abbrev pub codeOf : Answer → ℕ

@@ -8,8 +8,7 @@ use Rattle.clip.specs.Encoding as Clip
 use Rattle.whole.specs.declared.History.{History}
 use Rattle.frame.specs.declared.Verdict.{Verdict}
 use Rattle.frame.specs.Frame.{FrameEffect, outcome}
-use Rattle.whole.specs.Outcome.{Outcome, Effect, effect}
-use Rattle.doilycairn.specs.Codes.{outcomeCode}
+use Rattle.whole.specs.Outcome.{Outcome, outcomeCode, Effect, effect}
 use Rattle.doilycairn.specs.declared.writing.Frame.{Frame}
 use Rattle.doilycairn.specs.declared.writing.Encoding.{Encoding}
 

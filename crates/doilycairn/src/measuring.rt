@@ -1,9 +1,8 @@
 // Measuring samples and asking for coefficients (section 1).
 ghost use mathlib.Core.Path.{_≡_};
 ghost use Rattle.coefficients.specs.Measure.{fresh, outcome, process, finish};
-ghost use Rattle.doilycairn.specs.Codes.{outcomeCode};
 ghost use Rattle.doilycairn.specs.Measuring.{processSeen, finishSeen};
-ghost use Rattle.whole.specs.Outcome.{effect};
+ghost use Rattle.whole.specs.Outcome.{outcomeCode, effect};
 use coefficients::Answer;
 use coefficients::CoefficientCalculator;
 

@@ -14,9 +14,9 @@ use Rattle.whole.proofs.Outcomes.{not-both, same-number, same-block}
 use Rattle.layout.specs.declared.Shape.{Shape}
 use Rattle.layout.specs.Sizes.{blockCount, blockOffset, blockLength}
 use Rattle.image.specs.Reading.{shapeIn, offsetIn, lengthIn, headerIn, entryZeroIn}
-use Rattle.image.specs.FirstBad.{EntryFits, FirstCode, bad-offset, bad-length, bad-header, FirstBad, NotOpened, bad-head, bad-entry, RefusedAlike}
-use Rattle.image.specs.Opening.{andThen, headOk, entryAnswer, entriesAnswer, openAnswer, openImage}
-use Rattle.image.specs.Bodies.{blockAnswer}
+use Rattle.image.specs.FirstBad.{FirstCode, bad-offset, bad-length, bad-header, FirstBad, NotOpened, bad-head, bad-entry, RefusedAlike}
+use Rattle.image.specs.Opening.{andThen, EntryFits, headOk, entryAnswer, entriesAnswer, openAnswer, openImage}
+use Rattle.image.specs.Bodies.{blockAnswer, blockBody}
 use Rattle.image.specs.Playing.{playAnswer, play}
 use Rattle.image.specs.WholeImage.{allAnswer, playAll}
 use Rattle.image.specs.Sameness.{compareAnswer, bothAnswer, sameSound, same}
@@ -135,11 +135,12 @@ bad-named l n j (bad-entry f) =
 
 -- What opening is refused by, every call on the image is refused by, and names the same entry.
 pub refused-alike : (l m : List ℕ) (n j k : ℕ) (out : List ℤ) → openAnswer l ≡ refusedAt n j → RefusedAlike l m n j k out
-unfolding openImage blockAnswer play playAnswer playAll allAnswer same bothAnswer compareAnswer
+unfolding openImage blockAnswer blockBody play playAnswer playAll allAnswer same bothAnswer compareAnswer
 refused-alike l m n j k out p =
     record {
       opening = p;
       finding = rw p;
+      body = rw p;
       playing = rw p;
       playing-all = rw p;
       comparing = rw p;

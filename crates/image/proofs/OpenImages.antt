@@ -14,10 +14,9 @@ use Rattle.whole.proofs.Outcomes.{passed, passed-at}
 use Rattle.layout.specs.Sizes.{shape, blockCount, imageSize, blockOffset, blockLength}
 use Rattle.whole.specs.Frames.{most}
 use Rattle.layout.proofs.LimitLaws.{both-true, numbers-sound}
-use Rattle.whole.specs.Outcome.{Outcome, accepted}
+use Rattle.whole.specs.Outcome.{accepted}
 use Rattle.image.specs.Reading.{shapeIn, totalIn, rateIn, blockIn, zeroIn, blocksIn, offsetIn, lengthIn, headerIn, entryZeroIn}
-use Rattle.image.specs.FirstBad.{EntryFits}
-use Rattle.image.specs.Opening.{markOk, numbersFit, headOk, entryAnswer, entriesAnswer, openAnswer}
+use Rattle.image.specs.Opening.{EntryFits, markOk, numbersFit, headOk, entryAnswer, entriesAnswer, openAnswer}
 use Rattle.image.specs.inner.Asked.{Headed, Opens}
 use Rattle.image.proofs.TestsInTurn.{and-then}
 

@@ -47,7 +47,7 @@ abbrev pub as16 : {A : Type 0} → Outcome A → Outcome A
 as16 (accepted a) = accepted a
 as16 (refusedAt n j) = cond (leb 20 n && leb n 22) (refused 16) (refusedAt n j)
 
--- with 16 for 20, 21 and 22 every call on image l, or on l and m, answers as document 01 has it, and names no block
+-- with 16 for 20, 21 and 22 every call on image l, or on l and m, answers as document 01 has it, playing all by 15, 16, 13 and 14, and names no block
 pub record Where16Stood (l m : List ℕ) (k : ℕ) (out : List ℤ) : Type 0 where
   pub opening : as16 (openImage l .outcome) ≡ openAnswer16 l
   pub finding : as16 (blockAnswer l k) ≡ blockAnswer16 l k

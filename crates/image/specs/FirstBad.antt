@@ -1,6 +1,6 @@
 -- The first bad entry of an image. Definitions only.
 use mathlib.Core.Bool.{true, false}
-use mathlib.Core.List.{List}
+use mathlib.Core.List.{List, []}
 use mathlib.Core.Logic.{_⊎_, _≢_}
 use mathlib.Core.Path.{_≡_}
 use Prim.Native.Nat.{ℕ, _<_}
@@ -10,18 +10,11 @@ use Rattle.whole.specs.Outcome.{accepted, refusedAt}
 use Rattle.layout.specs.declared.Shape.{Shape}
 use Rattle.layout.specs.Sizes.{blockOffset, blockLength}
 use Rattle.image.specs.Reading.{shapeIn, blocksIn, offsetIn, lengthIn, headerIn, entryZeroIn}
-use Rattle.image.specs.Opening.{headOk, openImage}
-use Rattle.image.specs.Bodies.{blockAnswer}
+use Rattle.image.specs.Opening.{EntryFits, headOk, openImage}
+use Rattle.image.specs.Bodies.{blockAnswer, blockBody}
 use Rattle.image.specs.Playing.{play}
 use Rattle.image.specs.WholeImage.{playAll}
 use Rattle.image.specs.Sameness.{compareAnswer, same}
-
--- an entry with offset, length and zero bytes as in section 2, and its body's first byte as predictor-and-scale
-pub record EntryFits (l : List ℕ) (s : Shape) (j : ℕ) : Type 0 where
-  pub offset : offsetIn l j ≡ blockOffset s j
-  pub nibbles : lengthIn l j ≡ blockLength s j
-  pub zeros : entryZeroIn l j ≡ 0
-  pub header : headerIn l j ≡ getD l (blockOffset s j) 0
 
 -- the first of the codes 20, 21 and 22 that applies in an entry
 pub data FirstCode (l : List ℕ) (s : Shape) (j : ℕ) : ℕ → Type 0 where
@@ -29,7 +22,7 @@ pub data FirstCode (l : List ℕ) (s : Shape) (j : ℕ) : ℕ → Type 0 where
   bad-length : offsetIn l j ≡ blockOffset s j → (lengthIn l j ≢ blockLength s j) ⊎ (entryZeroIn l j ≢ 0) → FirstCode l s j 21
   bad-header : offsetIn l j ≡ blockOffset s j → lengthIn l j ≡ blockLength s j → entryZeroIn l j ≡ 0 → headerIn l j ≢ getD l (blockOffset s j) 0 → FirstCode l s j 22
 
--- of an image whose head 15 does not refuse: block j's entry is the first that is not so, and n the first code that applies in it
+-- of an image whose head 15 does not refuse: block j's entry is the first that is not as it should be, and n the first code that applies in it
 pub record FirstBad (l : List ℕ) (n j : ℕ) : Type 0 where
   pub head : headOk l ≡ true
   pub block : j < blocksIn l
@@ -41,10 +34,11 @@ pub data NotOpened (l : List ℕ) : ℕ → ℕ → Type 0 where
   bad-head : headOk l ≡ false → NotOpened l 15 0
   bad-entry : {n j : ℕ} → FirstBad l n j → NotOpened l n j
 
--- every call on image l is refused by n and names block j; comparing with an image m too, also where it stands second and comparing accepts m
+-- every call on image l is refused by n and names block j, and there is no body; comparing with an image m is too, also where it stands second and comparing accepts m
 pub record RefusedAlike (l m : List ℕ) (n j k : ℕ) (out : List ℤ) : Type 0 where
   pub opening : openImage l .outcome ≡ refusedAt n j
   pub finding : blockAnswer l k ≡ refusedAt n j
+  pub body : blockBody l k ≡ []
   pub playing : play l k out .outcome ≡ refusedAt n j
   pub playing-all : playAll l out .outcome ≡ refusedAt n j
   pub comparing : same l m ≡ refusedAt n j

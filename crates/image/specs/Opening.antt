@@ -1,6 +1,7 @@
 -- Opening: its tests and what it answers. Definitions only.
 use mathlib.Core.Bool.{Bool, true, not, cond, _&&_}
 use mathlib.Core.List.{List, [], _∷_}
+use mathlib.Core.Path.{_≡_}
 use Prim.Native.Nat.{ℕ, zero, suc}
 use lib.Dec.{eqb, leb}
 use lib.IntN.{pos}
@@ -73,6 +74,13 @@ unfoldable pub headOk : List ℕ → Bool
 headOk l = leb 56 (length l) && (markOk l && numbersFit (totalIn l) (rateIn l) (blockIn l) (blocksIn l) (zeroIn l) (length l))
 
 -- ---- 20, 21, 22
+
+-- an entry with offset, length and zero bytes as in section 2, and its body's first byte as predictor-and-scale
+pub record EntryFits (l : List ℕ) (s : Shape) (j : ℕ) : Type 0 where
+  pub offset : offsetIn l j ≡ blockOffset s j
+  pub nibbles : lengthIn l j ≡ blockLength s j
+  pub zeros : entryZeroIn l j ≡ 0
+  pub header : headerIn l j ≡ getD l (blockOffset s j) 0
 
 -- "20 for an offset, 21 for a length or zero bytes, 22 for a predictor-and-scale", "tested in that sequence within an entry"
 unfoldable pub entryAnswer : List ℕ → Shape → ℕ → Outcome Unit

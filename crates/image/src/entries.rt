@@ -22,7 +22,7 @@ fn byte(x: u8) -> u32
     x as u32
 }
 
-// Codes 20, 21 and 22 of block j's entry: its offset; its length and zero bytes; its body's first byte.
+// Codes 20, 21 and 22 of block j's entry: its offset; its length and zero bytes; its predictor-and-scale.
 fn entry_answer(image: &[u8], shape: Shape, bodies: usize, j: usize) -> Answer
     requires { ⌜ Limits shape × (bodies ≡ bodiesPlace shape) × (j < blockCount shape) × (imageSize shape ≤ length (now image)) ⌝ }
     ensures { λ r. ⌜ outcome r ≡ entryAnswer (now (image .entry)) shape j ⌝ }

@@ -6,7 +6,7 @@ ghost use Rattle.block.specs.Context.{newContext};
 ghost use Rattle.block.specs.Frame.{playing};
 ghost use Rattle.block.specs.Play.{playInto};
 ghost use Rattle.image.specs.inner.Asked.{Opens, Found, Playable, AllPlayable};
-ghost use Rattle.image.specs.Opening.{outcome, refusal};
+ghost use Rattle.image.specs.Opening.{refusal};
 ghost use Rattle.image.specs.Reading.{totalIn, coefficientsIn, lengthIn};
 ghost use Rattle.image.specs.Bodies.{bodyIn};
 ghost use Rattle.image.specs.Playing.{contextIn, readEntry, roomAnswer, playOutcome};

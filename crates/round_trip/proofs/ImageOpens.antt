@@ -25,8 +25,7 @@ use Rattle.round_trip.proofs.BlocksOfX.{block-parts}
 use Rattle.round_trip.proofs.FramesPlayed.{Audible, contextBefore, history-sampled}
 use Rattle.whole.specs.Outcome.{accepted}
 use Rattle.image.specs.Reading.{shapeIn, totalIn, rateIn, blockIn, gainIn, zeroIn, blocksIn, signedAt, coefficientsUpTo, coefficientsIn, offsetIn, lengthIn, headerIn, newestIn, olderIn, entryZeroIn}
-use Rattle.image.specs.Opening.{markOk, openAnswer}
-use Rattle.image.specs.FirstBad.{EntryFits}
+use Rattle.image.specs.Opening.{EntryFits, markOk, openAnswer}
 use Rattle.image.specs.inner.Asked.{Headed, Opens}
 use Rattle.image.specs.Playing.{contextIn}
 use Rattle.image.proofs.OpenImages.{opens}

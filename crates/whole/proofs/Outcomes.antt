@@ -3,7 +3,7 @@ use mathlib.Core.Bool.{Bool, true, false, not, cond}
 use mathlib.Core.Path.{_≡_, refl, ap}
 use Prim.Native.Nat.{ℕ}
 use native.Mathlib.Omega.{arith}
-use Rattle.whole.specs.Outcome.{Outcome, accepted, refusedAt, refused}
+use Rattle.whole.specs.Outcome.{Outcome, accepted, refusedAt, refused, outcomeCode, outcomeEntry}
 
 -- 1 where a call is accepted
 unfoldable isAccepted : {A : Type 0} → Outcome A → ℕ
@@ -29,17 +29,9 @@ failed false n o p = (refl, p)
 
 -- ---- equal refusals
 
-abbrev numberOf : {A : Type 0} → Outcome A → ℕ
-numberOf (accepted a) = 0
-numberOf (refusedAt n j) = n
-
-abbrev blockOf : {A : Type 0} → Outcome A → ℕ
-blockOf (accepted a) = 0
-blockOf (refusedAt n j) = j
-
 -- equal refusals have one number, and name one block
 pub same-number : {A : Type 0} {n j m i : ℕ} → _≡_ {A = Outcome A} (refusedAt n j) (refusedAt m i) → n ≡ m
-same-number p = ap numberOf p
+same-number p = ap outcomeCode p
 
 pub same-block : {A : Type 0} {n j m i : ℕ} → _≡_ {A = Outcome A} (refusedAt n j) (refusedAt m i) → j ≡ i
-same-block p = ap blockOf p
+same-block p = ap outcomeEntry p

@@ -25,6 +25,16 @@ abbrev pub ifAccepted : {A B : Type 0} → Outcome A → B → B → B
 ifAccepted (accepted a) x y = x
 ifAccepted (refusedAt n j) x y = y
 
+-- 0 where a call is accepted, else the documents' number
+abbrev pub outcomeCode : {A : Type 0} → Outcome A → ℕ
+outcomeCode (accepted a) = 0
+outcomeCode (refusedAt n j) = n
+
+-- the block whose entry is bad, 0 where none is named
+abbrev pub outcomeEntry : {A : Type 0} → Outcome A → ℕ
+outcomeEntry (accepted a) = 0
+outcomeEntry (refusedAt n j) = j
+
 -- what a call answers, and what it leaves: its state and the buffers that it was lent
 pub record Effect (A B : Type 0) : Type 0 where
   pub outcome : A

@@ -1,4 +1,4 @@
-/* Prints the size of each struct of doilycairn.h, the offset of each of its fields, the limits and the codes, as C has them. */
+/* Prints the size of each struct of doilycairn.h, the offset of each of its fields, the version, the limits and the codes, as C has them. */
 #include "doilycairn.h"
 #include <stdio.h>
 
@@ -31,6 +31,7 @@ int main(void) {
     SIZE(playback), FIELD(playback, code), FIELD(playback, entry), FIELD(playback, samples), FIELD(playback, context);
     SIZE(comparison), FIELD(comparison, code), FIELD(comparison, entry), FIELD(comparison, same);
     SIZE(joining), FIELD(joining, code), FIELD(joining, nibbles);
+    NUMBER(VERSION_MAJOR), NUMBER(VERSION_MINOR), NUMBER(VERSION_PATCH);
     NUMBER(MAX_SAMPLES), NUMBER(MIN_BLOCK_SIZE), NUMBER(MAX_BLOCK_SIZE);
     codes();
     return 0;

@@ -1,4 +1,4 @@
-//! Layouts, limits and codes are those that the C compiler makes of include/doilycairn.h.
+//! Layouts, version, limits and codes are those that the C compiler makes of include/doilycairn.h.
 
 use super::*;
 use crate::{BLOCK_SIZES, MAX_SAMPLES, Refusal};
@@ -49,9 +49,13 @@ fn rust_layouts() -> String {
     text
 }
 
-/// The limits, and the refusals under their names in C.
+/// The version, the limits, and the refusals under their names in C.
 fn rust_numbers() -> String {
-    let mut text = format!("MAX_SAMPLES {MAX_SAMPLES}\n");
+    let mut text = String::new();
+    writeln!(text, "VERSION_MAJOR {}", env!("CARGO_PKG_VERSION_MAJOR")).unwrap();
+    writeln!(text, "VERSION_MINOR {}", env!("CARGO_PKG_VERSION_MINOR")).unwrap();
+    writeln!(text, "VERSION_PATCH {}", env!("CARGO_PKG_VERSION_PATCH")).unwrap();
+    writeln!(text, "MAX_SAMPLES {MAX_SAMPLES}").unwrap();
     writeln!(text, "MIN_BLOCK_SIZE {}", BLOCK_SIZES.start()).unwrap();
     writeln!(text, "MAX_BLOCK_SIZE {}", BLOCK_SIZES.end()).unwrap();
     for refusal in Refusal::NUMBERS.iter().filter_map(|number| Refusal::from_number(*number, 0)) {
@@ -88,6 +92,6 @@ fn c_layouts() -> String {
 }
 
 #[test]
-fn layouts_limits_and_codes_are_those_of_the_header() {
+fn layouts_version_limits_and_codes_are_those_of_the_header() {
     assert_eq!(rust_layouts() + &rust_numbers(), c_layouts());
 }

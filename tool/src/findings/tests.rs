@@ -30,7 +30,7 @@ fn image() -> Vec<u8> {
 /// The library's verdict, which the first finding has to call for.
 fn verdict(bytes: &[u8]) -> Option<Refusal> {
     let verdict = Image::open(bytes).err();
-    let found = findings(bytes);
+    let found: Vec<_> = findings(bytes).collect();
     assert_eq!(found.first().map(|finding| finding.refusal), verdict, "{found:?}");
     verdict
 }
@@ -66,7 +66,7 @@ fn each_is_the_verdict_when_those_before_it_are_mended() {
             entry[at] ^= 1;
         }
     }
-    let found = findings(&bytes);
+    let found: Vec<_> = findings(&bytes).collect();
     assert_eq!(found.len(), 12);
     for Finding { refusal, byte, .. } in found {
         assert_eq!(verdict(&bytes), Some(refusal));

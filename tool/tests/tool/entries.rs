@@ -26,8 +26,8 @@ fn check_says_block_and_field() {
     let head = Refusal::BadHead.to_string();
     let cases: [(&[usize], &[&str]); 9] = [
         (&[59], &["block 0: its offset is 72 and not 88 (refusal 20)", "  at byte 56"]),
-        (&[79], &["block 1: its length is 19 and not 3 (refusal 21)", "  at byte 76"]),
-        (&[87], &["block 1: its zero bytes are 00 10 (refusal 21)", "  at byte 86"]),
+        (&[79], &["block 1: its length is 19 and not 3 nibbles (refusal 21)", "  at byte 76"]),
+        (&[87], &["block 1: its zero bytes are 00 10 and not 00 00 (refusal 21)", "  at byte 86"]),
         (
             &[64],
             &[
@@ -45,7 +45,7 @@ fn check_says_block_and_field() {
         (
             &[79, 81],
             &[
-                "block 1: its length is 19 and not 3 (refusal 21)",
+                "block 1: its length is 19 and not 3 nibbles (refusal 21)",
                 "  at byte 76",
                 "  byte 80, block 1: its header is 00 10 and its body at byte 96 begins with 00",
             ],
@@ -61,7 +61,7 @@ fn check_says_block_and_field() {
         (
             &[71, 65],
             &[
-                "block 0: its zero bytes are 00 10 (refusal 21)",
+                "block 0: its zero bytes are 00 10 and not 00 00 (refusal 21)",
                 "  at byte 70",
                 "  byte 64, block 0: its header is 00 10 and its body at byte 88 begins with 00",
             ],
@@ -96,7 +96,7 @@ fn every_command_names_the_block() {
     folder.write("in.wav", wav(&sound(100, 1), 32_000));
     let cases = [
         (59, Refusal::BadOffset { block: 0 }, "; byte 56: its offset is 72 and not 88\n"),
-        (79, Refusal::BadLength { block: 1 }, "; byte 76: its length is 19 and not 3\n"),
+        (79, Refusal::BadLength { block: 1 }, "; byte 76: its length is 19 and not 3 nibbles\n"),
         (81, Refusal::BadHeader { block: 1 }, "; byte 80: its header is "),
     ];
     for (at, refusal, found) in cases {

@@ -23,15 +23,15 @@ fn sound() -> Vec<i16> {
     (0..SAMPLES).map(sample).collect()
 }
 
-/// Runs the tool: its time, and the most memory it had, in kilobytes.
-fn measured(folder: &Folder, line: &str) -> (Duration, u64) {
+/// Runs the tool, which ends with this status: its time, and the most memory it had, in kilobytes.
+fn measured(folder: &Folder, line: &str, status: i32) -> (Duration, u64) {
     let words: Vec<&str> = line.split(' ').collect();
     let start = Instant::now();
     let mut child = folder.tool(&words).stdout(Stdio::null()).spawn().unwrap();
-    let status = format!("/proc/{}/status", child.id());
+    let told = format!("/proc/{}/status", child.id());
     let mut most = 0;
     let ended = loop {
-        let text = fs::read_to_string(&status).unwrap_or_default();
+        let text = fs::read_to_string(&told).unwrap_or_default();
         let peak = text.lines().find_map(|line| line.strip_prefix("VmHWM:"));
         let peak = peak.and_then(|rest| rest.trim().trim_end_matches(" kB").parse().ok());
         most = most.max(peak.unwrap_or(0));
@@ -40,7 +40,7 @@ fn measured(folder: &Folder, line: &str) -> (Duration, u64) {
         }
         std::thread::sleep(Duration::from_millis(1));
     };
-    assert!(ended.success(), "{line}");
+    assert_eq!(ended.code(), Some(status), "{line}");
     println!("{line}: {:.2} s, {} kB", start.elapsed().as_secs_f64(), most);
     (start.elapsed(), most)
 }
@@ -61,13 +61,31 @@ fn the_largest_clip() {
         ("same out.dspc eight.dspc", 10, 48_000),
     ];
     for (line, seconds, kilobytes) in lines {
-        let (time, memory) = measured(&folder, line);
-        assert!(time < Duration::from_secs(seconds), "{line}: {time:?}");
-        assert!(memory < kilobytes, "{line}: {memory} kB");
+        limited(&folder, line, 0, seconds, kilobytes);
     }
+    damaged(&folder);
     assert_eq!(folder.read("out.wav"), folder.read("eight.wav"));
     assert_eq!(folder.read("out.wav").len(), 44 + 2 * SAMPLES);
     too_many(&folder, clip);
+}
+
+/// Runs the tool, which ends with this status, within so many seconds and kilobytes.
+fn limited(folder: &Folder, line: &str, status: i32, seconds: u64, kilobytes: u64) {
+    let (time, memory) = measured(folder, line, status);
+    assert!(time < Duration::from_secs(seconds), "{line}: {time:?}");
+    assert!(memory < kilobytes, "{line}: {memory} kB");
+}
+
+/// A million bad entries take no more memory than good ones.
+fn damaged(folder: &Folder) {
+    let mut bytes = folder.read("eight.dspc");
+    let blocks = SAMPLES / 14;
+    bytes[56..56 + 16 * blocks].fill(0xff);
+    folder.write("bad.dspc", bytes);
+    limited(folder, "check bad.dspc", 1, 10, 32_000);
+    limited(folder, "check --json bad.dspc", 1, 60, 40_000);
+    limited(folder, "decode bad.dspc none", 4, 10, 32_000);
+    assert!(!folder.has("none"));
 }
 
 /// One sample more is refused, however it comes.

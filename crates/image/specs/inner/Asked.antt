@@ -12,8 +12,7 @@ use Rattle.whole.specs.Frames.{frameCount}
 use Rattle.image.specs.declared.Head.{Head}
 use Rattle.image.specs.inner.ByFrames.{frameSamples}
 use Rattle.image.specs.Reading.{totalIn, rateIn, blockIn, shapeIn, zeroIn, blocksIn, coefficientsIn, headIn, lengthIn}
-use Rattle.image.specs.FirstBad.{EntryFits}
-use Rattle.image.specs.Opening.{markOk}
+use Rattle.image.specs.Opening.{EntryFits, markOk}
 
 -- a head that 15 does not refuse
 pub record Headed (l : List ℕ) : Type 0 where
