@@ -3,6 +3,7 @@
 use crate::failure::{Failure, Status};
 use crate::json::{Fields, Json, path_fields, refusal_fields};
 use crate::lines::Lines;
+use crate::memory;
 use crate::paint::{Colour, Paint, Stream, knows_escapes};
 use crate::progress;
 use std::cell::RefCell;
@@ -108,9 +109,13 @@ impl Console {
         if self.kept.is_none() {
             return standard_output(words);
         }
-        let mut text = vec![];
-        let written = words(&mut text).and_then(|()| self.say(Stream::Out, text));
-        written.map_err(|error| Failure::io("write", "standard output", &error))
+        let mut text = memory::Text::default();
+        words(&mut text).map_err(|error| match error.kind() {
+            io::ErrorKind::OutOfMemory => memory::short(text.0.len() as u64),
+            _ => Failure::io("write", "standard output", &error),
+        })?;
+        self.say(Stream::Out, text.0)
+            .map_err(|error| Failure::io("write", "standard output", &error))
     }
 
     /// Says it in one write, or keeps it.

@@ -27,6 +27,12 @@ impl<W: Write> Write for Lines<W> {
         if let Some(at) = bytes.iter().rposition(|byte| *byte == b'\n') {
             self.whole = self.gathered.len() + at + 1;
         }
+        if self.gathered.try_reserve(bytes.len()).is_err() {
+            // No room to gather more: as it comes.
+            self.flush()?;
+            self.inner.write_all(bytes)?;
+            return Ok(bytes.len());
+        }
         self.gathered.extend(bytes);
         let all = self.gathered.len();
         let whole = if all > FULL { self.whole } else { 0 };

@@ -97,8 +97,8 @@ module _ (l : List ℕ) where
   unfolding roomAnswer
   room-16 n room = cond-16 (lowestPair (coefficientsIn l)) _ _ refl (cond-16 (ltb room n) _ _ refl refl)
 
--- With 16 for 20, 21 and 22 every call answers as document 01 has it, playing all by 15, 16, 13 and 14: they stand where 16 stood and nowhere else, every other answer is as it was,
--- and beside every other code no block is named.
+-- With 16 for 20, 21 and 22 every call answers as document 01 has it, playing all by 15, 16, 13 and 14: they stand where 16 stood and nowhere else,
+-- every other answer is as it was, and beside every other code no block is named.
 pub where-16-stood : (l m : List ℕ) (k : ℕ) (out : List ℤ) → Where16Stood l m k out
 unfolding openImage play playAnswer playAll allAnswer same bothAnswer
 where-16-stood l m k out =

@@ -34,7 +34,7 @@ pub data NotOpened (l : List ℕ) : ℕ → ℕ → Type 0 where
   bad-head : headOk l ≡ false → NotOpened l 15 0
   bad-entry : {n j : ℕ} → FirstBad l n j → NotOpened l n j
 
--- every call on image l is refused by n and names block j, and there is no body; comparing with an image m is too, also where it stands second and comparing accepts m
+-- every call on image l is refused by n and names block j, and there is no body; so is comparing l with an image m, and m with l where comparing accepts m
 pub record RefusedAlike (l m : List ℕ) (n j k : ℕ) (out : List ℤ) : Type 0 where
   pub opening : openImage l .outcome ≡ refusedAt n j
   pub finding : blockAnswer l k ≡ refusedAt n j

@@ -32,3 +32,20 @@ fn what_cannot_be_had_is_told() {
     }
     assert_eq!(folder.names(), ["in.dspc", "in.wav", "out"]);
 }
+
+#[test]
+fn a_damaged_table_is_told_or_memory_is_short() {
+    let folder = Folder::new();
+    let mut bad = image(&sound(28_000, 1), 32_000, 8);
+    bad[56..56 + 16 * 2000].fill(0xff);
+    folder.write("a", &bad);
+    folder.write("b", &bad);
+    for line in ["check --json a", "check --json a b"] {
+        let done = (5000..50_000).step_by(500).find(|kilobytes| {
+            let run = limited(&folder, *kilobytes, line);
+            assert!([1, 5, 127].contains(&run.status), "{line} {kilobytes}: {}", run.err);
+            run.status == 1
+        });
+        assert!(done.is_some(), "{line}");
+    }
+}
