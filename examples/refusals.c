@@ -29,6 +29,7 @@ static void say(verdict given) {
 static verdict of_opening(doilycairn_opening opened) { return (verdict){opened.code, opened.entry}; }
 static verdict of_body(doilycairn_body body) { return (verdict){body.code, body.entry}; }
 static verdict of_playback(doilycairn_playback played) { return (verdict){played.code, played.entry}; }
+static verdict of_part(doilycairn_part part) { return (verdict){part.code, part.entry}; }
 static verdict of_comparison(doilycairn_comparison compared) { return (verdict){compared.code, compared.entry}; }
 
 /* Remembers where a verdict is not what was meant. */
@@ -114,7 +115,7 @@ static void damage_image(const uint8_t *image, const damage *done, uint8_t *dama
     for (size_t i = 0; i < 2; i++) damaged[done->places[i]] = (uint8_t)(image[done->places[i]] ^ 1);
 }
 
-/* The calls on one damaged image, for blocks that there are and for one that there is not. */
+/* The calls on one damaged image, for blocks that there are and for one that there is not, for a sample and for one past the last. */
 static void read_damaged(const uint8_t *damaged, verdict meant) {
     int16_t out[SAMPLES];
     say(of_opening(doilycairn_open(damaged, IMAGE)));
@@ -124,6 +125,8 @@ static void read_damaged(const uint8_t *damaged, verdict meant) {
         compare(meant, of_playback(doilycairn_play(damaged, IMAGE, k, out, SAMPLES)));
     }
     compare(meant, of_playback(doilycairn_play_all(damaged, IMAGE, out, SAMPLES)));
+    compare(meant, of_part(doilycairn_play_from(damaged, IMAGE, 0, out, SAMPLES)));
+    compare(meant, of_part(doilycairn_play_from(damaged, IMAGE, SAMPLES, out, SAMPLES)));
 }
 
 /* Comparing with the image as it was, in either place, and with every damaged one: the first image is tested first. */
@@ -152,6 +155,8 @@ static void reading(const uint8_t *image) {
     expect_no_block(DOILYCAIRN_NO_SUCH_BLOCK, of_body(doilycairn_block_body(image, IMAGE, 2)));
     expect_no_block(DOILYCAIRN_OUTPUT_TOO_SHORT, of_playback(doilycairn_play_all(image, IMAGE, out, SAMPLES - 1)));
     expect_no_block(DOILYCAIRN_ACCEPTED, of_playback(doilycairn_play_all(image, IMAGE, out, SAMPLES)));
+    expect_no_block(DOILYCAIRN_NO_SUCH_SAMPLE, of_part(doilycairn_play_from(image, IMAGE, SAMPLES, out, 0)));
+    expect_no_block(DOILYCAIRN_ACCEPTED, of_part(doilycairn_play_from(image, IMAGE, SAMPLES - 1, out, 0)));
 }
 
 static void joining(void) {

@@ -23,6 +23,7 @@ static const char *message_of(uint32_t code) {
     case DOILYCAIRN_BAD_HEAD: return "not an image: its head is not a clip's, or bytes are missing";
     case DOILYCAIRN_NO_SUCH_BLOCK: return "the image has no block of that number";
     case DOILYCAIRN_COEFFICIENTS_DIFFER: return "the two blocks have different coefficients";
+    case DOILYCAIRN_NO_SUCH_SAMPLE: return "the first sample is not in the clip";
     case DOILYCAIRN_BAD_OFFSET: return "the entry's offset is not where the block's body begins";
     case DOILYCAIRN_BAD_LENGTH: return "the entry's length or its zero bytes are wrong";
     case DOILYCAIRN_BAD_HEADER: return "the entry's predictor-and-scale is not the body's first byte";

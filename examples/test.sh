@@ -44,6 +44,12 @@ bytes() {
     fi
 }
 
+# plays_part IMAGE RAW FIRST COUNT: that part of an image is that part of what all of it plays.
+plays_part() {
+    "$bin/part" "$1" "$3" "$4" 2> said > part.raw
+    tail -c +$((2 * $3 + 1)) "$2" | head -c $((2 * $4)) | cmp - part.raw
+}
+
 for samples in 1 14 15 1000 48000; do
     expect 0 "$bin/encode" clip $samples 4096
     expect 0 "$bin/encode" fine $samples 15
@@ -52,7 +58,22 @@ for samples in 1 14 15 1000 48000; do
     bytes clip.raw $((2 * samples))
     cmp clip.raw fine.raw
     expect 0 "$bin/compare" clip fine
+    # As a trim screen and as a player do: from the middle, and all in pieces.
+    plays_part fine fine.raw $((samples / 2)) 200
+    plays_part fine fine.raw 0 $samples
+    plays_part fine fine.raw $((samples - 1)) 200
 done
+# Across the edge of two blocks: they have 7168 samples each.
+plays_part clip clip.raw 7068 200
+if [ "$(cat said)" != "from 7068: samples 200, blocks 2" ]; then
+    echo "failed: not 200 samples and 2 blocks: $(cat said)" >&2
+    exit 1
+fi
+# No number, and one of more than 32 bits.
+expect 2 "$bin/part" clip x 200
+expect 2 "$bin/part" clip -1 200
+expect 2 "$bin/part" clip 4294967297 200
+expect 2 "$bin/part" clip 0 ''
 # Many blocks: one call tests the table once.
 expect 0 "$bin/encode" long 1000000 8
 expect 0 "$bin/play" long long.raw
@@ -65,6 +86,7 @@ expect 1 "$bin/compare" clip other
 expect 2 "$bin/encode" none 0
 expect 2 "$bin/encode" none 100 7
 expect 2 "$bin/encode" none 100 65537
+refused "play from: the first sample is not in the clip (refusal 19)" "$bin/part" clip 48000 0
 head -c 1000 clip > cut
 expect 2 "$bin/play" cut cut.raw
 expect 2 "$bin/compare" clip cut

@@ -63,7 +63,7 @@ extern "C" {
 #define DOILYCAIRN_MIN_BLOCK_SIZE 8
 #define DOILYCAIRN_MAX_BLOCK_SIZE 65536
 
-/* What `code` says. Tests run in the sequence that each call's comment gives. No call gives 16 (20, 21 and 22 stand in its place) or 19. */
+/* What `code` says. Tests run in the sequence that each call's comment gives. No call gives 16: 20, 21 and 22 stand in its place. */
 enum doilycairn_code {
     DOILYCAIRN_ACCEPTED = 0,
     DOILYCAIRN_INVALID_STATE = 1,       /* a state whose numbers no run of calls gives; not every forged state is found, see above */
@@ -79,10 +79,11 @@ enum doilycairn_code {
     DOILYCAIRN_UNFINISHED = 11,         /* closing: the clip still lacks samples */
     DOILYCAIRN_LENGTH_OUT_OF_RANGE = 12,/* playing bytes: 0 nibbles, or more than two for each byte */
     DOILYCAIRN_LOWEST_PAIR = 13,        /* playing, comparing: a pair of coefficients is -32,768 twice */
-    DOILYCAIRN_OUTPUT_TOO_SHORT = 14,   /* playing, joining: the output is too short */
+    DOILYCAIRN_OUTPUT_TOO_SHORT = 14,   /* playing bytes, a block or all, joining: the output is too short */
     DOILYCAIRN_BAD_HEAD = 15,           /* an image: its first 56 bytes are not a clip's, or bytes are missing */
     DOILYCAIRN_NO_SUCH_BLOCK = 17,      /* an image: the block's number is not below the count of blocks */
     DOILYCAIRN_COEFFICIENTS_DIFFER = 18,/* joining: the two blocks have different coefficients */
+    DOILYCAIRN_NO_SUCH_SAMPLE = 19,     /* an image: the number of the first sample to play is not below the count of samples */
     DOILYCAIRN_BAD_OFFSET = 20,         /* an image: an entry's offset is not where its block's body begins */
     DOILYCAIRN_BAD_LENGTH = 21,         /* an image: an entry's length is not its block's, or its two zero bytes are not zero */
     DOILYCAIRN_BAD_HEADER = 22          /* an image: an entry's predictor-and-scale is not the first byte of its block's body */
@@ -182,6 +183,13 @@ typedef struct {
 
 typedef struct {
     uint32_t code;
+    uint32_t entry;   /* with 20, 21, 22: the number of the block whose entry is bad; else 0 */
+    uint64_t samples; /* written to the output; refused: 0 */
+    uint32_t blocks;  /* that have one of these samples or more; refused: 0 */
+} doilycairn_part;
+
+typedef struct {
+    uint32_t code;
     uint32_t entry; /* with 20, 21, 22: the number of the block whose entry is bad; else 0 */
     bool same;      /* refused: false */
 } doilycairn_comparison;
@@ -251,7 +259,8 @@ doilycairn_encoding doilycairn_close(doilycairn_encoder encoder, uint8_t *image,
 
 /*
  * Each call of this part tests the whole head and table of the image that it is given, so its time grows with the count of blocks: a call of
- * doilycairn_play or doilycairn_block_body for each of K blocks looks at K x K entries. To play a whole clip, call doilycairn_play_all once.
+ * doilycairn_play, doilycairn_play_from or doilycairn_block_body for each of K blocks looks at K x K entries. To play a whole clip, call
+ * doilycairn_play_all once; to play a part of it, doilycairn_play_from once.
  *
  * 20, 21 and 22 speak of one entry of the table, and `entry` is the number of its block. After the head (15) the entries are tested in rising
  * order, block 0's first, each by 20, 21 and 22 in that sequence; the first bad one is named, and nothing is said of those after it. With 22 it
@@ -279,6 +288,18 @@ doilycairn_playback doilycairn_play(const uint8_t *image, size_t image_len, uint
  * Refused by 15, 20, 21, 22, 13, 14; the context is then zeros.
  */
 doilycairn_playback doilycairn_play_all(const uint8_t *image, size_t image_len, int16_t *out, size_t out_len);
+
+/*
+ * Plays a part of the clip: from sample `first` on, counted from 0, as many samples as `out` has room for, across blocks, or up to the clip's last
+ * one. They are what doilycairn_play_all plays there: each block is played from its own context.
+ * `out`: any length, 0 too (and not NULL even then); from out[samples] on it is kept. `blocks` is how many blocks the part overlaps: none
+ * where out_len is 0, else (first + samples - 1) / p - first / p + 1 with p = block / 8 * 14, the samples of a whole block.
+ * To go on, call again with first + samples, as long as that is below the clip's `total`: a part cut in two is its parts in turn.
+ * The head, every entry of the table and the first byte of every body are tested each time, so the time grows with K too. Of the blocks before
+ * the first sample's own nothing else is read; of its own block, what comes before the sample is played and dropped.
+ * Refused by 15, 20, 21, 22, 13, 19, with an empty output too; `samples` and `blocks` are then 0.
+ */
+doilycairn_part doilycairn_play_from(const uint8_t *image, size_t image_len, uint32_t first, int16_t *out, size_t out_len);
 
 /*
  * Whether two images have equally many samples and play the same ones. Rate and gain do not count, nor do coefficients, block size and the
@@ -372,6 +393,11 @@ DOILYCAIRN_CHECK(sizeof(doilycairn_playback) == 24);
 DOILYCAIRN_CHECK(offsetof(doilycairn_playback, entry) == 4);
 DOILYCAIRN_CHECK(offsetof(doilycairn_playback, samples) == 8);
 DOILYCAIRN_CHECK(offsetof(doilycairn_playback, context) == 16);
+
+DOILYCAIRN_CHECK(sizeof(doilycairn_part) == 24);
+DOILYCAIRN_CHECK(offsetof(doilycairn_part, entry) == 4);
+DOILYCAIRN_CHECK(offsetof(doilycairn_part, samples) == 8);
+DOILYCAIRN_CHECK(offsetof(doilycairn_part, blocks) == 16);
 
 DOILYCAIRN_CHECK(sizeof(doilycairn_comparison) == 12);
 DOILYCAIRN_CHECK(offsetof(doilycairn_comparison, entry) == 4);

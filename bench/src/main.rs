@@ -1,8 +1,10 @@
-//! Times the library against the unchanged Rust, alternating in one run: `bench [ROUNDS [LARGEST]]`.
+//! Times the library against the unchanged Rust, alternating in one run: `bench [from] [ROUNDS [LARGEST]]`.
 //!
-//! Both sides work on the same clips, and their results are compared before anything is timed.
+//! Both sides work on the same clips, and their results are compared before anything is timed. With `from` only the last table is
+//! made, of playing from a sample on.
 
 mod parts;
+mod runs;
 mod sides;
 mod sounds;
 mod timing;
@@ -17,10 +19,13 @@ const COUNTS: [usize; 5] = [1_400, 14_000, 140_000, 1_400_000, 14_680_064];
 /// Longer clips have three rounds at most: each takes seconds.
 const LONG: usize = 2_000_000;
 
+/// The word of the command line that asks for the last table alone.
+const FROM: &str = "from";
+
 /// A number of the command line.
 fn argument(place: usize, otherwise: usize) -> usize {
-    match std::env::args().nth(place) {
-        Some(text) => text.parse().expect("usage: bench [ROUNDS [LARGEST]]"),
+    match std::env::args().skip(1).filter(|word| word != FROM).nth(place) {
+        Some(text) => text.parse().expect("usage: bench [from] [ROUNDS [LARGEST]]"),
         None => otherwise,
     }
 }
@@ -53,10 +58,8 @@ fn print_table(part: usize, counts: &[usize], all: &[Vec<Vec<Times>>]) {
     println!();
 }
 
-fn main() {
-    let rounds = argument(1, 9);
-    let largest = argument(2, 14_680_064);
-    let counts: Vec<_> = COUNTS.into_iter().filter(|count| *count <= largest).collect();
+/// The tables of the parts of the job.
+fn print_parts(counts: &[usize], rounds: usize) {
     let all: Vec<Vec<Vec<Times>>> = Sound::ALL
         .into_iter()
         .map(|sound| counts.iter().map(|count| times(sound, *count, rounds)).collect())
@@ -65,6 +68,18 @@ fn main() {
         "Times the Rust's speed (nanoseconds a sample, Rust : library), medians of {rounds} rounds, of 3 at most for the longest clip.\n"
     );
     for part in 0..Part::ALL.len() {
-        print_table(part, &counts, &all);
+        print_table(part, counts, &all);
+    }
+}
+
+fn main() {
+    let rounds = argument(0, 9);
+    let largest = argument(1, 14_680_064);
+    let counts: Vec<_> = COUNTS.into_iter().filter(|count| *count <= largest).collect();
+    if std::env::args().all(|word| word != FROM) {
+        print_parts(&counts, rounds);
+    }
+    if let Some(longest) = counts.last() {
+        runs::print_table(*longest, rounds);
     }
 }

@@ -1,6 +1,6 @@
 //! The parts of the job, each timed on both sides.
 
-use crate::sides::{library, rust};
+use crate::sides::{BLOCK, library, rust};
 use crate::timing::{Times, alternate, timed};
 use doilycairn::Calculator;
 use oracle::Block;
@@ -50,8 +50,8 @@ impl Case {
         let coefficients = library::finish(calculator, &mut store);
         let rust_calculator = rust::process(&clip);
         assert_eq!(rust::finish(rust_calculator.clone()), coefficients, "coefficients");
-        let image = library::encode(&clip, &coefficients);
-        let blocks = rust::encode(&clip, &coefficients);
+        let image = library::encode(&clip, &coefficients, BLOCK);
+        let blocks = rust::encode(&clip, &coefficients, BLOCK);
         let bodies: Vec<u8> = blocks.iter().flat_map(|block| &block.bytes).copied().collect();
         assert!(bodies == image[56 + 16 * blocks.len()..], "bodies");
         assert!(rust::decode(&blocks).concat() == library::decode(&image), "samples");
@@ -73,8 +73,8 @@ impl Case {
             }
             Part::Encode => alternate(
                 rounds,
-                &mut || timed(clip, |clip| rust::encode(clip, coefficients)),
-                &mut || timed(clip, |clip| library::encode(clip, coefficients)),
+                &mut || timed(clip, |clip| rust::encode(clip, coefficients, BLOCK)),
+                &mut || timed(clip, |clip| library::encode(clip, coefficients, BLOCK)),
             ),
             Part::Decode => {
                 alternate(rounds, &mut || timed(&blocks[..], rust::decode), &mut || {

@@ -6,7 +6,7 @@ use unplug::audio::format::adpcm::CoefficientCalculator;
 
 pub const RATE: u32 = 32_000;
 
-/// Bytes of a block, of 14,336 samples.
+/// Bytes of a block, of 14,336 samples, where they are not told.
 pub const BLOCK: u32 = 8_192;
 
 /// The library: a store of 2 numbers a frame, an image of S bytes, an output of N samples.
@@ -26,13 +26,13 @@ pub mod library {
     }
 
     /// The image of a clip.
-    pub fn encode(clip: &[i16], coefficients: &[i16; 16]) -> Vec<u8> {
+    pub fn encode(clip: &[i16], coefficients: &[i16; 16], block_size: u32) -> Vec<u8> {
         let total = clip.len() as u32;
-        let mut image = vec![0; doilycairn::image_size(total, BLOCK).unwrap()];
+        let mut image = vec![0; doilycairn::image_size(total, block_size).unwrap()];
         let start = Start {
             total,
             rate: RATE,
-            block_size: BLOCK,
+            block_size,
             gain: 0,
             coefficients: Coefficients(*coefficients),
             history: History::default(),
@@ -50,7 +50,14 @@ pub mod library {
     /// From a clip to its image.
     pub fn whole(clip: &[i16]) -> Vec<u8> {
         let (calculator, mut store) = process(clip);
-        encode(clip, &finish(calculator, &mut store))
+        encode(clip, &finish(calculator, &mut store), BLOCK)
+    }
+
+    /// Samples from one on.
+    pub fn play_from(image: &Image, first: usize, count: usize) -> Vec<i16> {
+        let mut out = vec![0; count];
+        image.play_from(first as u32, &mut out).unwrap();
+        out
     }
 }
 
@@ -71,8 +78,8 @@ pub mod rust {
     }
 
     /// The blocks of a clip.
-    pub fn encode(clip: &[i16], coefficients: &[i16; 16]) -> Vec<Block> {
-        oracle::encode_blocks(&[clip], RATE, BLOCK as usize, coefficients, 0, [0, 0]).unwrap().0
+    pub fn encode(clip: &[i16], coefficients: &[i16; 16], block: u32) -> Vec<Block> {
+        oracle::encode_blocks(&[clip], RATE, block as usize, coefficients, 0, [0, 0]).unwrap().0
     }
 
     /// The samples of each block.
@@ -85,6 +92,20 @@ pub mod rust {
 
     /// From a clip to its blocks.
     pub fn whole(clip: &[i16]) -> Vec<Block> {
-        encode(clip, &finish(process(clip)))
+        encode(clip, &finish(process(clip)), BLOCK)
+    }
+
+    /// Samples from one on: each block that has some of them from its own context, up to the last one that is asked for.
+    pub fn play_from(blocks: &[Block], first: usize, count: usize) -> Vec<i16> {
+        let per_block = oracle::address_to_sample(blocks[0].len);
+        let mut out = Vec::with_capacity(count);
+        while out.len() < count {
+            let (k, before) = ((first + out.len()) / per_block, (first + out.len()) % per_block);
+            let end = (before + count - out.len()).min(per_block);
+            let (block, len) = (&blocks[k], oracle::sample_to_address(end - 1) + 1);
+            let played = oracle::decode(&block.bytes, len, &block.coefficients, block.context()).0;
+            out.extend(&played[before..]);
+        }
+        out
     }
 }

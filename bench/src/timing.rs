@@ -47,6 +47,12 @@ pub fn alternate(rounds: usize, rust: Work, library: Work) -> Times {
     }
 }
 
+/// The median over `rounds` rounds of one side, in nanoseconds.
+pub fn alone(rounds: usize, work: Work) -> f64 {
+    let repeats = repeats(work());
+    median((0..rounds).map(|_| mean(repeats, work)))
+}
+
 /// How many runs make a round.
 fn repeats(once: Duration) -> usize {
     let runs = ROUND.as_secs_f64() / once.as_secs_f64().max(1e-9);

@@ -77,6 +77,15 @@ pub(crate) struct Playback {
 
 #[repr(C)]
 #[derive(Debug)]
+pub(crate) struct Part {
+    pub code: u32,
+    pub entry: u32,
+    pub samples: u64,
+    pub blocks: u32,
+}
+
+#[repr(C)]
+#[derive(Debug)]
 pub(crate) struct Comparison {
     pub code: u32,
     pub entry: u32,
@@ -156,6 +165,13 @@ mod raw {
             out: *mut i16,
             out_len: usize,
         ) -> Playback;
+        pub fn doilycairn_play_from(
+            image: *const u8,
+            image_len: usize,
+            first: u32,
+            out: *mut i16,
+            out_len: usize,
+        ) -> Part;
         pub fn doilycairn_same(
             first: *const u8,
             first_len: usize,
@@ -252,6 +268,13 @@ pub(crate) fn play_all(image: &[u8], out: &mut [i16]) -> Playback {
     let (bytes, samples) = (image.as_ptr(), out.as_mut_ptr());
     // SAFETY: both slices are passed with their own lengths; only `out` is written.
     unsafe { raw::doilycairn_play_all(bytes, image.len(), samples, out.len()) }
+}
+
+#[allow(unsafe_code)]
+pub(crate) fn play_from(image: &[u8], first: u32, out: &mut [i16]) -> Part {
+    let (bytes, samples) = (image.as_ptr(), out.as_mut_ptr());
+    // SAFETY: both slices are passed with their own lengths; only `out` is written.
+    unsafe { raw::doilycairn_play_from(bytes, image.len(), first, samples, out.len()) }
 }
 
 #[allow(unsafe_code)]

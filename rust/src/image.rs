@@ -2,6 +2,10 @@
 
 use crate::{Block, Coefficients, FrameContext, Played, Refusal, Samples, ffi};
 
+mod part;
+
+pub use part::Part;
+
 /// The bytes of the head, and of each entry of the table after it.
 const HEAD: usize = 56;
 const ENTRY: usize = 16;
@@ -25,7 +29,7 @@ pub struct Head {
 }
 
 /// Bytes that open as an image: head and table are as they should be. They stay borrowed, so that no call on it is refused for its
-/// head or its table: 13, 14 and 17 are left.
+/// head or its table: 13, 14, 17 and 19 are left.
 ///
 /// ```
 /// use doilycairn::{Image, Refusal};
@@ -94,7 +98,8 @@ impl<'a> Image<'a> {
         Samples::new(*self)
     }
 
-    /// Plays the whole clip, whose samples are `total` of the head. Later ones of the output are kept.
+    /// Plays the whole clip, whose samples are `total` of the head. Later ones of the output are kept. A part of it plays by
+    /// [`play_from`](Self::play_from).
     pub fn play_into(&self, out: &mut [i16]) -> Result<Played, Refusal> {
         Played::answer(ffi::play_all(self.bytes, out))
     }

@@ -63,7 +63,7 @@ pub use block::{
 pub use coefficients::Coefficients;
 pub use encoder::{Encoder, EncoderState, Start, image_size};
 pub use frame::{EncodedFrame, History, encode_frame};
-pub use image::{Head, Image, same};
+pub use image::{Head, Image, Part, same};
 pub use measure::{Calculator, Measure, Store, store_size};
 pub use refusal::Refusal;
 pub use samples::Samples;

@@ -64,7 +64,7 @@ pub enum Refusal {
     LengthOutOfRange,
     /// 13, playing, comparing: a pair of coefficients is -32,768 twice.
     LowestPair,
-    /// 14, playing, joining: the output is too short.
+    /// 14, playing bytes, a block or all, joining: the output is too short.
     OutputTooShort,
     /// 15, an image: its first 56 bytes are not a clip's, or bytes are missing.
     BadHead,
@@ -72,6 +72,8 @@ pub enum Refusal {
     NoSuchBlock,
     /// 18, joining: the two blocks have different coefficients.
     CoefficientsDiffer,
+    /// 19, an image: the number of the first sample to play is not below the count of samples.
+    NoSuchSample,
     /// 20, an image: an entry's offset is not where its block's body begins.
     BadOffset {
         /// The block whose entry is bad.
@@ -92,7 +94,7 @@ pub enum Refusal {
 impl Refusal {
     /// The number of every refusal, rising.
     pub const NUMBERS: &'static [u32] =
-        &[1, 2, 3, 4, 5, 6, 7, 8, 9, 10, 11, 12, 13, 14, 15, 17, 18, 20, 21, 22];
+        &[1, 2, 3, 4, 5, 6, 7, 8, 9, 10, 11, 12, 13, 14, 15, 17, 18, 19, 20, 21, 22];
 
     /// Its number, the same as in C.
     ///
@@ -118,6 +120,7 @@ impl Refusal {
             Refusal::BadHead => 15,
             Refusal::NoSuchBlock => 17,
             Refusal::CoefficientsDiffer => 18,
+            Refusal::NoSuchSample => 19,
             Refusal::BadOffset { .. } => 20,
             Refusal::BadLength { .. } => 21,
             Refusal::BadHeader { .. } => 22,
@@ -162,6 +165,7 @@ impl Refusal {
             15 => Refusal::BadHead,
             17 => Refusal::NoSuchBlock,
             18 => Refusal::CoefficientsDiffer,
+            19 => Refusal::NoSuchSample,
             20 => Refusal::BadOffset { block },
             21 => Refusal::BadLength { block },
             22 => Refusal::BadHeader { block },
@@ -189,6 +193,7 @@ impl Refusal {
             Refusal::BadHead => "not an image: its head is not a clip's, or bytes are missing",
             Refusal::NoSuchBlock => "the image has no block of that number",
             Refusal::CoefficientsDiffer => "the two blocks have different coefficients",
+            Refusal::NoSuchSample => "the first sample is not in the clip",
             Refusal::BadOffset { .. } => "the entry's offset is not where the block's body begins",
             Refusal::BadLength { .. } => "the entry's length or its zero bytes are wrong",
             Refusal::BadHeader { .. } => {

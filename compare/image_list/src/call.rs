@@ -1,5 +1,6 @@
 //! Calls on images, and their answers as documents 01 and 02 read images and the Rust plays blocks.
 
+use crate::located::Run;
 use crate::reader::{Played, Refused, open, same};
 use clip_list::{bytes, hexadecimal};
 
@@ -18,6 +19,11 @@ pub enum Call {
     PlayAll {
         room: usize,
     },
+    /// Plays from a sample on.
+    PlayFrom {
+        first: u32,
+        room: usize,
+    },
     Same,
     /// Compares the second image with the first.
     Reversed,
@@ -30,17 +36,19 @@ impl Call {
             Self::Body { .. } => 'k',
             Self::Play { .. } => 'p',
             Self::PlayAll { .. } => 'a',
+            Self::PlayFrom { .. } => 'm',
             Self::Same => 's',
             Self::Reversed => 'r',
         }
     }
 
-    /// The block's number and the output's length, zero where there is none.
+    /// The number of the block or of the first sample, and the output's length; zero where there is none.
     pub fn numbers(self) -> (u32, usize) {
         match self {
             Self::Body { k } => (k, 0),
             Self::Play { k, room } => (k, room),
             Self::PlayAll { room } => (0, room),
+            Self::PlayFrom { first, room } => (first, room),
             _ => (0, 0),
         }
     }
@@ -55,6 +63,9 @@ impl Call {
             }
             Self::PlayAll { room } => {
                 played(room, open(first).and_then(|image| image.play_all(room)))
+            }
+            Self::PlayFrom { first: sample, room } => {
+                run(room, open(first).and_then(|image| image.play_from(sample, room)))
             }
             Self::Same => compared(first, second),
             Self::Reversed => compared(second, first),
@@ -90,14 +101,25 @@ fn body(image: &[u8], k: usize) -> String {
     format!("{} {}", begun(&body), body.unwrap_or_default())
 }
 
+/// The whole output, of which the first samples are written.
+fn output(room: usize, samples: &[i16]) -> String {
+    let mut output = vec![0x5a5a; room];
+    output[..samples.len()].copy_from_slice(samples);
+    hexadecimal(&bytes(&output))
+}
+
 fn played(room: usize, played: Played) -> String {
     let begun = begun(&played);
     let (samples, context) = played.unwrap_or_default();
-    let mut output = vec![0x5a5a; room];
-    output[..samples.len()].copy_from_slice(&samples);
     let (count, header) = (samples.len(), context.predictor_and_scale);
-    let [history, output] = [&context.last_samples[..], &output].map(|xs| hexadecimal(&bytes(xs)));
-    format!("{begun} {count:08x} {header:04x} {history} {output}")
+    let history = hexadecimal(&bytes(&context.last_samples));
+    format!("{begun} {count:08x} {header:04x} {history} {}", output(room, &samples))
+}
+
+fn run(room: usize, run: Run) -> String {
+    let begun = begun(&run);
+    let (samples, blocks) = run.unwrap_or_default();
+    format!("{begun} {:08x} {blocks:08x} {}", samples.len(), output(room, &samples))
 }
 
 fn compared(first: &[u8], second: &[u8]) -> String {

@@ -7,6 +7,8 @@ use crate::damage::block_count;
 use crate::made::{Clip, any_image, clip_image};
 use crate::reader::long;
 use crate::refusals::refusals;
+use crate::refused_runs::refused_runs;
+use crate::runs::runs;
 use crate::sameness::sameness;
 use crate::writer::Writer;
 use clip_list::{HISTORIES, Start, extreme_coefficients, image_of};
@@ -24,6 +26,9 @@ pub fn cases() -> Vec<Case> {
     cases.extend(refusals(&mut random));
     cases.extend(sameness(&mut random));
     cases.extend(contents(&mut random));
+    let mut random = Random::new(2);
+    cases.extend(runs(&mut random));
+    cases.extend(refused_runs(&mut random));
     cases
 }
 

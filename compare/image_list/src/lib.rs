@@ -2,15 +2,16 @@
 //!
 //! There are two images. A line of a list has 56 bytes: a letter, a record of 27 bytes in hexadecimal digits, and the line's end.
 //! `b`, `f` and `g` put bytes into both images, the first or the second: 0 their place (two bytes), 2 how many, 3 the bytes. The
-//! others are calls: 0 and 2 the lengths of the two images that are lent (two bytes each), 4 the block's number (four bytes), 8 the
-//! output's length (two bytes). `o` opens the first image, `k` finds the body of a block of it, `p` plays that block, `a` plays all
-//! blocks, `s` compares the first image with the second, `r` the second with the first.
+//! others are calls: 0 and 2 the lengths of the two images that are lent (two bytes each), 4 the number of the block or of the first
+//! sample (four bytes), 8 the output's length (two bytes). `o` opens the first image, `k` finds the body of a block of it, `p` plays
+//! that block, `a` plays all blocks, `m` plays from that sample on, `s` compares the first image with the second, `r` the second with
+//! the first.
 //!
 //! A line answers each call: 00 or the refusal's number; with 20, 21 and 22 the block whose entry is bad, else 0; then N, rate, B,
-//! coefficients, gain and K, zeros where opening is refused; the body, if there is one; the count, the context and the whole output,
-//! which holds 5A in each byte at first; or 1 where the images are the same and else 0. Images are made of the Rust's blocks, and what
-//! is played is the Rust's answer; how an image is read, and the numbers of the refusals, are document 01's with change 4/13 of
-//! document 02.
+//! coefficients, gain and K, zeros where opening is refused; the body, if there is one; the count, the context (`m`: the blocks that
+//! were touched, in eight digits) and the whole output, which holds 5A in each byte at first; or 1 where the images are the same and
+//! else 0. Images are made of the Rust's blocks, and what is played is the Rust's answer; how an image is read, and the numbers of the
+//! refusals, are document 01's with changes 1/13 and 4/13 of document 02.
 
 mod call;
 mod case;
@@ -18,10 +19,13 @@ mod cases;
 mod contents;
 mod damage;
 mod fault;
+mod located;
 mod made;
 mod random;
 pub mod reader;
 mod refusals;
+mod refused_runs;
+mod runs;
 mod sameness;
 mod writer;
 
@@ -32,5 +36,6 @@ pub use damage::{
     ENTRY, HEAD, LOWEST, MARK_END, PAIRS, block_count, body, damaged, table, with_nibble,
 };
 pub use fault::{FAULTS, Fault, change};
-pub use made::{any_image, clip_image};
-pub use random::random_images;
+pub use located::{Located, Run};
+pub use made::{any_image, clip_image, put_any_bytes, put_any_histories};
+pub use random::{random_images, random_run};

@@ -46,20 +46,33 @@ pub fn clip_image(random: &mut Random, total: usize, size: u32) -> Vec<u8> {
 /// An image that opens, with any coefficients but two of -32,768 in a pair, any bodies and any histories.
 pub fn any_image(random: &mut Random, total: usize, size: u32) -> Vec<u8> {
     let mut image = clip_image(random, total, size);
+    put_any_bytes(random, &mut image);
+    image
+}
+
+/// Puts any coefficients but two of -32,768 in a pair, any bodies and any histories, so that the image opens.
+pub fn put_any_bytes(random: &mut Random, image: &mut [u8]) {
     for place in (16..48).step_by(4) {
         let [c0, c1] = [random.sample(), random.sample()];
         let c1 = if [c0, c1] == [i16::MIN; 2] { 0 } else { c1 };
         image[place..place + 4].copy_from_slice(&bytes(&[c0, c1]));
     }
-    let bodies = table(&image);
+    let bodies = table(image);
     image[bodies..].fill_with(|| random.bits() as u8);
-    for k in 0..block_count(&image) {
+    for k in 0..block_count(image) {
         let place = HEAD + ENTRY * k;
-        image[place + 9] = image[long(&image, place) as usize];
-        let history = bytes(&[random.sample(), random.sample()]);
-        image[place + 10..place + 14].copy_from_slice(&history);
+        image[place + 9] = image[long(image, place) as usize];
     }
-    image
+    put_any_histories(random, image);
+}
+
+/// Puts any histories into the entries, others than the blocks before leave.
+pub fn put_any_histories(random: &mut Random, image: &mut [u8]) {
+    for k in 0..block_count(image) {
+        let place = HEAD + ENTRY * k + 10;
+        let history = bytes(&[random.sample(), random.sample()]);
+        image[place..place + 4].copy_from_slice(&history);
+    }
 }
 
 /// The image with bytes put at a place.

@@ -20,20 +20,29 @@ pub fn random_images(random: &mut Random) -> Case {
     let after = random.below_one(&[1, 1, 40]);
     let image = [&image[..], &random_bytes(random, after)].concat();
     let mut case = Writer::new(&image);
+    let mut of_runs = source(&image);
     case.open().call(Call::Same);
     for _ in 0..3 {
         read(random, &mut case, &image);
+        run(&mut of_runs, &mut case, &image);
     }
     for _ in 0..4 {
         let other = altered(random, &clip, &image);
         case.first(&other);
         read(random, &mut case, &image);
+        run(&mut of_runs, &mut case, &image);
         case.open().both_ways();
         if random.below(4) == 0 {
             case.second(&altered(random, &clip, &image)).both_ways().second(&image);
         }
     }
     case.finish()
+}
+
+/// A source of random numbers that the image's bytes tell.
+fn source(image: &[u8]) -> Random {
+    let next = |seed: u64, byte: &u8| seed.wrapping_mul(257).wrapping_add(u64::from(*byte));
+    Random::new(image.iter().fold(0, next))
 }
 
 fn random_bytes(random: &mut Random, len: usize) -> Vec<u8> {
@@ -67,4 +76,36 @@ fn read(random: &mut Random, case: &mut Writer, image: &[u8]) {
         let total = (long(image, 4) as usize).saturating_add_signed(random.within(2) as isize);
         case.all(total.min(MOST_ROOM));
     }
+}
+
+/// Plays a run or two.
+fn run(random: &mut Random, case: &mut Writer, image: &[u8]) {
+    for _ in 0..1 + random.below(2) {
+        let (first, room) = random_run(random, image);
+        case.from(first, room.min(MOST_ROOM));
+    }
+}
+
+/// A first sample and a room, near the clip's end and the edges of blocks more often; some first samples are not in the clip.
+pub fn random_run(random: &mut Random, image: &[u8]) -> (u32, usize) {
+    let [total, block] = [4, 12].map(|place| long(image, place) as usize);
+    let per_block = block / 8 * 14;
+    let edge = per_block * random.below(total / per_block + 1);
+    let first = match random.below(8) {
+        0 => 0,
+        1 | 2 => (edge + random.below(3)).saturating_sub(1),
+        3 => total - 1 - random.below(total.min(3)),
+        4 => [total, total + 1, random.bits() as u32 as usize, u32::MAX as usize][random.below(4)],
+        _ => random.below(total),
+    };
+    let left = total.saturating_sub(first);
+    let to_edge = per_block * (1 + random.below(3)) - first % per_block;
+    let room = match random.below(8) {
+        0 => random.below(2),
+        1 | 2 => to_edge + random.below(3) - 1,
+        3 => (left + random.below(3)).saturating_sub(1),
+        4 => left + random.below(30),
+        _ => random.below(left + 2),
+    };
+    (first as u32, room.min(left + 30))
 }

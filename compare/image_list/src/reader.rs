@@ -148,7 +148,7 @@ impl Opened<'_> {
     }
 
     /// Code 13.
-    fn test_pairs(&self) -> Result<(), Refused> {
+    pub(crate) fn test_pairs(&self) -> Result<(), Refused> {
         if has_lowest_pair(&self.coefficients) { Err(Refused::by(13)) } else { Ok(()) }
     }
 }

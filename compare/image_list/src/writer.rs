@@ -60,6 +60,11 @@ impl Writer {
         self.call(Call::PlayAll { room })
     }
 
+    /// Plays from a sample on with a room.
+    pub fn from(&mut self, first: u32, room: usize) -> &mut Self {
+        self.call(Call::PlayFrom { first, room })
+    }
+
     /// Compares both ways.
     pub fn both_ways(&mut self) -> &mut Self {
         self.call(Call::Same).call(Call::Reversed)

@@ -21,13 +21,14 @@ fn number(line: &str, place: usize, digits: usize) -> usize {
     usize::from_str_radix(&line[place..place + digits], 16).unwrap()
 }
 
-/// The call of a letter.
+/// The call of a letter, with the number of a block or of a sample.
 fn call_of(letter: &str, k: u32, room: usize) -> Call {
     match letter {
         "o" => Call::Open,
         "k" => Call::Body { k },
         "p" => Call::Play { k, room },
         "a" => Call::PlayAll { room },
+        "m" => Call::PlayFrom { first: k, room },
         "s" => Call::Same,
         "r" => Call::Reversed,
         _ => panic!("{letter}"),
@@ -59,7 +60,7 @@ fn the_list_is_large_enough() {
     let answers: String = cases.iter().map(Case::answers).collect();
     let calls = answers.lines().count();
     println!("{} cases, {calls} calls, {} and {} bytes", cases.len(), inputs.len(), answers.len());
-    assert!(calls >= 2000 && inputs.len() + answers.len() <= 600_000);
+    assert!(calls >= 5000 && inputs.len() + answers.len() <= 1_000_000);
 }
 
 #[test]
@@ -103,6 +104,9 @@ fn each_call_has_an_answer() {
                 Call::Play { room, .. } | Call::PlayAll { room } => {
                     assert_eq!(words, [2, 8, 8, 4, 8, 4 * room], "{answer}");
                 }
+                Call::PlayFrom { room, .. } => {
+                    assert_eq!(words, [2, 8, 8, 8, 4 * room], "{answer}");
+                }
                 Call::Same | Call::Reversed => assert_eq!(words, [2, 8, 8], "{answer}"),
             }
         }
@@ -120,7 +124,7 @@ fn kinds(cases: &[Case]) -> Vec<String> {
 
 /// All kinds that there are.
 const KINDS: &str = "o00 o0f o14 o15 o16 k00 k0f k11 k14 k15 k16 p00 p0d p0e p0f p11 p14 p15 p16 \
-    a00 a0d a0e a0f a14 a15 a16 s0 s1 s0d s0f s14 s15 s16 r0 r1 r0d r0f r14 r15 r16";
+    a00 a0d a0e a0f a14 a15 a16 m00 m0d m0f m13 m14 m15 m16 s0 s1 s0d s0f s14 s15 s16 r0 r1 r0d r0f r14 r15 r16";
 
 #[test]
 fn every_call_has_every_answer() {
@@ -145,7 +149,7 @@ fn bad_entries(cases: &[Case]) -> Vec<(char, u8, usize)> {
 fn every_call_names_the_first_block_and_later_ones() {
     for cases in [cases(), random_cases(2000)] {
         let seen = bad_entries(&cases);
-        for letter in "okpasr".chars() {
+        for letter in "okpamsr".chars() {
             for code in 20..=22 {
                 let blocks = seen.iter().filter(|bad| (bad.0, bad.1) == (letter, code));
                 let later = blocks.clone().filter(|bad| bad.2 > 0).count();

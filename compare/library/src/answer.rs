@@ -1,6 +1,6 @@
 //! Answers that can be compared, and altered to see that a comparison can fail.
 
-use crate::ffi::{Body, Comparison, Opening, Playback};
+use crate::ffi::{Body, Comparison, Opening, Part, Playback};
 use clip_list::State;
 use image_list::reader::Refused;
 use oracle::FrameContext;
@@ -129,6 +129,11 @@ impl<T: Answer, R: Reason> Answer for Result<T, R> {
     }
 }
 
+/// What an answer of C says by its code and its entry.
+fn refused_by(code: u32, block: u32) -> Option<Refused> {
+    (code > 0).then_some(Refused { code: code as u8, block })
+}
+
 /// Where a block is named, it alone is altered; else the code.
 macro_rules! answers_of_c {
     ($($answer:ty)*) => {
@@ -141,11 +146,25 @@ macro_rules! answers_of_c {
             }
 
             fn refused(&self) -> Option<Refused> {
-                let Self { code, entry, .. } = *self;
-                (code > 0).then_some(Refused { code: code as u8, block: entry })
+                refused_by(self.code, self.entry)
             }
         })*
     };
 }
 
 answers_of_c!(Opening Body Playback Comparison);
+
+/// Where a run is played, the count of its blocks alone is altered.
+impl Answer for Part {
+    fn alter(&mut self) {
+        match self.code {
+            0 => self.blocks ^= 1,
+            20..=22 => self.entry ^= 1,
+            _ => self.code ^= 1,
+        }
+    }
+
+    fn refused(&self) -> Option<Refused> {
+        refused_by(self.code, self.entry)
+    }
+}

@@ -1,9 +1,10 @@
 //! Each call that reads an image, through C and as documents 01 and 02 say, every field of its answer and the whole output.
 
-use crate::ffi::{self, Body, Comparison, Context, Head, Opening, Playback};
+use crate::ffi::{self, Body, Comparison, Context, Head, Opening, Part, Playback};
 use crate::reading::pattern;
 use crate::tally::Tally;
 use image_list::reader::{Opened, Played, Refused, same};
+use image_list::{Located, Run};
 use oracle::FrameContext;
 
 /// An image as it is read, whether it opens or not.
@@ -15,7 +16,7 @@ fn begun<T>(answer: &Result<T, Refused>) -> (u32, u32) {
 }
 
 /// What is shown of an image where answers differ.
-fn shown(image: &[u8]) -> &[u8] {
+pub fn shown(image: &[u8]) -> &[u8] {
     &image[..image.len().min(1000)]
 }
 
@@ -82,6 +83,29 @@ fn right_playback(room: usize, played: Played) -> (Playback, Vec<i16>) {
     let mut out = pattern(room);
     out[..samples.len()].copy_from_slice(&samples);
     (Playback { code, entry, samples: samples.len() as u64, context: context(after) }, out)
+}
+
+/// The samples of an image and where they lie, or why it does not play.
+pub fn located(read: &Read) -> Result<Located, Refused> {
+    opened(read)?.located()
+}
+
+/// What should be played from a sample on.
+pub fn right_run(located: &Result<Located, Refused>, first: u32, room: usize) -> Run {
+    located.as_ref().map_err(|refused| *refused)?.run(first, room)
+}
+
+/// Plays a run, which is to be this one, from a sample on with a room.
+pub fn compare_play_from(image: &[u8], right: &Run, first: u32, room: usize, tally: &mut Tally) {
+    let mut out = pattern(room);
+    let library = ffi::play_from(image, first, &mut out);
+    let (code, entry) = begun(right);
+    let (samples, blocks) = right.as_ref().map_or((&[][..], 0), |run| (&run.0[..], run.1));
+    let mut right_out = pattern(room);
+    right_out[..samples.len()].copy_from_slice(samples);
+    let right = Part { code, entry, samples: samples.len() as u64, blocks };
+    tally.compare("play_from", &(shown(image), first, room), library, right);
+    tally.compare("play_from's output", &(shown(image), first, room), out, right_out);
 }
 
 /// Compares two images.

@@ -24,7 +24,7 @@ pub fn fixed(tally: &mut Tally) {
 }
 
 /// Silence of 14,680,064 samples in blocks of one frame.
-fn longest() -> Vec<u8> {
+pub fn longest() -> Vec<u8> {
     let blocks = 1_048_576;
     let mut image = [&b"DSPC"[..], &[0, 0xe0, 0, 0, 0, 0, 0, 1, 0, 0, 0, 8]].concat();
     image.resize(HEAD - 4, 0);

@@ -1,7 +1,8 @@
 //! An image damaged in all ways, each call on it compared through C.
 
 use crate::c_calls::{
-    Read, compare_body, compare_open, compare_play, compare_play_all, compare_same,
+    Read, compare_body, compare_open, compare_play, compare_play_all, compare_play_from,
+    compare_same, located, right_run,
 };
 use crate::tally::Tally;
 use image_list::reader;
@@ -105,9 +106,17 @@ impl<'a> Damaging<'a> {
         let [one, all] = needed(&read, k).map(|needed| room(self.random, needed));
         compare_play(image, &read, k, one, self.tally);
         compare_play_all(image, &read, all, self.tally);
+        let first = k.saturating_mul(samples_of_a_block(self.whole));
+        let run = right_run(&located(&read), first, one);
+        compare_play_from(image, &run, first, one, self.tally);
         compare_same(image, self.whole, self.tally);
         compare_same(self.whole, image, self.tally);
     }
+}
+
+/// The samples of a whole block.
+fn samples_of_a_block(image: &[u8]) -> u32 {
+    reader::long(image, 12) / 8 * 14
 }
 
 /// The number of a block, sometimes of one that there is not.

@@ -51,6 +51,16 @@ pub struct Playback {
     pub context: Context,
 }
 
+/// `doilycairn_part`.
+#[repr(C)]
+#[derive(Debug, Clone, Copy, Default, PartialEq)]
+pub struct Part {
+    pub code: u32,
+    pub entry: u32,
+    pub samples: u64,
+    pub blocks: u32,
+}
+
 /// `doilycairn_comparison`; its `bool` as a byte, so that any byte can be compared.
 #[repr(C)]
 #[derive(Debug, Clone, Copy, Default, PartialEq)]
@@ -62,7 +72,8 @@ pub struct Comparison {
 
 const _: () = assert!(size_of::<Context>() == 6 && size_of::<Head>() == 52);
 const _: () = assert!(size_of::<Opening>() == 60 && size_of::<Body>() == 28);
-const _: () = assert!(size_of::<Playback>() == 24 && size_of::<Comparison>() == 12);
+const _: () = assert!(size_of::<Playback>() == 24 && size_of::<Part>() == 24);
+const _: () = assert!(size_of::<Comparison>() == 12);
 
 mod raw {
     use super::*;
@@ -84,6 +95,13 @@ mod raw {
             out: *mut i16,
             out_len: usize,
         ) -> Playback;
+        pub fn doilycairn_play_from(
+            image: *const u8,
+            image_len: usize,
+            first: u32,
+            out: *mut i16,
+            out_len: usize,
+        ) -> Part;
         pub fn doilycairn_same(
             first: *const u8,
             first_len: usize,
@@ -113,6 +131,12 @@ pub fn play_all(image: &[u8], out: &mut [i16]) -> Playback {
     let (bytes, samples) = (image.as_ptr(), out.as_mut_ptr());
     // SAFETY: both slices are passed with their own lengths; only `out` is written.
     unsafe { raw::doilycairn_play_all(bytes, image.len(), samples, out.len()) }
+}
+
+pub fn play_from(image: &[u8], first: u32, out: &mut [i16]) -> Part {
+    let (bytes, samples) = (image.as_ptr(), out.as_mut_ptr());
+    // SAFETY: both slices are passed with their own lengths; only `out` is written.
+    unsafe { raw::doilycairn_play_from(bytes, image.len(), first, samples, out.len()) }
 }
 
 pub fn same(first: &[u8], second: &[u8]) -> Comparison {

@@ -1,7 +1,7 @@
 //! Drives libdoilycairn.a and the unchanged Rust on the same inputs and compares every result.
 //!
 //! What is encoded, played, joined, converted and measured is the Rust's answer; refusals' numbers, states and how an image is made
-//! and read are document 01's, and the block of a bad entry document 02's, read plainly.
+//! and read are document 01's, the block of a bad entry and the run from a sample on document 02's, read plainly.
 
 mod answer;
 mod blocks;
@@ -17,7 +17,9 @@ mod ffi;
 mod frames;
 mod long;
 mod measuring;
+mod parts;
 mod reading;
+mod runs;
 mod sameness;
 mod states;
 mod stores;
@@ -38,13 +40,14 @@ pub struct Part {
 pub const LONG: Part = Part { name: "long", fixed: |_| {}, random: long::random };
 
 /// All other parts.
-pub const PARTS: [Part; 7] = [
+pub const PARTS: [Part; 8] = [
     Part { name: "frames", fixed: frames::fixed, random: frames::random },
     Part { name: "blocks", fixed: blocks::fixed, random: blocks::random },
     Part { name: "stores", fixed: |_| {}, random: stores::random },
     Part { name: "states", fixed: |_| {}, random: states::random },
     Part { name: "calls", fixed: calls::fixed, random: calls::random },
     Part { name: "clips", fixed: |_| {}, random: clips::random },
+    Part { name: "parts", fixed: parts::fixed, random: parts::random },
     Part { name: "contents", fixed: contents::fixed, random: contents::random },
 ];
 

@@ -3,9 +3,13 @@
 use library::{LONG, PARTS, Part, run};
 use std::process::Command;
 
-/// The count of cases; a case of `contents` damages its image in thousands of ways.
+/// The count of cases; a case of `contents` damages its image in thousands of ways, a case of `parts` has fourteen runs.
 fn count(part: &Part, most: u64) -> u64 {
-    if part.name == "contents" { most / 25 } else { most }
+    match part.name {
+        "contents" => most / 25,
+        "parts" => most / 2,
+        _ => most,
+    }
 }
 
 #[test]
@@ -21,7 +25,7 @@ fn nothing_differs() {
         }
     }
     let unused: Vec<_> = (0..refused.len()).filter(|code| refused[*code] == 0).collect();
-    assert_eq!(unused, [16, 19], "{refused:?}");
+    assert_eq!(unused, [16], "{refused:?}");
 }
 
 #[test]
@@ -59,12 +63,23 @@ fn each_altered_answer_through_c_is_found() {
 #[test]
 fn each_call_names_the_first_block_and_later_ones() {
     let seen = run(contents(), 4, 4, None).bad_entries;
-    for what in ["open", "block_body", "play", "play_all", "same"] {
+    for what in ["open", "block_body", "play", "play_all", "play_from", "same"] {
         for code in 20..=22 {
             for later in [false, true] {
                 assert!(seen[&(what, code, later)] >= 100, "{what}, {code}: {seen:?}");
             }
         }
+    }
+}
+
+#[test]
+fn runs_are_refused_for_every_reason() {
+    let part = PARTS.iter().find(|part| part.name == "parts").unwrap();
+    let refused = run(part, 400, 5, None).refused;
+    for (code, count) in refused.into_iter().enumerate().skip(1) {
+        let expected = [13, 15, 19, 20, 21, 22].contains(&code);
+        assert_eq!(count >= 50, expected, "{code}: {count}");
+        assert!(expected || count == 0, "{code}: {count}");
     }
 }
 
@@ -80,6 +95,7 @@ fn the_program_says_whether_anything_differs() {
     assert_eq!(status(&["1", "3", "contents", "wrong=same"]), Some(1));
     assert_eq!(status(&["20", "3", "frames", "wrong=encode_frame"]), Some(1));
     assert_eq!(status(&["20", "3", "clips", "wrong=image"]), Some(1));
+    assert_eq!(status(&["20", "3", "parts", "wrong=in two"]), Some(1));
     assert_eq!(status(&["20", "3", "blocks", "wrong=image"]), Some(2));
     for words in [&["20"][..], &["20", "x"], &["20", "3", "others"]] {
         assert_eq!(status(words), Some(2));

@@ -26,12 +26,12 @@ cond-ap : {A B : Type 0} (f : A → B) (t : Bool) (x y : A) → f (cond t x y) �
 cond-ap f true x y = refl
 cond-ap f false x y = refl
 
-none : (bytes : List ℕ) (cs : List ℤ) (a : ℕ) (p : Playing) → playFrom bytes cs a 0 p ≡ p
+pub none : (bytes : List ℕ) (cs : List ℤ) (a : ℕ) (p : Playing) → playFrom bytes cs a 0 p ≡ p
 unfolding playFrom
 none bytes cs a p = refl
 
 -- an address is a header's first nibble or a sample's, or a header's second
-starts : (a : ℕ) → (a % 16 ≡ 1 → ⊥) → (a % 16 ≡ 0) ⊎ (2 ≤ a % 16)
+pub starts : (a : ℕ) → (a % 16 ≡ 1 → ⊥) → (a % 16 ≡ 0) ⊎ (2 ≤ a % 16)
 starts a h = go (eqb (a % 16) 0) refl
   where
     two : (n : ℕ) → (n ≡ 0 → ⊥) → (n ≡ 1 → ⊥) → 2 ≤ n

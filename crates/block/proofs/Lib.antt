@@ -6,5 +6,6 @@ pub mod LawsRefusals
 pub mod LawsAddress
 pub mod LawsPlay
 pub mod LawsParts
+pub mod LawsOn
 pub mod LawsCalls
 pub mod Worked

@@ -2,7 +2,7 @@
 use crate::sample::decode_sample;
 use whole::History;
 ghost use mathlib.Core.Path.{_≡_};
-ghost use Prim.Native.Nat.{_+_, _*_, _≤_};
+ghost use Prim.Native.Nat.{_+_, _*_, _≤_, _<_};
 ghost use lib.ListN.{length};
 ghost use lib.Seq.{sets};
 ghost use Rattle.block.specs.inner.Nibbles.{playNibbles};
@@ -72,4 +72,34 @@ pub(crate) fn play_nibbles(
         newest: last,
         older: newest,
     }
+}
+
+// The samples of a number of nibbles from an address on, which may be that of a byte's low nibble.
+pub(crate) fn play_from_nibble(
+    bytes: &[u8],
+    from: usize,
+    count: usize,
+    c0: i16,
+    c1: i16,
+    scale: u32,
+    history: History,
+    out: &mut [i16],
+) -> History
+    requires { ⌜ (0 < count) × (from + count ≤ 2 * length (now bytes)) × (count ≤ length (now out)) × (scale ≤ 32768) ⌝ }
+    ensures left { λ r. ⌜ r ≡ playNibbles (now (bytes .entry)) from count c0 c1 scale history .history ⌝ }
+    ensures stored { λ r. ⌜ now (out .exit) ≡ sets (now (out .entry)) 0 (playNibbles (now (bytes .entry)) from count c0 c1 scale history .samples) ⌝ }
+{
+    if from % 2 == 0 {
+        return play_nibbles(bytes, from / 2, count, c0, c1, scale, history, out, 0);
+    }
+    let newest = history.newest;
+    let older = history.older;
+    let byte = bytes[from / 2];
+    let low = decode_sample(c0, c1, newest, older, byte % 16, scale);
+    out[0] = low;
+    let after = History {
+        newest: low,
+        older: newest,
+    };
+    play_nibbles(bytes, from / 2 + 1, count - 1, c0, c1, scale, after, out, 1)
 }

@@ -2,6 +2,7 @@
 pub mod coefficients;
 mod frame;
 mod join;
+pub mod part;
 pub mod play;
 mod sample;
 

@@ -22,7 +22,7 @@ pub(crate) fn bad_length(len: u32, bytes: usize) -> bool
 }
 
 // The samples of a frame of which there are `left` nibbles, 16 at most.
-fn beyond_header(left: usize) -> usize
+pub(crate) fn beyond_header(left: usize) -> usize
     ensures { λ r. ⌜ r ≡ left - 2 ⌝ }
 {
     if left < 2 { 0 } else { left - 2 }

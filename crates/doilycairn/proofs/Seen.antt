@@ -22,11 +22,12 @@ use Rattle.doilycairn.specs.declared.blocks.Joining.{Joining}
 use Rattle.doilycairn.specs.declared.blocks.Playback.{Playback}
 use Rattle.doilycairn.specs.declared.reading.Body.{Body}
 use Rattle.doilycairn.specs.declared.reading.Opening.{Opening}
+use Rattle.doilycairn.specs.declared.reading.Part.{Part}
 use Rattle.doilycairn.specs.declared.writing.Frame.{Frame}
 use Rattle.doilycairn.specs.Blocks as Blocks
 use Rattle.doilycairn.specs.Blocks.{joinedAnswer, playSeen, joinSeen}
 use Rattle.doilycairn.specs.Measuring.{processSeen, finishSeen}
-use Rattle.doilycairn.specs.Reading.{openSeen, bodyAt, handed, bodyInC}
+use Rattle.doilycairn.specs.Reading.{openSeen, bodyAt, handed, bodyInC, partAnswer, partSeen}
 use Rattle.doilycairn.specs.Writing.{frameCode, frameSeen, clipSeen}
 
 -- ---- measuring
@@ -58,6 +59,9 @@ open-seen o h p r q = ap₂ (λ (k j : ℕ). record { code = k; entry = j; head 
 pub play-seen : (o : Outcome ℕ) (c : FrameContext) (out : List ℤ) {e : Effect (Outcome ℕ) Playing} {r : Playback}
     → r ≡ Blocks.playedAnswer o c → effect o (playing c out) ≡ e → effect r out ≡ playSeen e
 play-seen o c out p q = ap (λ (r : Playback). effect r out) p ∙ ap playSeen q
+
+pub part-seen : (o : Outcome (ℕ × ℕ)) (out : List ℤ) {e : Effect (Outcome (ℕ × ℕ)) (List ℤ)} {r : Part} → r ≡ partAnswer o → effect o out ≡ e → effect r out ≡ partSeen e
+part-seen o out p q = ap (λ (r : Part). effect r out) p ∙ ap partSeen q
 
 -- the entry's numbers, and two nibbles a byte
 pub body-told : (l : List ℕ) (k offset bytes nibbles : ℕ) (c : FrameContext) → offset ≡ offsetIn l k → nibbles ≡ lengthIn l k → bytes ≡ (nibbles + 1) / 2 → c ≡ contextIn l k

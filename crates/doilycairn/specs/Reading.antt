@@ -2,6 +2,7 @@
 use mathlib.Core.Bool.{Bool, true, false}
 use mathlib.Core.List.{List}
 use Prim.Native.Nat.{ℕ, _+_, _/_}
+use lib.IntN.{ℤ}
 use lib.ListN.{take, drop}
 use Rattle.whole.specs.Outcome.{Outcome, valueOr, ifAccepted, outcomeCode, outcomeEntry, Effect, effect}
 use Rattle.block.specs.Context.{newContext}
@@ -10,10 +11,12 @@ use Rattle.image.specs.declared.Head.{Head}
 use Rattle.image.specs.Bodies.{blockAnswer, blockBody}
 use Rattle.image.specs.Opening.{outcome}
 use Rattle.image.specs.Reading.{offsetIn, lengthIn}
+use Rattle.image.specs.Part.{samplesOf, blocksOf}
 use Rattle.image.specs.Playing.{contextIn}
 use Rattle.doilycairn.specs.declared.reading.Body.{Body}
 use Rattle.doilycairn.specs.declared.reading.Comparison.{Comparison}
 use Rattle.doilycairn.specs.declared.reading.Opening.{Opening}
+use Rattle.doilycairn.specs.declared.reading.Part.{Part}
 
 -- the number of an answer
 abbrev pub codeOf : Answer → ℕ
@@ -44,6 +47,16 @@ unfoldable pub bodyInC : List ℕ → ℕ → Effect Body (List ℕ)
 bodyInC l k =
     let o = blockAnswer l k in
     effect (ifAccepted o (bodyAt l k) (record { code = outcomeCode o; entry = outcomeEntry o; offset = 0; bytes = 0; nibbles = 0; context = newContext })) (blockBody l k)
+
+-- ---- playing from a sample on
+
+-- how many samples and how many blocks, with code 0, or zeros, the refusal's number and the block that it names
+abbrev pub partAnswer : Outcome (ℕ × ℕ) → Part
+partAnswer o = record { code = outcomeCode o; entry = outcomeEntry o; samples = samplesOf o; blocks = blocksOf o }
+
+-- what C sees of it
+abbrev pub partSeen : Effect (Outcome (ℕ × ℕ)) (List ℤ) → Effect Part (List ℤ)
+partSeen e = effect (partAnswer (e .outcome)) (e .left)
 
 -- ---- sameness
 

@@ -1,17 +1,19 @@
-// Reading an image: opening, the place of a block's body, playing a block or the whole, sameness (sections 4 and 5).
+// Reading an image: opening, the place of a block's body, playing a block, the whole or a part, sameness (sections 4 and 5).
 ghost use mathlib.Core.Path.{_≡_};
 ghost use Rattle.image.specs.inner.Asked.{Found};
 ghost use Rattle.image.specs.Opening.{outcome, openImage};
+ghost use Rattle.image.specs.Part.{partOutcome, playFrom};
 ghost use Rattle.image.specs.Playing.{playOutcome, play};
 ghost use Rattle.image.specs.Sameness.{sameOutcome, same};
 ghost use Rattle.image.specs.WholeImage.{playAll};
 ghost use Rattle.whole.specs.Outcome.{effect};
 ghost use Rattle.doilycairn.specs.Blocks.{playedAnswer, playSeen};
-ghost use Rattle.doilycairn.specs.Reading.{codeOf, entryOf, openSeen, bodyAt, handed, bodyInC, comparedAnswer};
+ghost use Rattle.doilycairn.specs.Reading.{codeOf, entryOf, openSeen, bodyAt, handed, bodyInC, partAnswer, partSeen, comparedAnswer};
 use crate::blocks::Playback;
 use block::FrameContext;
 use image::Answer;
 use image::Head;
+use image::PartAnswer;
 use image::PlayAnswer;
 use image::SameAnswer;
 use image::bodies::read_entry;
@@ -33,6 +35,15 @@ pub struct Body {
     pub bytes: u32,
     pub nibbles: u32,
     pub context: FrameContext,
+}
+
+// What playing from a sample on returns: how many samples were played, and how many blocks touched.
+#[repr(C)]
+pub struct Part {
+    pub code: u32,
+    pub entry: u32,
+    pub samples: u64,
+    pub blocks: u32,
 }
 
 // What comparing returns.
@@ -79,6 +90,26 @@ fn played_answer(answer: PlayAnswer, context: FrameContext) -> Playback
             entry: image::bad_block(why),
             samples: 0,
             context: context,
+        },
+    }
+}
+
+// The counts of an answer, or its number and the block that it names.
+fn part_answer(answer: PartAnswer) -> Part
+    ensures { λ r. ⌜ r ≡ partAnswer (partOutcome answer) ⌝ }
+{
+    match answer {
+        PartAnswer::Played(samples, blocks) => Part {
+            code: 0,
+            entry: 0,
+            samples: samples,
+            blocks: blocks,
+        },
+        PartAnswer::Refused(why) => Part {
+            code: image::code(why),
+            entry: image::bad_block(why),
+            samples: 0,
+            blocks: 0,
         },
     }
 }
@@ -181,6 +212,15 @@ pub extern "C" fn doilycairn_play_all(image: &[u8], out: &mut [i16]) -> Playback
     let answer = done.answer;
     let context = done.context;
     played_answer(answer, context)
+}
+
+// Plays an image from a sample on.
+#[no_mangle]
+pub extern "C" fn doilycairn_play_from(image: &[u8], first: u32, out: &mut [i16]) -> Part
+    ensures { λ r. ⌜ effect r (now (out .exit)) ≡ partSeen (playFrom (now (image .entry)) first (now (out .entry))) ⌝ }
+{
+    let answer = image::play_from(image, first, out);
+    part_answer(answer)
 }
 
 // Compares two images.

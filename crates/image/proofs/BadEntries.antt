@@ -17,6 +17,7 @@ use Rattle.image.specs.Reading.{shapeIn, offsetIn, lengthIn, headerIn, e
 use Rattle.image.specs.FirstBad.{FirstCode, bad-offset, bad-length, bad-header, FirstBad, NotOpened, bad-head, bad-entry, RefusedAlike}
 use Rattle.image.specs.Opening.{andThen, EntryFits, headOk, entryAnswer, entriesAnswer, openAnswer, openImage}
 use Rattle.image.specs.Bodies.{blockAnswer, blockBody}
+use Rattle.image.specs.Part.{fromAnswer, playFrom}
 use Rattle.image.specs.Playing.{playAnswer, play}
 use Rattle.image.specs.WholeImage.{allAnswer, playAll}
 use Rattle.image.specs.Sameness.{compareAnswer, bothAnswer, sameSound, same}
@@ -135,7 +136,7 @@ bad-named l n j (bad-entry f) =
 
 -- What opening is refused by, every call on the image is refused by, and names the same entry.
 pub refused-alike : (l m : List ℕ) (n j k : ℕ) (out : List ℤ) → openAnswer l ≡ refusedAt n j → RefusedAlike l m n j k out
-unfolding openImage blockAnswer blockBody play playAnswer playAll allAnswer same bothAnswer compareAnswer
+unfolding openImage blockAnswer blockBody play playAnswer playAll allAnswer playFrom fromAnswer same bothAnswer compareAnswer
 refused-alike l m n j k out p =
     record {
       opening = p;
@@ -143,6 +144,7 @@ refused-alike l m n j k out p =
       body = rw p;
       playing = rw p;
       playing-all = rw p;
+      playing-from = λ first. rw p;
       comparing = rw p;
       comparing-second = λ e. ap (λ (o : Outcome Unit). withValues o (sameSound m l)) (next-asked (compareAnswer m) (compareAnswer l) e ∙ first-refused (openAnswer l) _ p);
     }

@@ -32,7 +32,7 @@ samples-snoc l j (suc k) t e =
 
 module _ (l : List ℕ) (o : Opens l) where
   -- the frames of the first j blocks
-  frames-blocks : (j : ℕ) → j ≤ blockCount (shapeIn l) → framesIn l (min (j * (blockIn l / 8)) (frameCount (totalIn l))) .samples ≡ samplesFrom l 0 j
+  pub frames-blocks : (j : ℕ) → j ≤ blockCount (shapeIn l) → framesIn l (min (j * (blockIn l / 8)) (frameCount (totalIn l))) .samples ≡ samplesFrom l 0 j
   unfolding framesIn samplesFrom
   frames-blocks zero h =
       let z : min (0 * (blockIn l / 8)) (frameCount (totalIn l)) ≡ 0 = omega arith in

@@ -1,5 +1,5 @@
 -- The blocks of an image, written to an output one after the other.
-use mathlib.Core.List.{List, [], _++_, append-assoc, append-nil}
+use mathlib.Core.List.{List, _++_, append-nil}
 use mathlib.Core.Path.{_≡_, refl, sym, ap, _∙_, subst}
 use Prim.Native.Nat.{ℕ, zero, suc, _+_, _-_, _*_, _/_, _≤_, _<_}
 use native.Mathlib.Numerals.{add-one}
@@ -7,8 +7,8 @@ use native.Mathlib.Omega.{arith}
 use borrow.Author.Tests.{ltb-false, le-ltb}
 use lib.Dec.{ltb}
 use lib.IntN.{ℤ, pos}
-use lib.ListN.{length, take, drop, length-append, length-drop, drop-of-length-le}
-use lib.Seq.{sets, sets-eq, length-sets, take-all, take-append-seam, drop-append-seam, drop-drop}
+use lib.ListN.{length, take, drop, length-append, length-drop}
+use lib.Seq.{sets, length-sets}
 use Rattle.block.specs.declared.FrameContext.{FrameContext}
 use Rattle.block.specs.Address.{addressToSample}
 use Rattle.block.specs.Context.{newContext}
@@ -20,6 +20,7 @@ use Rattle.whole.specs.Frames.{frameCount}
 use Rattle.layout.proofs.SizeLaws.{frames-some, blocks-all}
 use Rattle.whole.specs.Outcome.{Outcome, accepted, refused, Effect, effect}
 use Rattle.whole.proofs.Outcomes.{failed}
+use Rattle.whole.proofs.Stores.{spread, part-sets, part-all, part-end}
 use Rattle.image.specs.Opening.{openAnswer}
 use Rattle.image.specs.Reading.{shapeIn, totalIn, blockIn, blocksIn, coefficientsIn, lengthIn}
 use Rattle.image.specs.inner.Asked.{Opens, Found, Playable, AllPlayable}
@@ -46,36 +47,6 @@ all-accepted l room p =
 pub all-accepts : (l : List ℕ) (room : ℕ) → AllPlayable l room → allAnswer l room ≡ accepted tt
 unfolding allAnswer roomAnswer
 all-accepts l room p = rw (opens l (p .opens), room-accepts (coefficientsIn l) (totalIn l) room (p .pairs) (p .enough))
-
--- ---- runs of stores from the start
-
-module _ {A : Type 0} where
-  spread : (vs l : List A) → length vs ≤ length l → sets l 0 vs ≡ vs ++ drop (length vs) l
-  spread vs l h =
-      let z : 0 + length vs ≡ length vs = omega arith in
-      sets-eq vs l 0 (omega arith) ∙ rw z
-
-  -- a run stored in the part after a run, and the two in the whole
-  pub part-sets : (l u v : List A) → length u + length v ≤ length l
-      → take (length u) (sets l 0 u) ++ sets (drop (length u) (sets l 0 u)) 0 v ≡ sets l 0 (u ++ v)
-  part-sets l u v h =
-      let d = length-drop (length u) l in
-      let n = length-append u v in
-      rw (
-        spread u l (omega arith),
-        take-append-seam u (drop (length u) l),
-        drop-append-seam u (drop (length u) l),
-        spread v (drop (length u) l) (omega (arith, d, h)),
-        drop-drop (length v) (length u) l,
-      )
-      (sym (spread (u ++ v) l (omega (arith, n, h)) ∙ rw n (append-assoc u v (drop (length u + length v) l))))
-
-  -- a part to the end, beyond which nothing lies
-  pub part-all : (l : List A) (at : ℕ) → take (length l - at) (drop at l) ≡ drop at l
-  part-all l at = let d = length-drop at l in take-all (length l - at) (drop at l) (omega arith)
-
-  pub part-end : (l : List A) (at : ℕ) → drop (length l - at) (drop at l) ≡ []
-  part-end l at = let d = length-drop at l in drop-of-length-le (drop at l) {i = length l - at} (omega arith)
 
 -- ---- the samples of the first blocks
 

@@ -16,6 +16,10 @@ pub mod LawsSame
 pub mod Worked
 pub mod LawsAll
 pub mod BlocksPlayed
+pub mod Touched
+pub mod LawsRun
+pub mod PartOfAll
+pub mod BlocksTouched
 pub mod BadEntries
 pub mod WhereSixteenStood
 mod LawsTurn

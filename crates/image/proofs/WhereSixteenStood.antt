@@ -16,6 +16,7 @@ use Rattle.layout.specs.Sizes.{blockCount, blockOffset, blockLength}
 use Rattle.image.specs.Reading.{shapeIn, blocksIn, totalIn, coefficientsIn, offsetIn, lengthIn, headerIn, entryZeroIn}
 use Rattle.image.specs.Opening.{andThen, headOk, entryAnswer, entriesAnswer, openAnswer, openImage}
 use Rattle.image.specs.Bodies.{blockAnswer}
+use Rattle.image.specs.Part.{fromAnswer, playFrom}
 use Rattle.image.specs.Playing.{roomAnswer, playAnswer, play}
 use Rattle.image.specs.WholeImage.{allAnswer, playAll}
 use Rattle.image.specs.Sameness.{compareAnswer, bothAnswer, sameSound, same}
@@ -175,12 +176,13 @@ module _ (l : List ℕ) where
 
 -- No call on an image is refused by 16.
 pub never-16 : (l m : List ℕ) (k : ℕ) (out : List ℤ) → Never16 l m k out
-unfolding openImage play playAnswer playAll allAnswer same bothAnswer
+unfolding openImage play playAnswer playAll allAnswer playFrom fromAnswer same bothAnswer
 never-16 l m k out =
     record {
       opening = not-by16 (openAnswer l) (never-opening l);
       finding = not-by16 (blockAnswer l k) (never-block l k);
       playing = not-by16 _ (never-with (playAnswer l k (length out)) _ (never-then (blockAnswer l k) _ (never-block l k) (never-room l _ (length out))));
       playing-all = not-by16 _ (never-with (allAnswer l (length out)) _ (never-then (openAnswer l) _ (never-opening l) (never-room l (totalIn l) (length out))));
+      playing-from = λ first. not-by16 _ (never-with (fromAnswer l first) _ (never-then (compareAnswer l) _ (never-compare l) (never-cond (leb (totalIn l) first) _ _ refl refl)));
       comparing = not-by16 _ (never-with (bothAnswer l m) (sameSound l m) (never-then (compareAnswer l) _ (never-compare l) (never-compare m)));
     }

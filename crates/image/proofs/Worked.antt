@@ -1,4 +1,4 @@
--- The worked clip of document 01: the sample 9 with zero coefficients, gain 0, rate 32,000, size 15.
+-- The worked clip of document 01: the sample 9 with zero coefficients, gain 0, rate 32,000, size 15. And runs of samples.
 use mathlib.Core.List.{List, [], _∷_, _++_}
 use mathlib.Core.Path.{_≡_, refl}
 use Prim.Native.Nat.{ℕ}
@@ -16,6 +16,7 @@ use Rattle.whole.specs.Outcome.{Outcome, accepted, refused}
 use Rattle.image.specs.Reading.{totalIn, rateIn, blockIn, zeroIn, blocksIn, signedAt, coefficientsUpTo, coefficientsIn, offsetIn, lengthIn, headerIn, newestIn, olderIn, entryZeroIn}
 use Rattle.image.specs.Opening.{markOk, numbersFit, headOk, entryAnswer, entriesAnswer, openAnswer}
 use Rattle.image.specs.Bodies.{bodyIn}
+use Rattle.image.specs.Part.{touched}
 use Rattle.image.specs.Playing.{contextIn}
 use Rattle.image.specs.Sameness.{blockSamples, samplesFrom, samplesIn}
 
@@ -37,3 +38,8 @@ pub plays : samplesIn (clip (0x44 ∷ 0x53 ∷ 0x50 ∷ 0x43 ∷ []) 1 1) ≡ po
 unfolding samplesIn samplesFrom blockSamples bodyIn contextIn blocksIn offsetIn lengthIn headerIn newestIn olderIn coefficientsIn coefficientsUpTo
     signedAt play playFrom takeHeader takeNibble nextSample nibbleAt pushSample withHeader predictor scale decodeSample signedNibble clamp
 plays = refl
+
+-- blocks touched, with 14 samples a block and 2 blocks: a run to a block's edge does not touch the next
+pub touches : (touched 14 0 14 2 ≡ 1) × (touched 14 0 15 2 ≡ 2) × (touched 14 13 1 2 ≡ 1) × (touched 14 13 2 2 ≡ 2) × (touched 14 14 1 2 ≡ 1) × (touched 14 14 0 2 ≡ 0)
+unfolding touched
+touches = (refl, refl, refl, refl, refl, refl)

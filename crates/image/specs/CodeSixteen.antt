@@ -15,6 +15,7 @@ use Rattle.layout.specs.Sizes.{blockCount, blockOffset, blockLength}
 use Rattle.image.specs.Reading.{shapeIn, blocksIn, totalIn, coefficientsIn, offsetIn, lengthIn, headerIn, entryZeroIn}
 use Rattle.image.specs.Opening.{andThen, headOk, openImage}
 use Rattle.image.specs.Bodies.{blockAnswer}
+use Rattle.image.specs.Part.{playFrom}
 use Rattle.image.specs.Playing.{roomAnswer, play}
 use Rattle.image.specs.WholeImage.{playAll}
 use Rattle.image.specs.Sameness.{sameSound, same}
@@ -47,7 +48,7 @@ abbrev pub as16 : {A : Type 0} → Outcome A → Outcome A
 as16 (accepted a) = accepted a
 as16 (refusedAt n j) = cond (leb 20 n && leb n 22) (refused 16) (refusedAt n j)
 
--- with 16 for 20, 21 and 22 every call on image l, or on l and m, answers as document 01 has it, playing all by 15, 16, 13 and 14, and names no block
+-- with 16 for 20, 21 and 22 every call of document 01 on image l, or on l and m, answers as document 01 has it, playing all by 15, 16, 13 and 14, and names no block
 pub record Where16Stood (l m : List ℕ) (k : ℕ) (out : List ℤ) : Type 0 where
   pub opening : as16 (openImage l .outcome) ≡ openAnswer16 l
   pub finding : as16 (blockAnswer l k) ≡ blockAnswer16 l k
@@ -61,4 +62,5 @@ pub record Never16 (l m : List ℕ) (k : ℕ) (out : List ℤ) : Type 0 where
   pub finding : (j : ℕ) → blockAnswer l k ≢ refusedAt 16 j
   pub playing : (j : ℕ) → play l k out .outcome ≢ refusedAt 16 j
   pub playing-all : (j : ℕ) → playAll l out .outcome ≢ refusedAt 16 j
+  pub playing-from : (first j : ℕ) → playFrom l first out .outcome ≢ refusedAt 16 j
   pub comparing : (j : ℕ) → same l m ≢ refusedAt 16 j

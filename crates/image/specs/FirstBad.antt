@@ -12,6 +12,7 @@ use Rattle.layout.specs.Sizes.{blockOffset, blockLength}
 use Rattle.image.specs.Reading.{shapeIn, blocksIn, offsetIn, lengthIn, headerIn, entryZeroIn}
 use Rattle.image.specs.Opening.{EntryFits, headOk, openImage}
 use Rattle.image.specs.Bodies.{blockAnswer, blockBody}
+use Rattle.image.specs.Part.{playFrom}
 use Rattle.image.specs.Playing.{play}
 use Rattle.image.specs.WholeImage.{playAll}
 use Rattle.image.specs.Sameness.{compareAnswer, same}
@@ -41,5 +42,6 @@ pub record RefusedAlike (l m : List ℕ) (n j k : ℕ) (out : List ℤ) : Type 0
   pub body : blockBody l k ≡ []
   pub playing : play l k out .outcome ≡ refusedAt n j
   pub playing-all : playAll l out .outcome ≡ refusedAt n j
+  pub playing-from : (first : ℕ) → playFrom l first out .outcome ≡ refusedAt n j
   pub comparing : same l m ≡ refusedAt n j
   pub comparing-second : compareAnswer m ≡ accepted tt → same m l ≡ refusedAt n j

@@ -5,6 +5,8 @@ pub mod Bodies
 pub mod Playing
 pub mod Sameness
 pub mod WholeImage
+pub mod Part
+pub mod PartCut
 pub mod BlocksInTurn
 pub mod FirstBad
 pub mod CodeSixteen

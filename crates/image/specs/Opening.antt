@@ -15,7 +15,7 @@ use Rattle.image.specs.declared.Answer.{Answer}
 use Rattle.image.specs.declared.Answer.the-variants.{Accepted, Refused}
 use Rattle.image.specs.declared.Head.{Head}
 use Rattle.image.specs.declared.Refusal.{Refusal}
-use Rattle.image.specs.declared.Refusal.the-variants.{LowestPair, OutputTooShort, BadHead, NoSuchBlock, BadOffset, BadLength, BadHeader}
+use Rattle.image.specs.declared.Refusal.the-variants.{LowestPair, OutputTooShort, BadHead, NoSuchBlock, NoSuchSample, BadOffset, BadLength, BadHeader}
 use Rattle.image.specs.Reading.{totalIn, rateIn, blockIn, zeroIn, blocksIn, shapeIn, headIn, offsetIn, lengthIn, headerIn, entryZeroIn}
 
 -- ---- answers
@@ -26,6 +26,7 @@ code LowestPair = 13
 code OutputTooShort = 14
 code BadHead = 15
 code NoSuchBlock = 17
+code NoSuchSample = 19
 code (BadOffset j) = 20
 code (BadLength j) = 21
 code (BadHeader j) = 22
@@ -36,6 +37,7 @@ badBlock LowestPair = 0
 badBlock OutputTooShort = 0
 badBlock BadHead = 0
 badBlock NoSuchBlock = 0
+badBlock NoSuchSample = 0
 badBlock (BadOffset j) = j
 badBlock (BadLength j) = j
 badBlock (BadHeader j) = j

@@ -2,3 +2,4 @@
 pub mod Asked
 pub mod ByFrames
 pub mod Played
+pub mod Runs

@@ -19,7 +19,7 @@ pub struct Entry {
 }
 
 // The context of block k's entry.
-fn read_context(image: &[u8], k: usize) -> FrameContext
+pub(crate) fn read_context(image: &[u8], k: usize) -> FrameContext
     requires { ⌜ Found (now image) k ⌝ }
     ensures { λ r. ⌜ r ≡ contextIn (now (image .entry)) k ⌝ }
 {

@@ -2,6 +2,7 @@
 ghost use mathlib.Core.Path.{_≡_};
 ghost use Rattle.image.specs.Opening.{outcome, openAnswer};
 ghost use Rattle.image.specs.Playing.{roomAnswer};
+ghost use Rattle.image.specs.Part.{fromAnswer};
 ghost use Rattle.image.specs.Sameness.{compareAnswer, bothAnswer};
 use crate::Answer;
 use crate::Refusal;
@@ -60,6 +61,22 @@ pub(crate) fn both_answer(a: &[u8], b: &[u8]) -> Answer
     let answer = compare_answer(a);
     match answer {
         Answer::Accepted => compare_answer(b),
+        Answer::Refused(why) => Answer::Refused(why),
+    }
+}
+
+// Codes 15, 20, 21, 22, 13 and 19.
+pub(crate) fn from_answer(image: &[u8], first: u32) -> Answer
+    ensures { λ r. ⌜ outcome r ≡ fromAnswer (now (image .entry)) first ⌝ }
+{
+    let answer = compare_answer(image);
+    match answer {
+        Answer::Accepted => {
+            if first >= get32(image, 4) {
+                return Answer::Refused(Refusal::NoSuchSample);
+            }
+            Answer::Accepted
+        }
         Answer::Refused(why) => Answer::Refused(why),
     }
 }

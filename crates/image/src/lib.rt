@@ -1,9 +1,10 @@
-// Reading a clip image: opening, the body of a block, playing, sameness.
+// Reading a clip image: opening, the body of a block, playing a block, the whole or a part, sameness.
 ghost use mathlib.Core.Path.{_≡_};
 ghost use Rattle.block.specs.Frame.{playing};
 ghost use Rattle.image.specs.Opening.{code, badBlock, outcome, noHead, openImage};
 ghost use Rattle.whole.specs.Outcome.{effect};
 ghost use Rattle.image.specs.Bodies.{blockAnswer, blockPart};
+ghost use Rattle.image.specs.Part.{partOutcome, playFrom};
 ghost use Rattle.image.specs.Playing.{playOutcome, play};
 ghost use Rattle.image.specs.Sameness.{sameOutcome, same};
 ghost use Rattle.image.specs.WholeImage.{playAll};
@@ -14,11 +15,13 @@ mod comparing;
 mod entries;
 mod heading;
 mod playing;
+mod running;
 
 use block::FrameContext;
 use bodies::find_body;
 use bodies::read_entry;
 use checks::both_answer;
+use checks::from_answer;
 use checks::open_answer;
 use comparing::same_sound;
 use heading::read_head;
@@ -26,6 +29,7 @@ use layout::fields::get32;
 use playing::play_found;
 use playing::play_opened;
 use playing::refused_playback;
+use running::play_part;
 
 // Why a call is refused; the last three name the block whose entry is bad.
 pub enum Refusal {
@@ -33,6 +37,7 @@ pub enum Refusal {
     OutputTooShort,
     BadHead,
     NoSuchBlock,
+    NoSuchSample,
     BadOffset(u32),
     BadLength(u32),
     BadHeader(u32),
@@ -72,6 +77,12 @@ pub struct Playback {
     pub context: FrameContext,
 }
 
+// The answer of playing from a sample on: how many samples were played and how many blocks touched, or the refusal.
+pub enum PartAnswer {
+    Played(u64, u32),
+    Refused(Refusal),
+}
+
 // Comparing's answer.
 pub enum SameAnswer {
     Same,
@@ -88,6 +99,7 @@ pub fn code(refusal: Refusal) -> u32
         Refusal::OutputTooShort => 14,
         Refusal::BadHead => 15,
         Refusal::NoSuchBlock => 17,
+        Refusal::NoSuchSample => 19,
         Refusal::BadOffset(_) => 20,
         Refusal::BadLength(_) => 21,
         Refusal::BadHeader(_) => 22,
@@ -103,6 +115,7 @@ pub fn bad_block(refusal: Refusal) -> u32
         Refusal::OutputTooShort => 0,
         Refusal::BadHead => 0,
         Refusal::NoSuchBlock => 0,
+        Refusal::NoSuchSample => 0,
         Refusal::BadOffset(j) => j,
         Refusal::BadLength(j) => j,
         Refusal::BadHeader(j) => j,
@@ -195,6 +208,17 @@ pub fn play_all(image: &[u8], out: &mut [i16]) -> Playback
     match answer {
         Answer::Accepted => play_opened(image, out),
         Answer::Refused(why) => refused_playback(why),
+    }
+}
+
+// Plays an image from sample `first` on, until the output is full or the clip ends; across blocks, each from its own entry.
+pub fn play_from(image: &[u8], first: u32, out: &mut [i16]) -> PartAnswer
+    ensures { λ r. ⌜ effect (partOutcome r) (now (out .exit)) ≡ playFrom (now (image .entry)) first (now (out .entry)) ⌝ }
+{
+    let answer = from_answer(image, first);
+    match answer {
+        Answer::Accepted => play_part(image, first as usize, out),
+        Answer::Refused(why) => PartAnswer::Refused(why),
     }
 }
 

@@ -1,15 +1,16 @@
 // Replays a list of calls on two images of which the answers are known. A line of the input is a letter and numbers in hexadecimal digits of
 // lower case, here with their first digit's place. b, f and g put bytes into both images, the first or the second: 1 the bytes' place
 // (four digits), 5 how many (two), 7 the bytes. The others are calls: 1 and 5 the lengths of the two images that are playing (four each), 9 the
-// block's number (eight), 17 the output's length (four). o opens the first image, k finds the body of a block of it, p plays that block, a
-// plays all blocks, s compares the first with the second, r the second with the first. A call is answered by a line: 00 or the refusal's
-// number; the block whose entry is bad, or 0; then the head's values, the body, the count, the context and the whole output, which has 5A in
-// each byte at first, or 1 where the images are the same.
+// block's number or that of the first sample (eight), 17 the output's length (four). o opens the first image, k finds the body of a block of
+// it, p plays that block, a plays all blocks, m plays from a sample on, s compares the first with the second, r the second with the first. A
+// call is answered by a line: 00 or the refusal's number; the block whose entry is bad, or 0; then the head's values, the body, the count,
+// the context or the number of blocks touched, and the whole output, which has 5A in each byte at first, or 1 where the images are the same.
 mod text;
 
 ghost use mathlib.Core.Path.{_≡_};
 ghost use lib.ListN.{length};
 use image::Answer;
+use image::PartAnswer;
 use image::PlayAnswer;
 use image::Playback;
 use image::Refusal;
@@ -100,6 +101,30 @@ fn play(letter: u8, image: &[u8], k: u32, room: usize) {
     play_to(letter, image, k, &mut out[..n]);
 }
 
+// Plays to an output from a sample on and writes what that leaves.
+fn part_to(image: &[u8], first: u32, out: &mut [i16]) {
+    let answer = image::play_from(image, first, out);
+    match answer {
+        PartAnswer::Played(count, blocks) => {
+            print_value(count);
+            print_field(blocks as u64, 8);
+        }
+        PartAnswer::Refused(why) => {
+            print_no_value(why);
+            print_field(0, 8);
+        }
+    }
+    print_space();
+    print_samples(out);
+}
+
+// Plays to the first samples of an output from a sample on.
+fn part(image: &[u8], first: u32, room: usize) {
+    let n = least(room, 512);
+    let mut out = fresh_samples();
+    part_to(image, first, &mut out[..n]);
+}
+
 // Compares two images.
 fn same(first: &[u8], second: &[u8]) {
     let answer = image::same(first, second);
@@ -119,6 +144,8 @@ fn call(letter: u8, line: &[u8; 56], first: &[u8], second: &[u8]) -> bool {
         body(first, k);
     } else if letter == b'p' || letter == b'a' {
         play(letter, first, k, word(line, 17) as usize);
+    } else if letter == b'm' {
+        part(first, k, word(line, 17) as usize);
     } else if letter == b's' {
         same(first, second);
     } else {

@@ -35,7 +35,7 @@ use Rattle.image.specs.Sameness.{samplesIn}
 use Rattle.round_trip.specs.Job.{Sampled, joined, measuringCalls, encodingCalls, lastCoefficients, encodingAnswers}
 use Rattle.round_trip.specs.ClosedClip.{ClosedClip, seen, given, started, Done}
 use Rattle.round_trip.proofs.ImageOpens.{total-is, rate-is, block-is, gain-is, blocks-are, coefficients-are, image-opens}
-use Rattle.round_trip.proofs.ImagePlayed.{all-heard, block-plays, all-plays, header-heard}
+use Rattle.round_trip.proofs.ImagePlayed.{all-heard, block-plays, all-plays, part-plays, header-heard}
 use Rattle.round_trip.proofs.Pieces.{coefficients-length, measured-answers, last-answer, encoded-after, encoded-answers}
 
 -- ---- of X's closed image
@@ -72,6 +72,7 @@ module _ (g : Start) (F : Fine g) (xs : List ℤ) (l : List ℕ) (A : Audible g 
         plays = rw e (block-plays g F xs rest A);
         count = rw e (ap length (all-heard g F xs rest A) ∙ sound-count g F xs ∙ sym all);
         plays-all = rw (e, all) (all-plays g F xs rest A);
+        plays-from = rw (e, all) (part-plays g F xs rest A);
         near = rw e near;
       }
 

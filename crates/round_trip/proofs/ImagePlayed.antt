@@ -2,7 +2,7 @@
 use mathlib.Core.Path.{_≡_, refl, sym, ap, ap₂, _∙_}
 use mathlib.Core.Bool.{Bool, true, false, _&&_}
 use mathlib.Core.List.{List, _++_}
-use Prim.Native.Nat.{ℕ, zero, suc, _+_, _*_, _/_, _≤_, _<_}
+use Prim.Native.Nat.{ℕ, zero, suc, _+_, _-_, _*_, _/_, _≤_, _<_, min}
 use native.Mathlib.Omega.{arith}
 use borrow.Author.Tests.{eqb-true, ne-eqb}
 use lib.Dec.{eqb}
@@ -28,12 +28,14 @@ use Rattle.whole.specs.Outcome.{Outcome, accepted, Effect}
 use Rattle.image.specs.Reading.{coefficientsIn, offsetIn, lengthIn}
 use Rattle.image.specs.Bodies.{bodyIn}
 use Rattle.image.specs.inner.Asked.{Found, Playable, AllPlayable}
+use Rattle.image.specs.Part.{touched, playFrom}
 use Rattle.image.specs.Playing.{contextIn, play}
 use Rattle.image.specs.Sameness.{blockSamples, samplesFrom, samplesIn}
 use Rattle.image.specs.WholeImage.{playAll}
 use Rattle.image.proofs.Joined.{samples-snoc}
 use Rattle.image.proofs.LawsAll.{all-answered, all-output}
 use Rattle.image.proofs.LawsPlayed.{play-leaves, play-output, block-count}
+use Rattle.image.proofs.PartOfAll.{from-accepts, part-answered, part-output}
 use Rattle.image.proofs.Parts.{part-at}
 use Rattle.round_trip.proofs.ImageOpens.{image, total-is, block-is, blocks-are, coefficients-are, entry-made, context-is, image-made}
 
@@ -111,6 +113,18 @@ module _ (g : Start) (F : Fine g) (xs : List ℤ) (rest : List ℕ) (A : Audible
       let n = total-is g F xs rest in
       let p : AllPlayable l (length out) = record { opens = image-made g F xs rest; pairs = pairs-heard; enough = rw n room } in
       (all-answered l out p ∙ ap accepted n, all-output l out p ∙ ap (λ (k : ℕ). samplesIn l ++ drop k out) n)
+
+  -- it plays from any of its samples on
+  pub part-plays : (first : ℕ) (out : List ℤ) → first < g .total
+      → (let n = min (length out) (g .total - first) in
+      (playFrom l first out .outcome ≡ accepted (n, touched (14 * (g .block / 8)) first n (blockCount (startShape g))))
+      × (playFrom l first out .left ≡ take n (drop first (samplesIn l)) ++ drop n out))
+  part-plays first out h =
+      let n = total-is g F xs rest in
+      let b = block-is g F xs rest in
+      let k = blocks-are g F xs rest in
+      let e = from-accepts l first (record { opens = image-made g F xs rest; pairs = pairs-heard }) (rw n h) in
+      (part-answered l first e out ∙ rw (n, b, k), part-output l first e out ∙ rw n)
 
   -- a frame's header byte in the image
   pub header-heard : (q : ℕ) → q < frameCount (g .total) → getD l (framePlace (startShape g) q) 0 ≡ getD (encodedAt g xs q .bytes) 0 0

@@ -2,10 +2,10 @@
 use mathlib.Core.Path.{_≡_}
 use mathlib.Core.Bool.{true, false}
 use mathlib.Core.List.{List, [], _∷_, _++_}
-use Prim.Native.Nat.{ℕ, _+_, _*_, _/_, _%_, _^_, _≤_, _<_}
+use Prim.Native.Nat.{ℕ, _+_, _-_, _*_, _/_, _%_, _^_, _≤_, _<_, min}
 use lib.Ieee.{Float}
 use lib.IntN.{ℤ, pos, natAbs, _-ℤ_}
-use lib.ListN.{length, getD, drop, replicate}
+use lib.ListN.{length, getD, take, drop, replicate}
 use Rattle.whole.specs.declared.History.{History}
 use Rattle.block.specs.Address.{addressToSample}
 use Rattle.whole.specs.Outcome.{Outcome, accepted, Effect, effect}
@@ -20,6 +20,7 @@ use Rattle.clip.specs.Runs as encoded
 use Rattle.clip.specs.declared.starting.Start.{Start}
 use Rattle.clip.specs.Runs.{stateAfter, imageAfter, plain, after}
 use Rattle.image.specs.Opening.{openImage}
+use Rattle.image.specs.Part.{samplesPerBlock, touched, playFrom}
 use Rattle.image.specs.Playing.{play}
 use Rattle.image.specs.Sameness.{blockSamples, samplesIn}
 use Rattle.image.specs.WholeImage.{playAll}
@@ -44,6 +45,11 @@ pub record ClosedClip (g : Start) (xs : List ℤ) (l : List ℕ) (closed : Left)
   -- the same by one call
   pub plays-all : (out : List ℤ) → length xs ≤ length out
       → (playAll (closed .bytes) out .outcome ≡ accepted (length xs)) × (playAll (closed .bytes) out .left .samples ≡ samplesIn (closed .bytes) ++ drop (length xs) out)
+  -- from any sample on: as many as the output has room for or as follow, and what stood beyond them; and how many blocks these overlap
+  pub plays-from : (first : ℕ) (out : List ℤ) → first < length xs
+      → (let n = min (length out) (length xs - first) in
+      (playFrom (closed .bytes) first out .outcome ≡ accepted (n, touched (samplesPerBlock (g .block)) first n (blockCount (startShape g))))
+      × (playFrom (closed .bytes) first out .left ≡ take n (drop first (samplesIn (closed .bytes))) ++ drop n out))
   -- each sample in a frame of exponent p below 12 is within ⌊(3 × 2^p + 1) / 2⌋ of its original; "p is its frame's header & 15"
   pub near : (i : ℕ) → i < length xs
       → (let p = getD (closed .bytes) (framePlace (startShape g) (i / 14)) 0 % 16 in

@@ -1,12 +1,12 @@
 -- Laws of runs of stores, `sets`, and of joined lists.
 use Prim.Native.Nat.{ℕ, suc, _+_, _-_, _≤_, _<_}
 use mathlib.Core.Path.{_≡_, refl, sym, ap, _∙_}
-use mathlib.Core.List.{List, [], _∷_, _++_, append-assoc}
+use mathlib.Core.List.{List, [], _∷_, _++_, append-assoc, append-nil}
 use native.Mathlib.Nat.{add-zero, zero-add, add-suc, suc-add, add-sub-of-le}
 use native.Mathlib.Omega.{arith}
 use native.Mathlib.Numerals.{add-one}
-use lib.ListN.{length, take, set, getD, replicate, length-append, length-set, length-replicate, replicate-append-replicate}
-use lib.Seq.{sets, set-at, append-snoc, take-suc, length-take-le, set-append-left, take-at, take-append-add}
+use lib.ListN.{length, take, drop, set, getD, replicate, length-append, length-drop, length-set, length-replicate, replicate-append-replicate, drop-of-length-le}
+use lib.Seq.{sets, sets-eq, set-at, append-snoc, take-suc, take-all, length-take-le, set-append-left, take-at, take-append-add, take-append-seam, drop-append-seam, drop-drop}
 
 module _ {A : Type 0} where
   -- two runs one after the other are one run
@@ -93,3 +93,41 @@ module _ {A : Type 0} where
       ∙ sets-part a (length a) v (replicate (length v) z) (replicate (t - (length a + length v)) z) refl (length-replicate (length v) z)
       ∙ sym (append-assoc a v _)
       ∙ ap (λ (k : ℕ). (a ++ v) ++ replicate (t - k) z) (sym (length-append a v))
+
+  -- ---- runs of stores from the start
+
+  pub spread : (vs l : List A) → length vs ≤ length l → sets l 0 vs ≡ vs ++ drop (length vs) l
+  spread vs l h =
+      let z : 0 + length vs ≡ length vs = omega arith in
+      sets-eq vs l 0 (omega arith) ∙ rw z
+
+  -- a run stored in the part after a run, and the two in the whole
+  pub part-sets : (l u v : List A) → length u + length v ≤ length l
+      → take (length u) (sets l 0 u) ++ sets (drop (length u) (sets l 0 u)) 0 v ≡ sets l 0 (u ++ v)
+  part-sets l u v h =
+      let d = length-drop (length u) l in
+      let n = length-append u v in
+      rw (
+        spread u l (omega arith),
+        take-append-seam u (drop (length u) l),
+        drop-append-seam u (drop (length u) l),
+        spread v (drop (length u) l) (omega (arith, d, h)),
+        drop-drop (length v) (length u) l,
+      )
+      (sym (spread (u ++ v) l (omega (arith, n, h)) ∙ rw n (append-assoc u v (drop (length u + length v) l))))
+
+  -- a part to the end, beyond which nothing lies
+  pub part-all : (l : List A) (at : ℕ) → take (length l - at) (drop at l) ≡ drop at l
+  part-all l at = let d = length-drop at l in take-all (length l - at) (drop at l) (omega arith)
+
+  pub part-end : (l : List A) (at : ℕ) → drop (length l - at) (drop at l) ≡ []
+  part-end l at = let d = length-drop at l in drop-of-length-le (drop at l) {i = length l - at} (omega arith)
+
+  -- the same as a call leaves it that was lent the part from a place on
+  pub part-then : (l cur u v ys : List A) (at : ℕ) → cur ≡ sets l 0 u → length u ≡ at → at + length v ≤ length l → ys ≡ sets (take (length cur - at) (drop at cur)) 0 v
+      → take at cur ++ (ys ++ drop (length cur - at) (drop at cur)) ≡ sets l 0 (u ++ v)
+  part-then l cur u v ys at e n h f =
+      let g : ys ≡ sets (drop at cur) 0 v = rw (part-all cur at) at f in
+      ap (λ (x : List A). take at cur ++ (ys ++ x)) (part-end cur at)
+      ∙ ap (λ (x : List A). take at cur ++ x) (append-nil ys ∙ g)
+      ∙ rw (e, ← n) (part-sets l u v (omega (arith, n, h)))

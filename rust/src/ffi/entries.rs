@@ -1,4 +1,4 @@
-//! The five calls that test a table name the same entry, and beside it an answer is as a refused one; beside every other code there is no entry.
+//! The six calls that test a table name the same entry, and beside it an answer is as a refused one; beside every other code there is no entry.
 
 use super::*;
 
@@ -54,13 +54,25 @@ fn playback_says(room: usize, call: impl FnOnce(&mut [i16]) -> Playback) -> Verd
     (code, entry)
 }
 
+/// What playing a part says: a refused call writes nothing.
+fn part_says(image: &[u8], first: u32, room: usize) -> Verdict {
+    let mut out = vec![0x5a5a; room];
+    let Part { code, entry, samples, blocks } = play_from(image, first, &mut out);
+    if code != 0 {
+        assert_eq!((samples, blocks), (0, 0));
+        assert!(out.iter().all(|sample| *sample == 0x5a5a));
+    }
+    (code, entry)
+}
+
 fn comparison_says(first: &[u8], second: &[u8]) -> Verdict {
     let Comparison { code, entry, same } = same(first, second);
     assert!(code == 0 || !same);
     (code, entry)
 }
 
-/// The one verdict of all calls on a damaged image, whatever else would be wrong after it: the block's number, the room, the other image.
+/// The one verdict of all calls on a damaged image, whatever else would be wrong after it: the number of the block or of the sample, the room, the
+/// other image.
 fn verdict(damaged: &[u8], whole: &[u8]) -> Verdict {
     let verdict = opening_says(damaged);
     assert_ne!(verdict.0, 0);
@@ -72,6 +84,9 @@ fn verdict(damaged: &[u8], whole: &[u8]) -> Verdict {
     }
     for room in [0, 100] {
         assert_eq!(playback_says(room, |out| play_all(damaged, out)), verdict);
+        for first in [0, 14, 100, u32::MAX] {
+            assert_eq!(part_says(damaged, first, room), verdict);
+        }
     }
     assert_eq!(comparison_says(damaged, whole), verdict);
     assert_eq!(comparison_says(whole, damaged), verdict);
@@ -123,6 +138,7 @@ fn beside_an_accepted_call_there_is_none() {
     assert_eq!(body_says(&whole, 1), (0, 0));
     assert_eq!(playback_says(14, |out| play(&whole, 1, out)), (0, 0));
     assert_eq!(playback_says(15, |out| play_all(&whole, out)), (0, 0));
+    assert_eq!(part_says(&whole, 13, 9), (0, 0));
     assert_eq!(comparison_says(&whole, &whole), (0, 0));
     let (coefficients, context) = (Coefficients([0; 16]), FrameContext::default());
     let bytes = |out: &mut [i16]| play_bytes(&[0; 8], 16, &coefficients, context, out);
@@ -136,7 +152,28 @@ fn beside_13_there_is_none() {
     lowest[16..20].copy_from_slice(&[0x80, 0, 0x80, 0]);
     assert_eq!(playback_says(14, |out| play(&lowest, 1, out)), (13, 0));
     assert_eq!(playback_says(15, |out| play_all(&lowest, out)), (13, 0));
+    assert_eq!(part_says(&lowest, 13, 9), (13, 0));
     assert_eq!(comparison_says(&lowest, &altered(&whole, &[79])), (13, 0));
     assert_eq!(comparison_says(&altered(&whole, &[79]), &lowest), (21, 1));
     assert_eq!(comparison_says(&whole, &lowest), (13, 0));
+}
+
+/// Everything wrong at once, and mended in turn: the head, three entries or bodies, the lowest pair, the first sample.
+#[test]
+fn playing_a_part_tests_in_sequence() {
+    let whole = silence(15);
+    for (first, room) in [0, 14, 15, 16, u32::MAX].into_iter().flat_map(|n| [(n, 0), (n, 9)]) {
+        let mut image = altered(&whole, &[55, 59, 79, 96]);
+        image[16..20].copy_from_slice(&[0x80, 0, 0x80, 0]);
+        let mut verdicts = vec![];
+        for place in [55, 59, 79, 96] {
+            verdicts.push(part_says(&image, first, room));
+            image[place] ^= 1;
+        }
+        verdicts.push(part_says(&image, first, room));
+        image[16..20].copy_from_slice(&whole[16..20]);
+        verdicts.push(part_says(&image, first, room));
+        let last = if first < 15 { (0, 0) } else { (19, 0) };
+        assert_eq!(verdicts, [(15, 0), (20, 0), (21, 1), (22, 1), (13, 0), last]);
+    }
 }

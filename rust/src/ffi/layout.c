@@ -10,7 +10,8 @@ static void codes(void) {
     NUMBER(INVALID_STATE), NUMBER(TOO_MANY_SAMPLES), NUMBER(STORE_TOO_SHORT), NUMBER(BAD_SAMPLE_COUNT), NUMBER(RATE_ZERO);
     NUMBER(BAD_BLOCK_SIZE), NUMBER(COEFFICIENT_OUTSIDE), NUMBER(IMAGE_TOO_SHORT), NUMBER(ALREADY_CLOSED);
     NUMBER(PIECE_TOO_LONG), NUMBER(UNFINISHED), NUMBER(LENGTH_OUT_OF_RANGE), NUMBER(LOWEST_PAIR), NUMBER(OUTPUT_TOO_SHORT);
-    NUMBER(BAD_HEAD), NUMBER(NO_SUCH_BLOCK), NUMBER(COEFFICIENTS_DIFFER), NUMBER(BAD_OFFSET), NUMBER(BAD_LENGTH), NUMBER(BAD_HEADER);
+    NUMBER(BAD_HEAD), NUMBER(NO_SUCH_BLOCK), NUMBER(COEFFICIENTS_DIFFER), NUMBER(NO_SUCH_SAMPLE);
+    NUMBER(BAD_OFFSET), NUMBER(BAD_LENGTH), NUMBER(BAD_HEADER);
 }
 
 int main(void) {
@@ -29,6 +30,7 @@ int main(void) {
     SIZE(opening), FIELD(opening, code), FIELD(opening, entry), FIELD(opening, head);
     SIZE(body), FIELD(body, code), FIELD(body, entry), FIELD(body, offset), FIELD(body, bytes), FIELD(body, nibbles), FIELD(body, context);
     SIZE(playback), FIELD(playback, code), FIELD(playback, entry), FIELD(playback, samples), FIELD(playback, context);
+    SIZE(part), FIELD(part, code), FIELD(part, entry), FIELD(part, samples), FIELD(part, blocks);
     SIZE(comparison), FIELD(comparison, code), FIELD(comparison, entry), FIELD(comparison, same);
     SIZE(joining), FIELD(joining, code), FIELD(joining, nibbles);
     NUMBER(VERSION_MAJOR), NUMBER(VERSION_MINOR), NUMBER(VERSION_PATCH);

@@ -44,6 +44,7 @@ fn rust_layouts() -> String {
     layout!(text, "opening", Opening, code, entry, head);
     layout!(text, "body", Body, code, entry, offset, bytes, nibbles, context);
     layout!(text, "playback", Playback, code, entry, samples, context);
+    layout!(text, "part", Part, code, entry, samples, blocks);
     layout!(text, "comparison", Comparison, code, entry, same);
     layout!(text, "joining", Joining, code, nibbles);
     text

@@ -94,6 +94,8 @@ fn reading_gives_zeros() {
         assert_eq!((playback.code, playback.entry, playback.samples), (14, 0, 0));
         assert_eq!(playback.context, FrameContext::default());
     }
+    let part = play_from(&image, 20, &mut [0; 9]);
+    assert_eq!((part.code, part.entry, part.samples, part.blocks), (19, 0, 0, 0));
     let comparison = same(&image, &[]);
     assert_eq!((comparison.code, comparison.entry, comparison.same), (15, 0, false));
 }

@@ -14,7 +14,7 @@ fn each_number_gives_its_refusal_and_no_other_does() {
         let listed = Refusal::NUMBERS.contains(&number).then_some(number);
         assert_eq!(Refusal::from_number(number, 7).map(Refusal::number), listed);
     }
-    for unused in [0, 16, 19, 23, u32::MAX] {
+    for unused in [0, 16, 23, u32::MAX] {
         assert_eq!(Refusal::from_number(unused, 0), None);
     }
 }
@@ -41,6 +41,7 @@ fn the_block_counts_with_20_21_and_22_alone() {
 fn a_code_and_an_entry_are_checked() {
     assert_eq!(Refusal::check(0, 0), Ok(()));
     assert_eq!(Refusal::check(15, 0), Err(Refusal::BadHead));
+    assert_eq!(Refusal::check(19, 0), Err(Refusal::NoSuchSample));
     assert_eq!(Refusal::check(20, 0), Err(Refusal::BadOffset { block: 0 }));
     assert_eq!(Refusal::check(21, 1), Err(Refusal::BadLength { block: 1 }));
     assert_eq!(Refusal::check(22, 1_048_575), Err(Refusal::BadHeader { block: 1_048_575 }));
@@ -56,6 +57,7 @@ fn the_number_of_no_refusal_is_an_unknown_code() {
 fn words_name_the_number_and_the_block() {
     for (refusal, words) in [
         (Refusal::RateZero, "the sample rate is 0 (refusal 5)"),
+        (Refusal::NoSuchSample, "the first sample is not in the clip (refusal 19)"),
         (
             Refusal::BadOffset { block: 0 },
             "block 0: the entry's offset is not where the block's body begins (refusal 20)",

@@ -138,7 +138,11 @@ fn read_all(bytes: &[u8]) -> bool {
         image.play_block(k as u32, &mut out).map(|played| played.samples)
     });
     let played = counts.sum::<Result<usize, Refusal>>();
-    assert_eq!(played, image.play().map(|samples| samples.len()));
+    let whole = image.play();
+    assert_eq!(played, whole.clone().map(|samples| samples.len()));
+    let middle = image.head().total / 2;
+    let rest = whole.map(|samples| samples[middle as usize..].to_vec());
+    assert_eq!(image.part(middle..u32::MAX), rest);
     true
 }
 

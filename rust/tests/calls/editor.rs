@@ -1,7 +1,9 @@
 //! What docs/EDITOR.md says of a sound editor's screens.
 
 use crate::clips::{encode, encode_from, noise, start_of, tone};
-use doilycairn::{Block, Encoder, Image, Start, address_to_sample, image_size, join, same};
+use doilycairn::{
+    Block, Encoder, Image, Refusal, Start, address_to_sample, image_size, join, same,
+};
 
 #[path = "../../examples/undo.rs"]
 mod undo_example;
@@ -19,12 +21,21 @@ fn the_worked_example_of_a_meter_runs() {
     peak_example::main().unwrap();
 }
 
+#[path = "../../examples/loop_preview.rs"]
+mod loop_example;
+
+#[test]
+fn the_worked_example_of_a_loop_runs() {
+    loop_example::main().unwrap();
+}
+
 #[test]
 fn the_worked_examples_in_the_document_are_the_files() {
     let document = include_str!("../../../docs/EDITOR.md");
     for (language, file) in [
         ("c", include_str!("../../../examples/undo.c")),
         ("rust", include_str!("../../examples/undo.rs")),
+        ("rust", include_str!("../../examples/loop_preview.rs")),
         ("rust", include_str!("../../examples/peak.rs")),
     ] {
         assert!(document.contains(&format!("\n```{language}\n{file}```\n")), "{file}");
@@ -132,6 +143,54 @@ fn looped(image: &Image) -> (Vec<i16>, usize) {
     let mut samples = vec![0; address_to_sample(nibbles) as usize];
     Block { bytes: &out, nibbles, ..last }.play(&mut samples).unwrap();
     (samples, last.sample_count())
+}
+
+#[test]
+fn a_loop_repeats_what_was_heard() {
+    let bytes = encode(&noise(60, 9000, 6), 16);
+    let image = Image::open(&bytes).unwrap();
+    let whole = image.play().unwrap();
+    for (start, end) in (0..60).flat_map(|start| (start + 1..=60).map(move |end| (start, end))) {
+        let rounds = whole[start as usize..end as usize].iter().cycle();
+        let heard = whole[..end as usize].iter().chain(rounds);
+        for room in [1, 7, 28, 200] {
+            let (mut at, mut played) = (0, vec![0; 200]);
+            for buffer in played.chunks_mut(room) {
+                at = loop_example::fill(&image, &(start..end), at, buffer).unwrap();
+            }
+            assert!(heard.clone().take(200).eq(&played), "{start} {end} {room}");
+        }
+    }
+}
+
+#[test]
+fn a_place_beyond_the_loop_begins_it_anew() {
+    let bytes = encode(&noise(60, 9000, 6), 16);
+    let image = Image::open(&bytes).unwrap();
+    let whole = image.play().unwrap();
+    for (looped, at) in [(10..20, 20), (10..20, 45), (50..60, 60), (10..20, u32::MAX)] {
+        let (start, end) = (looped.start as usize, looped.end as usize);
+        let mut out = [0; 10];
+        assert_eq!(loop_example::fill(&image, &looped, at, &mut out), Ok(looped.end));
+        assert_eq!(out, whole[start..end]);
+    }
+}
+
+#[test]
+fn a_loop_beyond_the_clip_is_refused() {
+    let bytes = encode(&noise(60, 9000, 6), 16);
+    let image = Image::open(&bytes).unwrap();
+    let refused = Err(Refusal::NoSuchSample);
+    assert_eq!(loop_example::fill(&image, &(50..61), 50, &mut [0; 11]), refused);
+    assert_eq!(loop_example::fill(&image, &(60..61), 60, &mut [0; 1]), refused);
+}
+
+#[test]
+#[should_panic(expected = "the loop has no sample")]
+fn a_loop_without_a_sample_is_no_loop() {
+    let bytes = encode(&noise(60, 9000, 6), 16);
+    let image = Image::open(&bytes).unwrap();
+    let _ = loop_example::fill(&image, &(5..5), 5, &mut [0; 1]);
 }
 
 #[test]

@@ -8,6 +8,7 @@ mod damage;
 mod editor;
 mod entries;
 mod lists;
+mod parts;
 mod reading;
 mod refusals;
 mod round_trip;

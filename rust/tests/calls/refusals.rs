@@ -249,6 +249,11 @@ fn number_13() {
         assert_eq!(image.play_into(&mut []), Err(Refusal::LowestPair));
         assert_eq!(image.play(), Err(Refusal::LowestPair));
         assert_eq!(image.samples().err(), Some(Refusal::LowestPair));
+        for first in [0, 49, 50, u32::MAX] {
+            assert_eq!(untouched(9, 0x5a5a, |out| image.play_from(first, out)), 13);
+            assert_eq!(image.play_from(first, &mut []), Err(Refusal::LowestPair));
+            assert_eq!(image.part(first..first), Err(Refusal::LowestPair));
+        }
         assert_eq!(image.same(&image), Err(Refusal::LowestPair));
         assert!(image.block(1).is_ok());
     }
@@ -304,6 +309,21 @@ fn number_18() {
         let other = Block { coefficients, ..block };
         assert_eq!(untouched(32, 0x5a, |out| join(&block, &other, out)), 18);
     }
+}
+
+#[test]
+fn number_19() {
+    let bytes = encode(&tone(50), 16);
+    let image = Image::open(&bytes).unwrap();
+    for first in [50, 51, 56, 1000, u32::MAX] {
+        for room in [0, 1, 28, 200] {
+            assert_eq!(untouched(room, 0x5a5a, |out| image.play_from(first, out)), 19);
+        }
+        for end in [0, 49, first, u32::MAX] {
+            assert_eq!(image.part(first..end), Err(Refusal::NoSuchSample));
+        }
+    }
+    assert_eq!(image.play_from(49, &mut []), Ok(Part { samples: 0, blocks: 0 }));
 }
 
 #[test]

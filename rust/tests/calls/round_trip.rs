@@ -58,6 +58,7 @@ fn played_alike(bytes: &[u8]) {
     let all = image.play_into(&mut longer).unwrap();
     assert_eq!((all.samples, &longer[..whole.len()]), (whole.len(), &whole[..]));
     assert_eq!(longer[whole.len()..], [0x5a; 2]);
+    assert_eq!(image.part(0..u32::MAX).as_ref(), Ok(&whole));
     let mut at = 0;
     let mut last = None;
     for (k, block) in image.blocks().enumerate() {
@@ -70,6 +71,8 @@ fn played_alike(bytes: &[u8]) {
         let mut again = vec![0; played.samples];
         assert_eq!(block.play(&mut again), Ok(played));
         assert_eq!(again, out[..played.samples]);
+        let part = at as u32..(at + played.samples) as u32;
+        assert_eq!(image.part(part), Ok(again));
         at += played.samples;
         last = Some(played.context);
     }

@@ -141,6 +141,7 @@ fn every_command_refuses_and_keeps_the_old_output() {
         for line in [
             "decode bad out",
             "decode --block 0 bad out",
+            "decode --from 99 bad out",
             "same bad good",
             "same good bad",
             "same bad bad",

@@ -104,6 +104,8 @@ fn every_command_names_the_block() {
         for line in [
             "decode bad out",
             "decode --block 1 bad out",
+            "decode --from 99 bad out",
+            "decode --count 0 bad out",
             "info bad",
             "same bad good",
             "same good bad",

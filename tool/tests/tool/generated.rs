@@ -72,6 +72,8 @@ fn bash_completes() {
     std::fs::create_dir(folder.path("clips")).unwrap();
     assert_eq!(completed(&folder, &["en"]), ["encode"]);
     assert_eq!(completed(&folder, &["encode", "--blo"]), ["--block-size"]);
+    assert_eq!(completed(&folder, &["decode", "--co"]), ["--count"]);
+    assert_eq!(completed(&folder, &["decode", "--f"]), ["--from", "--force"]);
     assert_eq!(completed(&folder, &["--json", "check", "--st"]), ["--strict"]);
     assert_eq!(completed(&folder, &["help", "ref"]), ["refusals"]);
     assert_eq!(completed(&folder, &["completions", ""]), ["bash", "zsh", "fish"]);
@@ -79,4 +81,5 @@ fn bash_completes() {
     // Files, by the shell itself.
     assert!(completed(&folder, &["encode", "in"]).is_empty());
     assert!(completed(&folder, &["encode", "--gain", ""]).is_empty());
+    assert!(completed(&folder, &["decode", "--count", ""]).is_empty());
 }

@@ -35,6 +35,7 @@ fn help_lists_the_refusals() {
     let (list, entries) = out.split_once("\n\n").unwrap();
     let numbers: Vec<u32> = list.lines().map(|line| line[..4].trim().parse().unwrap()).collect();
     assert_eq!(numbers, Refusal::NUMBERS);
+    assert!(list.contains("\n  19  the first sample is not in the clip\n"));
     for (number, line) in numbers.into_iter().zip(list.lines()) {
         assert_eq!(&line[4..], format!("  {}", Refusal::from_number(number, 0).unwrap().message()));
     }
@@ -48,7 +49,7 @@ fn help_tells_every_option() {
         ("encode", "--block-size --gain --history --coefficients --verify --raw --rate"),
         ("encode", "--after --ignore-length --force --quiet --json --help --into --jobs"),
         ("encode", "--pad-to-frame --cut-to-frame"),
-        ("decode", "--block --raw --force --quiet --json --help --into --jobs"),
+        ("decode", "--block --from --count --raw --force --quiet --json --help --into --jobs"),
         ("info", "--blocks --against --raw --ignore-length --svg --force --quiet --json --help"),
         ("check", "--strict --jobs --quiet --json --help"),
         ("trim", "--from --to --recording --raw --ignore-length --force --quiet --json --help"),
@@ -94,6 +95,13 @@ fn wrong_command_lines() {
         ("encode --verify=1 a b", "--verify takes no value"),
         ("encode --coefficients - - b", "standard input can be read only once"),
         ("decode --block -1 a b", "'-1' is not a number"),
+        ("decode --from 5 --block 0 a b", "--block and --from: give one of the two"),
+        (
+            "decode --from 4294967296 a b",
+            "--from: '4294967296' is not a number from 0 to 4,294,967,295",
+        ),
+        ("decode --count -1 a b", "--count: '-1' is not a number from 0 to 4,294,967,295"),
+        ("decode --count", "--count lacks its value"),
         ("decode a", "OUT.wav is missing"),
         ("info", "IN.dspc is missing"),
         ("info --against - -", "standard input can be read only once"),

@@ -19,6 +19,8 @@ fn every_command_answers_one_object() {
         ("encode --verify in.wav out", 0),
         ("decode a new", 0),
         ("decode --force --block 0 a new", 0),
+        ("decode --force --from 100 --count 50 a new", 0),
+        ("decode --force --count 0 a new", 0),
         ("info a", 0),
         ("info --blocks --against in.wav a", 0),
         ("check a", 0),
@@ -31,6 +33,8 @@ fn every_command_answers_one_object() {
         ("encode in.wav -", 2),
         ("encode none out", 3),
         ("decode none x", 4),
+        ("decode --from 280 a x", 4),
+        ("decode --from 280 --block 0 a x", 2),
         ("decode absent x", 5),
     ];
     for (line, status) in cases {

@@ -56,6 +56,10 @@ fn the_largest_clip() {
         ("encode --block-size 8 in.wav eight.dspc", 60, 64_000),
         ("decode out.dspc out.wav", 10, 16_000),
         ("decode eight.dspc eight.wav", 10, 32_000),
+        ("decode --from 1 out.dspc rest.wav", 10, 16_000),
+        ("decode --from 1 eight.dspc eight-rest.wav", 10, 32_000),
+        ("decode --from 7340032 --count 200 out.dspc part.wav", 5, 16_000),
+        ("decode --from 7340032 --count 200 eight.dspc eight-part.wav", 5, 32_000),
         ("info --against in.wav out.dspc", 10, 48_000),
         ("check eight.dspc", 10, 32_000),
         ("same out.dspc eight.dspc", 10, 48_000),
@@ -66,6 +70,7 @@ fn the_largest_clip() {
     damaged(&folder);
     assert_eq!(folder.read("out.wav"), folder.read("eight.wav"));
     assert_eq!(folder.read("out.wav").len(), 44 + 2 * SAMPLES);
+    parts(&folder);
     too_many(&folder, clip);
 }
 
@@ -86,6 +91,17 @@ fn damaged(folder: &Folder) {
     limited(folder, "check --json bad.dspc", 1, 60, 40_000);
     limited(folder, "decode bad.dspc none", 4, 10, 32_000);
     assert!(!folder.has("none"));
+}
+
+/// Parts are those of the whole.
+fn parts(folder: &Folder) {
+    let whole = &folder.read("out.wav")[44..];
+    for name in ["rest.wav", "eight-rest.wav"] {
+        assert!(folder.read(name)[44..] == whole[2..], "{name}");
+    }
+    for name in ["part.wav", "eight-part.wav"] {
+        assert_eq!(folder.read(name)[44..], whole[2 * 7_340_032..][..400], "{name}");
+    }
 }
 
 /// One sample more is refused, however it comes.

@@ -24,6 +24,8 @@ mod memory;
 mod noise;
 mod outputs;
 mod parse;
+mod parts;
+mod refused_parts;
 mod refused_wavs;
 mod replaced;
 mod same;

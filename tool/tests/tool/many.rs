@@ -43,6 +43,12 @@ fn all_are_encoded_and_decoded() {
     }
     folder.done("decode --into wavs out/a.dspc out/d.dspc");
     assert_eq!(folder.read("wavs/d.wav"), folder.done("decode out/d.dspc -").bytes);
+    folder.done("decode --from 4000 --raw --into ends out/a.dspc out/d.dspc");
+    assert_eq!(
+        folder.read("ends/a.raw"),
+        folder.done("decode --raw --from 4000 out/a.dspc -").bytes
+    );
+    assert_eq!(folder.read("ends/d.raw").len(), 2000);
     assert_eq!(folder.done("encode -q --into out a.wav b.wav").err, "");
 }
 
@@ -78,6 +84,24 @@ fn json_has_a_line_for_each() {
     assert_eq!(lines[1].text("input"), "c.wav");
     assert_eq!((lines[0].text("output"), lines[2].text("output")), ("out/a.dspc", "out/b.dspc"));
     assert_eq!((lines[3].number("files"), lines[3].number("failed")), (3.0, 1.0));
+}
+
+/// A part that not every clip has.
+#[test]
+fn a_part_of_each() {
+    let folder = folder();
+    folder.done("encode --into out a.wav b.wav");
+    folder.write("out/short.dspc", image(&sound(100, 1), 32_000, 80));
+    let run =
+        folder.run("decode --from 100 --count 7 --into w out/a.dspc out/short.dspc out/b.dspc");
+    run.expect(
+        4,
+        "out/short.dspc: the first sample is not in the clip (refusal 19); it has 100 samples\n",
+    );
+    assert!(run.err.contains("w/b.wav: 7 samples from sample 100, 1 block touched, of out/b.dspc"));
+    assert!(run.err.ends_with("3 files: 2 done, 1 failed\n"), "{}", run.err);
+    assert_eq!(folder.read("w/a.wav").len(), 44 + 14);
+    assert!(folder.has("w/b.wav") && !folder.has("w/short.wav"));
 }
 
 #[test]

@@ -17,7 +17,12 @@ fn what_cannot_be_had_is_told() {
     let clip = sound(1_000_000, 1);
     folder.write("in.wav", wav(&clip, 32_000));
     folder.write("in.dspc", image(&clip, 32_000, 8192));
-    let lines = ["encode in.wav out", "trim --from 1 in.dspc out", "info --against in.wav in.dspc"];
+    let lines = [
+        "encode in.wav out",
+        "trim --from 1 in.dspc out",
+        "info --against in.wav in.dspc",
+        "decode --raw --from 1 in.dspc raw",
+    ];
     for line in lines {
         // More and more, until it is enough; at first not even the program can be loaded.
         let mut told = 0;
@@ -30,7 +35,7 @@ fn what_cannot_be_had_is_told() {
         });
         assert!(done.is_some() && told > 0, "{line}");
     }
-    assert_eq!(folder.names(), ["in.dspc", "in.wav", "out"]);
+    assert_eq!(folder.names(), ["in.dspc", "in.wav", "out", "raw"]);
 }
 
 #[test]

@@ -17,7 +17,13 @@ fn folder() -> Folder {
 #[test]
 fn a_full_disk_leaves_the_old_output() {
     let folder = folder();
-    for line in ["encode in.wav out", "decode a out", "join a a out", "join --reencode a a out"] {
+    for line in [
+        "encode in.wav out",
+        "decode a out",
+        "decode --from 1 a out",
+        "join a a out",
+        "join --reencode a a out",
+    ] {
         // Files of up to 4 blocks of 512 bytes: writing fails half way.
         let script = format!("trap '' XFSZ; ulimit -f 4; exec {TOOL} {line}");
         let output = Command::new("sh").arg("-c").arg(script).current_dir(&folder.0).output();
@@ -41,7 +47,15 @@ fn devices_are_written_in_place() {
 #[test]
 fn standard_output_that_fails() {
     let folder = folder();
-    for line in ["info a", "info --json a", "check a", "decode a -", "encode in.wav -", "--help"] {
+    for line in [
+        "info a",
+        "info --json a",
+        "check a",
+        "decode a -",
+        "decode --from 9 a -",
+        "encode in.wav -",
+        "--help",
+    ] {
         let words: Vec<_> = line.split(' ').collect();
         let full = File::options().write(true).open("/dev/full").unwrap();
         let output = folder.tool(&words).stdout(full).stderr(Stdio::piped()).output().unwrap();
@@ -90,6 +104,7 @@ fn read_only_files_and_inputs_need_force() {
     for line in ["decode a a", "decode a ./a", "decode a link", "decode link a", "decode a hard"] {
         folder.run(line).expect(2, "is an input too: --force writes over it");
     }
+    folder.run("decode --from 5 a a").expect(2, "is an input too: --force writes over it");
     folder.run("encode --coefficients a in.wav a").expect(2, "a is an input too");
     folder.run("info --against in.wav --svg in.wav a").expect(2, "in.wav is an input too");
     let wanted = folder.done("decode a -").bytes;

@@ -2,7 +2,7 @@
 use mathlib.Core.Bool.{true, false}
 use mathlib.Core.List.{List}
 use mathlib.Core.Path.{_≡_}
-use Prim.Native.Nat.{ℕ, _≤_, _<_}
+use Prim.Native.Nat.{ℕ, _+_, _-_, _*_, _≤_, _<_}
 use lib.ListN.{length}
 use Rattle.block.specs.Address.{addressToSample}
 use Rattle.block.specs.Refusals.{lowestPair}
@@ -13,6 +13,7 @@ use Rattle.image.specs.declared.Head.{Head}
 use Rattle.image.specs.inner.ByFrames.{frameSamples}
 use Rattle.image.specs.Reading.{totalIn, rateIn, blockIn, shapeIn, zeroIn, blocksIn, coefficientsIn, headIn, lengthIn}
 use Rattle.image.specs.Opening.{EntryFits, markOk}
+use Rattle.image.specs.Part.{perBlock}
 
 -- a head that 15 does not refuse
 pub record Headed (l : List ℕ) : Type 0 where
@@ -66,3 +67,20 @@ pub record Pair (a b : List ℕ) (first second : Head) : Type 0 where
   pub others : Opens b
   pub other : second ≡ headIn b
   pub total : totalIn a ≡ totalIn b
+
+-- n samples, one or more, from sample s of block k on are all in that block
+pub record SomeOf (l : List ℕ) (k s n : ℕ) : Type 0 where
+  pub found : Found l k
+  pub some : 0 < n
+  pub inside : s + n ≤ addressToSample (lengthIn l k)
+
+-- n samples from block k's first on are all in the clip; none where there is no block k
+pub record Later (l : List ℕ) (k n : ℕ) : Type 0 where
+  pub opens : Opens l
+  pub inside : n ≤ totalIn l - k * perBlock l
+
+-- n samples, one or more, from sample `first` on are all in the clip
+pub record Run (l : List ℕ) (first n : ℕ) : Type 0 where
+  pub opens : Opens l
+  pub some : 0 < n
+  pub inside : first + n ≤ totalIn l

@@ -1,7 +1,7 @@
 //! The list of calls on images.
 
 use super::{bytes, digits, digits_of, list, number};
-use doilycairn::{FrameContext, Image, Refusal, same};
+use doilycairn::{FrameContext, Image, Part, Refusal, same};
 
 /// The longest image of the list.
 const MOST: usize = 1024;
@@ -57,6 +57,15 @@ fn played(image: &[u8], k: Option<u32>, room: usize) -> String {
     format!("{verdict} {count:08x} {header:04x} {history} {}", digits_of(&out))
 }
 
+/// Plays from a sample on.
+fn played_from(image: &[u8], first: u32, room: usize) -> String {
+    let mut out = vec![0x5a5a; room];
+    let part = Image::open(image).and_then(|image| image.play_from(first, &mut out));
+    let verdict = part.err().map_or(ACCEPTED.into(), verdict);
+    let Part { samples, blocks } = part.unwrap_or(Part { samples: 0, blocks: 0 });
+    format!("{verdict} {samples:08x} {blocks:08x} {}", digits_of(&out))
+}
+
 fn compared(first: &[u8], second: &[u8]) -> String {
     match same(first, second) {
         Ok(is_same) => format!("{ACCEPTED} {:08x}", u8::from(is_same)),
@@ -86,8 +95,10 @@ fn take(images: &mut [Vec<u8>; 2], letter: &str, record: &[u8]) -> Option<String
         "k" => body(first, k),
         "p" => played(first, Some(k), room),
         "a" => played(first, None, room),
+        "m" => played_from(first, k, room),
         "s" => compared(first, second),
-        _ => compared(second, first),
+        "r" => compared(second, first),
+        _ => panic!("no call has the letter {letter}"),
     })
 }
 
