@@ -95,7 +95,7 @@ module _ (bytes : List ℕ) (cs : List ℤ) where
       (starts a h)
 
   -- played on with samples before
-  pub from-then : (a n : ℕ) (p : Playing) → playFrom bytes cs a n p ≡ onto (p .samples) (playFrom bytes cs a n (playing (p .context) []))
+  from-then : (a n : ℕ) (p : Playing) → playFrom bytes cs a n p ≡ onto (p .samples) (playFrom bytes cs a n (playing (p .context) []))
   from-then a n p =
       ap (λ (xs : List ℤ). playFrom bytes cs a n (playing (p .context) xs)) (sym (append-nil (p .samples)))
       ∙ from-onto bytes cs (p .samples) a n (playing (p .context) [])
@@ -151,7 +151,7 @@ module _ (bytes : List ℕ) (cs : List ℤ) where
         let k = from-count bytes cs a (16 * j - a) (playing c []) (λ i. omega arith) in
         omega (arith, k)
 
-    pub later-count : length (later .samples) + (16 * j - a) + addressToSample a ≡ addressToSample len
+    later-count : length (later .samples) + (16 * j - a) + addressToSample a ≡ addressToSample len
     unfolding addressToSample
     later-count =
         let k = play-count (drop (8 * j) bytes) cs (len - 16 * j) (withHeader (ahead .context) (getD bytes (8 * j) 0)) (omega arith) in

@@ -1,7 +1,7 @@
 // Reading an image: opening, the place of a block's body, playing a block, the whole or a part, sameness (sections 4 and 5).
 ghost use mathlib.Core.Path.{_≡_};
 ghost use Rattle.image.specs.inner.Asked.{Found};
-ghost use Rattle.image.specs.Opening.{outcome, openImage};
+ghost use Rattle.image.specs.Opening.{openImage};
 ghost use Rattle.image.specs.Part.{partOutcome, playFrom};
 ghost use Rattle.image.specs.Playing.{playOutcome, play};
 ghost use Rattle.image.specs.Sameness.{sameOutcome, same};

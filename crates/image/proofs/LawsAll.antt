@@ -4,9 +4,7 @@ use mathlib.Core.Path.{_≡_, refl, sym, ap, _∙_, subst}
 use Prim.Native.Nat.{ℕ, zero, suc, _+_, _-_, _*_, _/_, _≤_, _<_}
 use native.Mathlib.Numerals.{add-one}
 use native.Mathlib.Omega.{arith}
-use borrow.Author.Tests.{ltb-false, le-ltb}
-use lib.Dec.{ltb}
-use lib.IntN.{ℤ, pos}
+use lib.IntN.{ℤ}
 use lib.ListN.{length, take, drop, length-append, length-drop}
 use lib.Seq.{sets, length-sets}
 use Rattle.block.specs.declared.FrameContext.{FrameContext}
@@ -14,12 +12,10 @@ use Rattle.block.specs.Address.{addressToSample}
 use Rattle.block.specs.Context.{newContext}
 use Rattle.block.specs.Frame.{Playing, playing}
 use Rattle.block.specs.Play.{playInto}
-use Rattle.block.specs.Refusals.{lowestPair}
 use Rattle.layout.specs.Sizes.{blockCount}
 use Rattle.whole.specs.Frames.{frameCount}
 use Rattle.layout.proofs.SizeLaws.{frames-some, blocks-all}
-use Rattle.whole.specs.Outcome.{Outcome, accepted, refused, Effect, effect}
-use Rattle.whole.proofs.Outcomes.{failed}
+use Rattle.whole.specs.Outcome.{Outcome, accepted, Effect, effect}
 use Rattle.whole.proofs.Stores.{spread, part-sets, part-all, part-end}
 use Rattle.image.specs.Opening.{openAnswer}
 use Rattle.image.specs.Reading.{shapeIn, totalIn, blockIn, blocksIn, coefficientsIn, lengthIn}
@@ -27,7 +23,7 @@ use Rattle.image.specs.inner.Asked.{Opens, Found, Playable, AllPlayable}
 use Rattle.image.specs.Bodies.{bodyIn}
 use Rattle.image.specs.Playing.{contextIn, roomAnswer}
 use Rattle.image.specs.inner.Played.{playAllBy}
-use Rattle.image.specs.Sameness.{blockSamples, samplesFrom, samplesIn, compareAnswer}
+use Rattle.image.specs.Sameness.{blockSamples, samplesFrom, samplesIn}
 use Rattle.image.specs.WholeImage.{allAnswer, contextAfter, allInto, playAll}
 use Rattle.image.proofs.OpenImages.{opened, opens}
 use Rattle.image.proofs.Joined.{samples-snoc, samples-count}

@@ -220,7 +220,7 @@ module _ (l : List ℕ) (k n : ℕ) (r : Later l k n) where
         ap (samplesFrom l k) a ∙ samples-append l k j (suc (blocksIn l - suc (k + j)))
 
     -- its samples are the next
-    pub turn-stored : (here : ℕ) → here ≡ min (perBlock l) (n - done) → take done rest ++ take here (blockSamples l (k + j)) ≡ take (done + here) rest
+    turn-stored : (here : ℕ) → here ≡ min (perBlock l) (n - done) → take done rest ++ take here (blockSamples l (k + j)) ≡ take (done + here) rest
     turn-stored here f =
         let z = turn-split in
         let q = turn-length in
@@ -341,7 +341,7 @@ module _ (l : List ℕ) (first n : ℕ) (r : Run l first n) where
   rest-length c = rest-count (bodyIn l start) (coefficientsIn l) (lengthIn l start) from from-before c
 
   -- the first turn's samples and the later ones are the run's
-  pub run-stored : (c : FrameContext) (done : ℕ) → done ≡ min (perBlock l - from) n
+  run-stored : (c : FrameContext) (done : ℕ) → done ≡ min (perBlock l - from) n
       → take done (restIn l start from c) ++ take (n - done) (samplesFrom l (start + 1) (blocksIn l - (start + 1))) ≡ take n (samplesOn l first c)
   unfolding samplesOn
   run-stored c done e = rw (add-one start) (go (ltb done n) refl)

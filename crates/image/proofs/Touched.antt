@@ -37,7 +37,7 @@ module _ (p first n start k : ℕ) (z : 0 < n) (a : start * p ≤ first) (b : fi
       let u : suc i * p ≤ start * p = mul-le-mul-right p e in
       rw (lt-ltb 0 n z, le-ltb first (suc i * p) (omega (arith, a, u)))
 
-  pub start-before : start < k
+  start-before : start < k
   start-before = go (ltb start k) refl
     where
       go : (t : Bool) → ltb start k ≡ t → start < k
@@ -85,10 +85,10 @@ module _ (p first n : ℕ) (h : 0 < p) (z : 0 < n) where
   pub first-from : first / p * p ≤ first
   first-from = div-mul-le-self first p
 
-  pub first-before : first < suc (first / p) * p
+  first-before : first < suc (first / p) * p
   first-before = div-lt-iff-lt-mul h .0 (lt-suc-self (first / p))
 
-  pub last-from : suc last * p < first + n + p
+  last-from : suc last * p < first + n + p
   last-from = let c = div-mul-le-self (first + n - 1) p in let w = suc-mul last p in omega (arith, c, w, z)
 
   pub last-before : first + n ≤ suc last * p

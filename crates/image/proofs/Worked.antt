@@ -2,7 +2,7 @@
 use mathlib.Core.List.{List, [], _∷_, _++_}
 use mathlib.Core.Path.{_≡_, refl}
 use Prim.Native.Nat.{ℕ}
-use lib.IntN.{ℤ, pos}
+use lib.IntN.{pos}
 use lib.ListN.{replicate}
 use Rattle.block.specs.Context.{predictor, scale, pushSample, withHeader}
 use Rattle.block.specs.Frame.{nibbleAt, nextSample, takeNibble}
@@ -12,7 +12,7 @@ use Rattle.whole.specs.Whole.{signedNibble, clamp}
 use Rattle.layout.specs.Limits.{numbersOk}
 use Rattle.layout.specs.Sizes.{lastSamples, blockCount, bodyBytes, imageSize, blockOffset, blockLength}
 use Rattle.whole.specs.Frames.{frameCount}
-use Rattle.whole.specs.Outcome.{Outcome, accepted, refused}
+use Rattle.whole.specs.Outcome.{accepted}
 use Rattle.image.specs.Reading.{totalIn, rateIn, blockIn, zeroIn, blocksIn, signedAt, coefficientsUpTo, coefficientsIn, offsetIn, lengthIn, headerIn, newestIn, olderIn, entryZeroIn}
 use Rattle.image.specs.Opening.{markOk, numbersFit, headOk, entryAnswer, entriesAnswer, openAnswer}
 use Rattle.image.specs.Bodies.{bodyIn}

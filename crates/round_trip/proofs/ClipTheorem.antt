@@ -15,7 +15,7 @@ use Rattle.coefficients.specs.Measure.{needed}
 use Rattle.whole.specs.Outcome.{Outcome, accepted, ifAccepted, effect}
 use Rattle.coefficients.specs.Runs.{coefficientsOf}
 use Rattle.coefficients.proofs.WholeRuns.{measuring-runs}
-use Rattle.layout.specs.Sizes.{blockCount, imageSize, cutDown}
+use Rattle.layout.specs.Sizes.{blockCount, imageSize}
 use Rattle.whole.specs.Frames.{frameCount}
 use Rattle.layout.specs.Fields.{mark}
 use Rattle.clip.specs.Image.{cut, startShape}
