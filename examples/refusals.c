@@ -9,7 +9,8 @@
 
 enum { SAMPLES = 20, BLOCK_SIZE = 8, IMAGE = 56 + 2 * 16 + 8 + 1 + 3 };
 
-static const int16_t silence[SAMPLES] = {0}, coefficients[16] = {0}, outside[16] = {4097}, lowest[16] = {-32768, -32768};
+static const int16_t silence[SAMPLES] = {0}, coefficients[16] = {0}, lowest[16] = {-32768, -32768};
+static const int16_t largest[16] = {-32768, 28672}, outside[16] = {-32768, 28673}; /* 61,440 and 61,441 */
 static const doilycairn_history history = {0, 0};
 static const doilycairn_context context = {0, {0, 0}};
 static int wrong = 0;
@@ -61,11 +62,17 @@ static void measuring(void) {
     expect(DOILYCAIRN_STORE_TOO_SHORT, doilycairn_process(doilycairn_new(), silence, SAMPLES, store, 3).code);
 }
 
+static void one_frame(void) {
+    expect(DOILYCAIRN_COEFFICIENT_OUTSIDE, doilycairn_encode_frame(history, silence, outside).code);
+    expect(DOILYCAIRN_ACCEPTED, doilycairn_encode_frame(history, silence, largest).code);
+}
+
 static void starting(uint8_t *image) {
     expect(DOILYCAIRN_BAD_SAMPLE_COUNT, doilycairn_start(0, 1, BLOCK_SIZE, 0, coefficients, history, image, IMAGE).code);
     expect(DOILYCAIRN_RATE_ZERO, doilycairn_start(SAMPLES, 0, BLOCK_SIZE, 0, coefficients, history, image, IMAGE).code);
     expect(DOILYCAIRN_BAD_BLOCK_SIZE, doilycairn_start(SAMPLES, 1, 7, 0, coefficients, history, image, IMAGE).code);
     expect(DOILYCAIRN_COEFFICIENT_OUTSIDE, doilycairn_start(SAMPLES, 1, BLOCK_SIZE, 0, outside, history, image, IMAGE).code);
+    expect(DOILYCAIRN_ACCEPTED, doilycairn_start(SAMPLES, 1, BLOCK_SIZE, 0, largest, history, image, IMAGE).code);
     expect(DOILYCAIRN_IMAGE_TOO_SHORT, doilycairn_start(SAMPLES, 1, BLOCK_SIZE, 0, coefficients, history, image, IMAGE - 1).code);
 }
 
@@ -74,6 +81,9 @@ static void feeding(uint8_t *image) {
     doilycairn_encoder encoder = doilycairn_start(SAMPLES, 1, BLOCK_SIZE, 0, coefficients, history, image, IMAGE).encoder;
     doilycairn_encoder fed = doilycairn_feed(encoder, silence, SAMPLES, image, IMAGE).encoder;
     doilycairn_encoder closed = doilycairn_close(fed, image, IMAGE).encoder;
+    doilycairn_encoder altered = encoder;
+    memcpy(altered.coefficients, outside, sizeof outside);
+    expect(DOILYCAIRN_INVALID_STATE, doilycairn_feed(altered, silence, 1, image, IMAGE).code);
     expect(DOILYCAIRN_ALREADY_CLOSED, doilycairn_feed(closed, silence, 1, image, IMAGE).code);
     expect(DOILYCAIRN_PIECE_TOO_LONG, doilycairn_feed(fed, silence, 1, image, IMAGE).code);
     expect(DOILYCAIRN_UNFINISHED, doilycairn_close(encoder, image, IMAGE).code);
@@ -168,6 +178,7 @@ static void joining(void) {
 int main(void) {
     uint8_t image[IMAGE];
     measuring();
+    one_frame();
     starting(image);
     feeding(image);
     playing_bytes();

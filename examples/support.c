@@ -12,7 +12,7 @@ static const char *message_of(uint32_t code) {
     case DOILYCAIRN_BAD_SAMPLE_COUNT: return "a clip has 1 to 14,680,064 samples";
     case DOILYCAIRN_RATE_ZERO: return "the sample rate is 0";
     case DOILYCAIRN_BAD_BLOCK_SIZE: return "a block has 8 to 65,536 bytes";
-    case DOILYCAIRN_COEFFICIENT_OUTSIDE: return "a coefficient is outside its limits";
+    case DOILYCAIRN_COEFFICIENT_OUTSIDE: return "a pair of coefficients has |c0| + |c1| above 61,440";
     case DOILYCAIRN_IMAGE_TOO_SHORT: return "the image buffer is too short";
     case DOILYCAIRN_ALREADY_CLOSED: return "the clip is closed already";
     case DOILYCAIRN_PIECE_TOO_LONG: return "the piece has more samples than the clip lacks";

@@ -18,9 +18,11 @@
  *
  * A state and its buffer belong together: the store for a doilycairn_calculator, the image for a doilycairn_encoder, each as the calls on
  * that state left it. No call can test that they do. With another store the coefficients are those of whatever numbers stand
- * there; each c0 is then within +-4,096 and each c1 within +-2,048, or is -32,768 where a NaN stood in the store. With another image
- * the frames go to the places that the state's own total, block and fed tell, within the image size of that state, and neither
- * head nor table is written again: the image may open and play something else, or may not open.
+ * there; each c0 is then within +-4,096 and each c1 within +-2,048, or is -32,768 where a NaN stood in the store, or an infinity or a
+ * huge number that makes one. Starting takes such a -32,768, and refuses it by 7 only where both of a pair are: where others wrote
+ * the store, look for it before starting. With another image the frames go to the places that the state's own total, block and
+ * fed tell, within the image size of that state, and neither head nor table is written again: the image may open and play
+ * something else, or may not open.
  *
  * Code 1 finds a state whose numbers contradict each other, and no more. A state that was forged or altered and passes (another
  * history, another frame, fewer records or passes, more samples fed) is taken at its word. No call then reads or
@@ -57,6 +59,8 @@ extern "C" {
 #define DOILYCAIRN_FRAME_BYTES 8
 /* Coefficients: eight pairs, c0 at even places and c1 at odd ones. */
 #define DOILYCAIRN_COEFFICIENTS 16
+/* The largest |c0| + |c1| of a pair that encoding takes. */
+#define DOILYCAIRN_MAX_PAIR_SUM 61440
 /* The longest clip, in samples. */
 #define DOILYCAIRN_MAX_SAMPLES 14680064
 /* The limits of a block size, in bytes. */
@@ -72,7 +76,7 @@ enum doilycairn_code {
     DOILYCAIRN_BAD_SAMPLE_COUNT = 4,    /* starting: 0 samples, or above 14,680,064 */
     DOILYCAIRN_RATE_ZERO = 5,           /* starting: rate 0 */
     DOILYCAIRN_BAD_BLOCK_SIZE = 6,      /* starting: block size below 8 or above 65,536 */
-    DOILYCAIRN_COEFFICIENT_OUTSIDE = 7, /* starting, one frame: a c0 outside +-4,096 or a c1 outside +-2,048 */
+    DOILYCAIRN_COEFFICIENT_OUTSIDE = 7, /* starting, one frame: |c0| + |c1| above 61,440 in a pair */
     DOILYCAIRN_IMAGE_TOO_SHORT = 8,     /* starting, feeding, closing: fewer bytes than doilycairn_image_size says */
     DOILYCAIRN_ALREADY_CLOSED = 9,      /* feeding, closing: the clip is closed */
     DOILYCAIRN_PIECE_TOO_LONG = 10,     /* feeding: more samples than the clip still lacks */
@@ -236,6 +240,7 @@ doilycairn_frame doilycairn_encode_frame(doilycairn_history history, const int16
 
 /*
  * Starts a clip of `total` samples: writes the doilycairn_image_size(total, block_size) bytes of its image, with zeros for the mark, contexts and bodies.
+ * `coefficients`: as measured, or brought from elsewhere, such as an older bank.
  * `image`: at least that many bytes, the same buffer for all calls of a run; bytes after them are never touched.
  * Refused by 4, 5, 6, 7, 8.
  */

@@ -1,8 +1,9 @@
-//! Times the library against the unchanged Rust, alternating in one run: `bench [from] [ROUNDS [LARGEST]]`.
+//! Times the library against the unchanged Rust, alternating in one run: `bench [older | from] [ROUNDS [LARGEST]]`.
 //!
-//! Both sides work on the same clips, and their results are compared before anything is timed. With `from` only the last table is
-//! made, of playing from a sample on.
+//! Both sides work on the same clips, and their results are compared before anything is timed. With `older` only the table of
+//! encoding with large pairs is made, with `from` only the last one, of playing from a sample on.
 
+mod older;
 mod parts;
 mod runs;
 mod sides;
@@ -19,13 +20,17 @@ const COUNTS: [usize; 5] = [1_400, 14_000, 140_000, 1_400_000, 14_680_064];
 /// Longer clips have three rounds at most: each takes seconds.
 const LONG: usize = 2_000_000;
 
-/// The word of the command line that asks for the last table alone.
+/// The length of the clips that are encoded with large pairs.
+const OF_OLDER: usize = 140_000;
+
+/// Words of the command line that ask for one table alone.
+const OLDER: &str = "older";
 const FROM: &str = "from";
 
 /// A number of the command line.
 fn argument(place: usize, otherwise: usize) -> usize {
-    match std::env::args().skip(1).filter(|word| word != FROM).nth(place) {
-        Some(text) => text.parse().expect("usage: bench [from] [ROUNDS [LARGEST]]"),
+    match std::env::args().skip(1).filter(|word| word != OLDER && word != FROM).nth(place) {
+        Some(text) => text.parse().expect("usage: bench [older | from] [ROUNDS [LARGEST]]"),
         None => otherwise,
     }
 }
@@ -76,10 +81,14 @@ fn main() {
     let rounds = argument(0, 9);
     let largest = argument(1, 14_680_064);
     let counts: Vec<_> = COUNTS.into_iter().filter(|count| *count <= largest).collect();
-    if std::env::args().all(|word| word != FROM) {
+    let [older, from] = [OLDER, FROM].map(|name| std::env::args().any(|word| word == name));
+    if !older && !from {
         print_parts(&counts, rounds);
     }
-    if let Some(longest) = counts.last() {
+    if largest > 0 && (older || !from) {
+        older::print_table(OF_OLDER.min(largest), rounds);
+    }
+    if let Some(longest) = counts.last().filter(|_| from || !older) {
         runs::print_table(*longest, rounds);
     }
 }

@@ -50,10 +50,7 @@ impl Case {
         let coefficients = library::finish(calculator, &mut store);
         let rust_calculator = rust::process(&clip);
         assert_eq!(rust::finish(rust_calculator.clone()), coefficients, "coefficients");
-        let image = library::encode(&clip, &coefficients, BLOCK);
-        let blocks = rust::encode(&clip, &coefficients, BLOCK);
-        let bodies: Vec<u8> = blocks.iter().flat_map(|block| &block.bytes).copied().collect();
-        assert!(bodies == image[56 + 16 * blocks.len()..], "bodies");
+        let (image, blocks) = encode_both(&clip, &coefficients);
         assert!(rust::decode(&blocks).concat() == library::decode(&image), "samples");
         Self { clip, coefficients, calculator, store, image, rust_calculator, blocks }
     }
@@ -71,11 +68,7 @@ impl Case {
                     timed(&mut store[..], |store| library::finish(calculator, store))
                 })
             }
-            Part::Encode => alternate(
-                rounds,
-                &mut || timed(clip, |clip| rust::encode(clip, coefficients, BLOCK)),
-                &mut || timed(clip, |clip| library::encode(clip, coefficients, BLOCK)),
-            ),
+            Part::Encode => encode_times(clip, coefficients, rounds),
             Part::Decode => {
                 alternate(rounds, &mut || timed(&blocks[..], rust::decode), &mut || {
                     timed(&image[..], library::decode)
@@ -86,6 +79,24 @@ impl Case {
             }),
         }
     }
+}
+
+/// The image and the blocks of a clip. Panics where their bodies differ.
+pub fn encode_both(clip: &[i16], coefficients: &[i16; 16]) -> (Vec<u8>, Vec<Block>) {
+    let image = library::encode(clip, coefficients, BLOCK);
+    let blocks = rust::encode(clip, coefficients, BLOCK);
+    let bodies: Vec<u8> = blocks.iter().flat_map(|block| &block.bytes).copied().collect();
+    assert!(bodies == image[56 + 16 * blocks.len()..], "bodies");
+    (image, blocks)
+}
+
+/// Times encoding.
+pub fn encode_times(clip: &[i16], coefficients: &[i16; 16], rounds: usize) -> Times {
+    alternate(
+        rounds,
+        &mut || timed(clip, |clip| rust::encode(clip, coefficients, BLOCK)),
+        &mut || timed(clip, |clip| library::encode(clip, coefficients, BLOCK)),
+    )
 }
 
 #[cfg(test)]

@@ -34,12 +34,10 @@ fn sound(random: &mut Random, len: usize) -> Vec<i16> {
     clip
 }
 
-/// Eight pairs of multiples of 2048.
+/// Eight pairs of multiples of 2048: small ones, or large ones up to 30720, with |c0| + |c1| up to 61440.
 fn coefficients(random: &mut Random) -> Coefficients {
-    Coefficients(std::array::from_fn(|place| {
-        let most = if place % 2 == 0 { 2 } else { 1 };
-        (random.below(2 * most + 1) as i16 - most as i16) * 2048
-    }))
+    let most = 1 + random.below(15);
+    Coefficients(std::array::from_fn(|_| (random.below(2 * most + 1) as i16 - most as i16) * 2048))
 }
 
 /// A mono GENH file: its fields, the coefficients, the bodies filled up to whole frames.

@@ -2,7 +2,7 @@
 
 use crate::{Measure, Refusal};
 
-/// Eight pairs of coefficients: c0 at even places, c1 at odd ones.
+/// Eight pairs of coefficients: c0 at even places, c1 at odd ones. Encoding takes those with |c0| + |c1| up to [`MAX_PAIR_SUM`](crate::MAX_PAIR_SUM) in each pair.
 #[repr(transparent)]
 #[derive(Clone, Copy, Debug, Default, PartialEq, Eq, Hash)]
 pub struct Coefficients(pub [i16; 16]);

@@ -26,7 +26,7 @@ pub struct Start {
     pub block_size: u32,
     /// Stored in the image, and else unused.
     pub gain: u16,
-    /// The coefficients, as measured.
+    /// The coefficients, as measured or brought from elsewhere: |c0| + |c1| is at most [`MAX_PAIR_SUM`](crate::MAX_PAIR_SUM) in each pair.
     pub coefficients: Coefficients,
     /// The samples before the clip's first one.
     pub history: History,

@@ -36,6 +36,9 @@
 //! numbers do not show: [`Refusal::InvalidState`] finds numbers that contradict each other, and no more. With another buffer, or with an altered state that
 //! passes, every call is still safe and does what its definition says of what it was given, but what comes out is no clip's.
 //!
+//! A NaN in a store that others wrote, or an infinity or a huge number that makes one, gives a coefficient of -32,768. Starting takes it, and refuses it
+//! ([`Refusal::CoefficientOutside`]) only where both of a pair are: look for it before starting. Other wrong numbers are not found so.
+//!
 //! # The floating-point environment
 //!
 //! Measuring rounds to the nearest number, as Rust programs do unless foreign code has set another rounding (`fesetround` of C). Then records and
@@ -70,6 +73,9 @@ pub use samples::Samples;
 
 /// The longest clip, in samples.
 pub const MAX_SAMPLES: u32 = 14_680_064;
+
+/// The largest |c0| + |c1| of a pair of coefficients that encoding takes.
+pub const MAX_PAIR_SUM: u32 = 61_440;
 
 /// The limits of a block size, in bytes.
 pub const BLOCK_SIZES: std::ops::RangeInclusive<u32> = 8..=65_536;

@@ -50,7 +50,7 @@ pub enum Refusal {
     RateZero,
     /// 6, starting: block size below 8 or above 65,536.
     BadBlockSize,
-    /// 7, starting, one frame: a c0 outside ±4,096 or a c1 outside ±2,048.
+    /// 7, starting, one frame: |c0| + |c1| above [`MAX_PAIR_SUM`](crate::MAX_PAIR_SUM), 61,440, in a pair.
     CoefficientOutside,
     /// 8, starting, feeding, closing: the buffer is shorter than the image.
     ImageTooShort,
@@ -182,7 +182,7 @@ impl Refusal {
             Refusal::BadSampleCount => "a clip has 1 to 14,680,064 samples",
             Refusal::RateZero => "the sample rate is 0",
             Refusal::BadBlockSize => "a block has 8 to 65,536 bytes",
-            Refusal::CoefficientOutside => "a coefficient is outside its limits",
+            Refusal::CoefficientOutside => "a pair of coefficients has |c0| + |c1| above 61,440",
             Refusal::ImageTooShort => "the image buffer is too short",
             Refusal::AlreadyClosed => "the clip is closed already",
             Refusal::PieceTooLong => "the piece has more samples than the clip lacks",

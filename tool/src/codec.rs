@@ -5,7 +5,7 @@ use crate::failure::Failure;
 use crate::memory;
 use crate::progress::Progress;
 use crate::text::count;
-use doilycairn::{Coefficients, Encoder, History, Measure, Refusal, Start};
+use doilycairn::{Coefficients, Encoder, History, MAX_PAIR_SUM, Measure, Refusal, Start};
 
 /// Samples of a piece.
 const PIECE: usize = 1 << 15;
@@ -82,14 +82,13 @@ fn refused(name: &str, refusal: Refusal, start: &Start) -> Failure {
     }
 }
 
-/// The first pair with a coefficient outside the limits.
+/// The first pair with |c0| + |c1| above the limit.
 fn outside(coefficients: &Coefficients) -> String {
-    let is_out = |&(_, (c0, c1)): &(usize, (i16, i16))| {
-        !(-4096..=4096).contains(&c0) || !(-2048..=2048).contains(&c1)
+    let sum = |(c0, c1): (i16, i16)| u32::from(c0.unsigned_abs()) + u32::from(c1.unsigned_abs());
+    let words = |(i, pair): (usize, (i16, i16))| {
+        let (c0, c1) = (count(pair.0), count(pair.1));
+        format!("; pair {i} of 0 to 7 is {c0} and {c1}, which makes {}", count(sum(pair)))
     };
-    let words = |(pair, (c0, c1))| {
-        let (c0, c1) = (count(c0), count(c1));
-        format!("; pair {pair} is {c0} and {c1}, and the limits are ±4,096 and ±2,048")
-    };
-    coefficients.pairs().into_iter().enumerate().find(is_out).map(words).unwrap_or_default()
+    let mut pairs = coefficients.pairs().into_iter().enumerate();
+    pairs.find(|(_, pair)| sum(*pair) > MAX_PAIR_SUM).map(words).unwrap_or_default()
 }

@@ -27,3 +27,17 @@ fn brief(opt: &Opt) -> &str {
 fn quoted(text: &str) -> String {
     format!("'{}'", text.replace('\'', r"'\''"))
 }
+
+#[cfg(test)]
+mod tests {
+    use super::brief;
+    use crate::command;
+
+    #[test]
+    fn what_is_said_of_an_option_is_no_half_of_a_bracket() {
+        for opt in command::ALL.iter().flat_map(|command| command.all_options()) {
+            let [opened, closed] = ['(', ')'].map(|bracket| brief(opt).matches(bracket).count());
+            assert_eq!(opened, closed, "{}", brief(opt));
+        }
+    }
+}

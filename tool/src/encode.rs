@@ -37,7 +37,8 @@ pub const COMMAND: Command = Command {
         file(
             "--coefficients",
             "FILE",
-            "sixteen numbers as text (c0 and c1 of each pair in turn), or an image to take them from; measured if not given",
+            "sixteen whole numbers as text (c0 and c1 of each pair in turn), 8192 and not 8,192, or an image to take them from; those of an older \
+             bank may be given, with |c0| + |c1| up to 61,440 in each pair; measured if not given",
         ),
         file(
             "--after",

@@ -51,11 +51,11 @@ fn head(known: &Known, out: Out) -> io::Result<()> {
 }
 
 fn pairs(known: &Known, out: Out) -> io::Result<()> {
-    writeln!(out, "\n  predictor      c0      c1      frames")?;
+    writeln!(out, "\n  predictor       c0       c1      frames")?;
     let frames = known.survey.pairs;
     for (i, (c0, c1)) in known.image.head().coefficients.pairs().into_iter().enumerate() {
         let (c0, c1) = (count(c0), count(c1));
-        writeln!(out, "  {i:>9}  {c0:>6}  {c1:>6}  {}", share(frames[i], known.survey.frames))?;
+        writeln!(out, "  {i:>9}  {c0:>7}  {c1:>7}  {}", share(frames[i], known.survey.frames))?;
     }
     Ok(())
 }

@@ -3,14 +3,16 @@
 use crate::case::{Case, Step};
 use crate::codes::image_size;
 use crate::machine::Machine;
+use crate::older_banks::older_banks;
 use crate::refusals::{refused_calls, refused_starts, refused_states};
 use crate::state::{Start, State};
+use oracle::History;
+use oracle::pairs::largest_measured;
 use oracle::random::Random;
-use oracle::{Coefficients, History};
 
 /// The lowest and the highest sample.
 pub const LOW: i16 = i16::MIN;
-const HIGH: i16 = i16::MAX;
+pub const HIGH: i16 = i16::MAX;
 
 /// Extreme histories.
 pub const HISTORIES: [History; 5] = [[0, 0], [LOW, LOW], [HIGH, HIGH], [LOW, HIGH], [HIGH, LOW]];
@@ -23,7 +25,7 @@ pub fn cases() -> Vec<Case> {
         lengths(&mut random),
         edges(&mut random),
         cuts(&mut random),
-        limits(&mut random),
+        of_measured_size(&mut random),
         begun(&mut random),
         refused_starts(&mut random),
         refused_calls(&mut random),
@@ -31,6 +33,7 @@ pub fn cases() -> Vec<Case> {
         stale(&mut random),
         on_used_buffers(&mut random),
         from_any_state(&mut random),
+        older_banks(&mut Random::new(2)),
     ];
     lists.concat()
 }
@@ -65,7 +68,7 @@ pub fn start(random: &mut Random, total: usize, size: usize) -> Start {
 }
 
 /// Pieces of a length, the last one shorter.
-fn every(samples: &[i16], len: usize) -> Vec<&[i16]> {
+pub fn every(samples: &[i16], len: usize) -> Vec<&[i16]> {
     samples.chunks(len).collect()
 }
 
@@ -136,22 +139,10 @@ fn cuts(random: &mut Random) -> Vec<Case> {
     cases
 }
 
-/// Eight times the same pair.
-pub fn pairs(c0: i16, c1: i16) -> Coefficients {
-    std::array::from_fn(|place| [c0, c1][place % 2])
-}
-
-/// Coefficients at the limits, zero, and a mixture.
-pub fn extreme_coefficients() -> [Coefficients; 6] {
-    let mixed =
-        [4096, -2048, -4096, 2048, 4096, 2048, -4096, -2048, 0, 2048, 4096, 0, 2048, 0, 0, 0];
-    [[0; 16], pairs(4096, -2048), pairs(4096, 2048), pairs(-4096, 2048), pairs(-4096, -2048), mixed]
-}
-
-/// Coefficients at the limits with extreme starting histories and samples.
-fn limits(random: &mut Random) -> Vec<Case> {
+/// The largest measured coefficients with extreme starting histories and samples.
+fn of_measured_size(random: &mut Random) -> Vec<Case> {
     let mut cases = vec![];
-    for coefficients in extreme_coefficients() {
+    for coefficients in largest_measured() {
         for history in HISTORIES {
             let level = random.sample();
             for samples in [vec![LOW; 15], vec![HIGH; 29], vec![level; 16], random.clip(31)] {

@@ -1,7 +1,7 @@
-//! Document 01's numbers of refusals, read plainly; 0 where a call is accepted.
+//! The documents' numbers of refusals, read plainly; 0 where a call is accepted.
 
 use crate::state::{Start, State};
-use oracle::Coefficients;
+use oracle::pairs::are_within_limit;
 
 /// The most samples of a clip.
 const MOST_SAMPLES: u32 = 14_680_064;
@@ -30,11 +30,6 @@ fn size_is_bad(size: u32) -> bool {
     !(8..=65_536).contains(&size)
 }
 
-fn coefficients_are_bad(coefficients: &Coefficients) -> bool {
-    let is_bad = |[c0, c1]: &[i16; 2]| !(-4096..=4096).contains(c0) || !(-2048..=2048).contains(c1);
-    coefficients.as_chunks().0.iter().any(is_bad)
-}
-
 /// Code 1.
 fn state_is_bad(state: &State) -> bool {
     let State { total, rate, block, fed, closed, .. } = *state;
@@ -44,7 +39,7 @@ fn state_is_bad(state: &State) -> bool {
         || size_is_bad(block)
         || block % 8 != 0
         || rate == 0
-        || coefficients_are_bad(&state.coefficients)
+        || !are_within_limit(&state.coefficients)
         || closed && fed < total
         || u64::from(state.passes) > 104 * encoded
 }
@@ -58,7 +53,7 @@ pub fn start_code(start: &Start, room: usize) -> u8 {
         5
     } else if size_is_bad(size) {
         6
-    } else if coefficients_are_bad(&start.coefficients) {
+    } else if !are_within_limit(&start.coefficients) {
         7
     } else if (room as u64) < image_size(total, start.block()) {
         8

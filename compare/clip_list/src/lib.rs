@@ -9,20 +9,22 @@
 //!
 //! A line answers each `s`, `f` and `c`: 00 or the refusal's number, the state's fields in the record's order from N on, whether
 //! it is closed, the digest of the lent buffer, and the buffer's bytes where the line asks for them. Bodies, lengths, contexts, the
-//! history and the passes are the Rust's; how an image is made of them, and the numbers of the refusals, are document 01's.
+//! history and the passes are the Rust's; how an image is made of them, and the numbers of the refusals, are document 01's, the limit
+//! of a pair of coefficients document 02's.
 
 mod case;
 mod cases;
 mod codes;
 mod image;
 mod machine;
+mod older_banks;
 mod random;
 mod refusals;
 mod run;
 mod state;
 
 pub use case::{Case, MOST_ROOM, Step};
-pub use cases::{HISTORIES, cases, extreme_coefficients};
+pub use cases::{HISTORIES, cases};
 pub use codes::{block_count, image_size};
 pub use image::image_of;
 pub use machine::Machine;

@@ -1,16 +1,18 @@
 //! Random clips.
 
 use crate::case::{Case, Step};
-use crate::cases::{HISTORIES, after, extreme_coefficients, start, with_tail};
+use crate::cases::{HISTORIES, after, start, with_tail};
 use crate::codes::image_size;
 use crate::state::{Start, State};
 use oracle::measure;
+use oracle::pairs::largest_measured;
 use oracle::random::Random;
 
 /// A random clip from start to close, with refused calls in between; some are left unfinished.
 pub fn random_clip(random: &mut Random) -> Case {
     let samples = random_samples(random);
     let start = random_start(random, &samples);
+    let start = with_larger_coefficients(random, start);
     let room = image_size(start.total, start.block()) as usize + random.below_one(&[1, 4, 100]);
     let mut steps = vec![Step::New];
     if random.below(8) == 0 {
@@ -52,7 +54,7 @@ pub fn random_samples(random: &mut Random) -> Vec<i16> {
     samples
 }
 
-/// What the samples' clip is started with.
+/// What the samples' clip is started with, coefficients being of measured size.
 pub fn random_start(random: &mut Random, samples: &[i16]) -> Start {
     let size = match random.below(8) {
         0 => 8 + random.below(8),
@@ -63,7 +65,7 @@ pub fn random_start(random: &mut Random, samples: &[i16]) -> Start {
     };
     let mut start = start(random, samples.len(), size);
     match random.below(8) {
-        0 => start.coefficients = extreme_coefficients()[random.below(6)],
+        0 => start.coefficients = largest_measured()[random.below(6)],
         1..4 => start.coefficients = measure(&[samples]).coefficients,
         _ => {}
     }
@@ -71,6 +73,16 @@ pub fn random_start(random: &mut Random, samples: &[i16]) -> Start {
         start.history = HISTORIES[random.below(HISTORIES.len())];
     }
     start
+}
+
+/// The same, a third of the time with an older bank, at times with one larger coefficient.
+fn with_larger_coefficients(random: &mut Random, start: Start) -> Start {
+    let coefficients = match random.below(12) {
+        0..4 => random.older_bank(),
+        4 => random.with_one_larger(start.coefficients),
+        _ => start.coefficients,
+    };
+    Start { coefficients, ..start }
 }
 
 /// Cuts samples into pieces, some of them empty.
@@ -99,12 +111,7 @@ fn refused_start(random: &mut Random, good: &Start, room: usize) -> Step {
                 start.size =
                     [random.below(8) as u32, 65_537 + random.bits() as u32 / 2][random.below(2)]
             }
-            3 => {
-                let place = random.below(16);
-                let beyond = 1 + random.below_one(&[1, 28_000]) as i16;
-                let beyond = [4096, 2048][place % 2] + beyond;
-                start.coefficients[place] = [beyond, -beyond][random.below(2)];
-            }
+            3 => start.coefficients = random.with_pair_beyond(start.coefficients),
             4 => start.total = 14_680_064,
             _ => room = random.below(image_size(good.total, good.block()) as usize),
         }
@@ -154,8 +161,7 @@ fn bad(random: &mut Random, state: &State) -> State {
         1 => bad.total = [0, 14_680_065][random.below(2)],
         2 => bad.block = [0, 4, 65_544, bad.block + 1 + random.below(7) as u32][random.below(4)],
         3 => bad.rate = 0,
-        4 => bad.coefficients[2 * random.below(8)] = [-4097, 4097][random.below(2)],
-        5 => bad.coefficients[1 + 2 * random.below(8)] = [-2049, 2049][random.below(2)],
+        4 | 5 => bad.coefficients = random.with_pair_beyond(bad.coefficients),
         6 if bad.fed < bad.total => bad.closed = true,
         _ => bad.passes = 104 * (bad.fed / 14) + 1,
     }

@@ -1,28 +1,35 @@
 //! Calls that are refused, of the fixed list.
 
 use crate::case::{Case, Step};
-use crate::cases::{LOW, after, pairs, start};
+use crate::cases::{LOW, after, start};
 use crate::codes::image_size;
 use crate::state::{Start, State};
+use oracle::Coefficients;
+use oracle::pairs::{MEASURED, eight_times};
 use oracle::random::Random;
 
 /// Starts around each limit and with several reasons at once, and calls on the state that a refused one gives.
 pub fn refused_starts(random: &mut Random) -> Vec<Case> {
     let good = start(random, 29, 17);
     let size = image_size(29, 16) as usize;
-    let step = |(start, room): (Start, usize)| Step::Start { start, room, shown: false };
-    let starts = [around_limits(&good, size), for_many_reasons(&good, size)].concat();
-    let steps = [Step::New].into_iter().chain(starts.into_iter().map(step));
+    let reasons = for_many_reasons(&good, size, eight_times(0, 2049));
+    let starts = [around_limits(&good, size), reasons].concat();
     let after = [
         Step::New,
         Step::Start { start: Start { rate: 0, ..good.clone() }, room: size, shown: true },
         Step::Feed { piece: vec![], room: size, shown: true },
         Step::Close { room: size, shown: true },
     ];
-    vec![Case(steps.collect()), Case(after.to_vec())]
+    vec![started(starts), Case(after.to_vec())]
 }
 
-/// Starts on both sides of each limit.
+/// A case that starts in turn.
+pub fn started(starts: Vec<(Start, usize)>) -> Case {
+    let step = |(start, room)| Step::Start { start, room, shown: false };
+    Case([Step::New].into_iter().chain(starts.into_iter().map(step)).collect())
+}
+
+/// Starts on both sides of each limit, and with each coefficient around those of measured ones.
 fn around_limits(good: &Start, size: usize) -> Vec<(Start, usize)> {
     let mut starts = vec![];
     for total in [0, 14_680_064, 14_680_065, u32::MAX] {
@@ -32,7 +39,7 @@ fn around_limits(good: &Start, size: usize) -> Vec<(Start, usize)> {
         starts.push((Start { size: wanted, ..good.clone() }, size));
     }
     for place in 0..16 {
-        let limit = [4096, 2048][place % 2];
+        let limit = MEASURED[place % 2];
         for coefficient in [limit, limit + 1, -limit - 1, LOW] {
             let mut coefficients = good.coefficients;
             coefficients[place] = coefficient;
@@ -43,15 +50,15 @@ fn around_limits(good: &Start, size: usize) -> Vec<(Start, usize)> {
     starts
 }
 
-/// Starts with every choice of the five reasons.
-fn for_many_reasons(good: &Start, size: usize) -> Vec<(Start, usize)> {
+/// Starts with every choice of four reasons and of other coefficients.
+pub fn for_many_reasons(good: &Start, size: usize, others: Coefficients) -> Vec<(Start, usize)> {
     let choice = |bad: usize| {
         let is_bad = |place: usize| bad >> place & 1 == 1;
         let start = Start {
             total: if is_bad(0) { 14_680_065 } else { 29 },
             rate: if is_bad(1) { 0 } else { 32_000 },
             size: if is_bad(2) { 7 } else { 17 },
-            coefficients: if is_bad(3) { pairs(0, 2049) } else { good.coefficients },
+            coefficients: if is_bad(3) { others } else { good.coefficients },
             ..good.clone()
         };
         (start, if is_bad(4) { size - 1 } else { size })
@@ -100,7 +107,7 @@ fn refused_by_all(left: usize, room: usize) -> Vec<Step> {
     steps
 }
 
-/// Calls on states on both sides of each limit.
+/// Calls on states on both sides of each limit, and with each coefficient around those of measured ones.
 pub fn refused_states(random: &mut Random) -> Vec<Case> {
     let samples = random.tone(29);
     let start = start(random, samples.len(), 16);
@@ -150,7 +157,7 @@ fn of_block_sizes(good: &State) -> Vec<State> {
     sizes.map(|block| State { block, ..good.clone() }).to_vec()
 }
 
-/// States with each coefficient at a limit and beyond both.
+/// States with each coefficient at a limit of measured ones and beyond both.
 fn of_coefficients(good: &State) -> Vec<State> {
     let with = |place: usize, coefficient: i16| {
         let mut state = good.clone();
@@ -158,7 +165,7 @@ fn of_coefficients(good: &State) -> Vec<State> {
         state
     };
     let around = |place: usize| {
-        let limit = [4096, 2048][place % 2];
+        let limit = MEASURED[place % 2];
         [limit + 1, -limit - 1, -limit].map(|coefficient| with(place, coefficient))
     };
     (0..16).flat_map(around).collect()

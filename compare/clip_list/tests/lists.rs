@@ -2,6 +2,7 @@
 
 use clip_list::{Case, Start, State, Step, cases, random_clip};
 use oracle::list::Listed;
+use oracle::pairs::{are_of_measured_size, are_within_limit, sum_of_pair};
 use oracle::random::Random;
 
 /// Random clips.
@@ -124,5 +125,27 @@ fn every_call_has_every_answer() {
             assert!(count >= least, "{kind}: {count}");
         }
         assert!(kinds.iter().all(|kind| all.contains(kind)));
+    }
+}
+
+/// The coefficients of all starts.
+fn started(cases: &[Case]) -> Vec<[i16; 16]> {
+    let of_start = |step: &Step| match step {
+        Step::Start { start, .. } => Some(start.coefficients),
+        _ => None,
+    };
+    cases.iter().flat_map(|case| case.0.iter().filter_map(of_start)).collect()
+}
+
+#[test]
+fn random_clips_have_older_banks_and_pairs_beyond_the_limit() {
+    let started = started(&random_clips(3000));
+    let (within, beyond): (Vec<_>, Vec<_>) = started.into_iter().partition(are_within_limit);
+    let older = within.iter().filter(|bank| !are_of_measured_size(bank)).count();
+    assert!((within.len() / 4..within.len() / 2).contains(&older), "{older}");
+    let has_sum = |bank: &[i16; 16], sum| bank.as_chunks().0.iter().any(|p| sum_of_pair(*p) == sum);
+    for (banks, sum) in [(within, 61_440), (beyond, 61_441)] {
+        let count = banks.iter().filter(|bank| has_sum(bank, sum)).count();
+        assert!(count >= 20, "{sum}: {count}");
     }
 }

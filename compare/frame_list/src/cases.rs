@@ -1,8 +1,10 @@
 //! The fixed list.
 
+use crate::older_banks::older_banks;
 use crate::{Case, HIGH, LOW};
+use oracle::History;
+use oracle::pairs::{MEASURED, eight_times, largest_measured};
 use oracle::random::Random;
-use oracle::{Coefficients, History};
 
 /// All cases, in order.
 pub fn cases() -> Vec<Case> {
@@ -18,7 +20,8 @@ pub fn cases() -> Vec<Case> {
         equal(&mut random),
         clips(&mut random),
         rounded(),
-        refused(),
+        one_larger(),
+        older_banks(&mut Random::new(2)),
     ];
     lists.concat()
 }
@@ -33,23 +36,11 @@ fn rounded() -> Vec<Case> {
     let mut cases = vec![];
     for half in [9, 11, 13, 15] {
         for (sample, newest) in [(half * 1024, -1), (-half * 1024, 1)] {
-            cases.push(Case::new(&[sample], [newest, 0], pairs(1, 0)));
-            cases.push(Case::new(&[sample; 14], [newest, 0], pairs(1, 0)));
+            cases.push(Case::new(&[sample], [newest, 0], eight_times(1, 0)));
+            cases.push(Case::new(&[sample; 14], [newest, 0], eight_times(1, 0)));
         }
     }
     cases
-}
-
-/// Eight times the same pair.
-fn pairs(c0: i16, c1: i16) -> Coefficients {
-    std::array::from_fn(|place| [c0, c1][place % 2])
-}
-
-/// Coefficients at the limits, zero, and a mixture.
-pub fn limits() -> [Coefficients; 6] {
-    let mixed =
-        [4096, -2048, -4096, 2048, 4096, 2048, -4096, -2048, 0, 2048, 4096, 0, 2048, 0, 0, 0];
-    [[0; 16], pairs(4096, -2048), pairs(4096, 2048), pairs(-4096, 2048), pairs(-4096, -2048), mixed]
 }
 
 /// Extreme histories.
@@ -59,7 +50,7 @@ pub const HISTORIES: [History; 5] = [[0, 0], [LOW, LOW], [HIGH, HIGH], [LOW, HIG
 fn steady() -> Vec<Case> {
     let mut cases = vec![];
     for level in [0, 1, -1, 7, 8, -8, -9, 1000, -1000, HIGH, LOW] {
-        for coefficients in limits() {
+        for coefficients in largest_measured() {
             cases.extend(HISTORIES.map(|history| Case::new(&[level; 14], history, coefficients)));
         }
     }
@@ -72,7 +63,7 @@ fn extremes(random: &mut Random) -> Vec<Case> {
     for half in 1..=7 {
         for first in [[LOW, HIGH], [HIGH, LOW], [LOW, 0], [HIGH, 0]] {
             let samples: [i16; 14] = std::array::from_fn(|place| first[place / half % 2]);
-            for coefficients in limits() {
+            for coefficients in largest_measured() {
                 let history = HISTORIES[random.below(HISTORIES.len())];
                 cases.push(Case::new(&samples, history, coefficients));
             }
@@ -90,7 +81,11 @@ fn impulses(random: &mut Random) -> Vec<Case> {
             let mut samples = [0; 14];
             samples[place] = level;
             cases.push(Case::new(&samples, [0, 0], random.coefficients()));
-            cases.push(Case::new(&samples, [random.sample(), random.sample()], limits()[5]));
+            cases.push(Case::new(
+                &samples,
+                [random.sample(), random.sample()],
+                largest_measured()[5],
+            ));
         }
     }
     cases
@@ -147,15 +142,15 @@ fn clips(random: &mut Random) -> Vec<Case> {
     (0..500).map(clip).collect()
 }
 
-/// Coefficients one beyond a limit, at each place.
-fn refused() -> Vec<Case> {
-    let beyond = |place: usize| {
-        let limit = [4097, 2049][place % 2];
-        [limit, -limit].map(|coefficient| {
-            let mut coefficients = limits()[5];
+/// One coefficient just larger than measured ones, at each place.
+fn one_larger() -> Vec<Case> {
+    let larger = |place: usize| {
+        let larger = MEASURED[place % 2] + 1;
+        [larger, -larger].map(|coefficient| {
+            let mut coefficients = largest_measured()[5];
             coefficients[place] = coefficient;
             Case::new(&[100; 14], [1, -1], coefficients)
         })
     };
-    (0..16).flat_map(beyond).collect()
+    (0..16).flat_map(larger).collect()
 }

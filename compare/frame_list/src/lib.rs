@@ -4,15 +4,17 @@
 //! history sample (4 each), fourteen samples and sixteen coefficients (4 each, joined).
 //!
 //! A line of the answers: the eight bytes, the passes (2), the newest and the older history sample
-//! after the real samples; or `refused 7` where a coefficient is beyond its limit.
+//! after the real samples; or `refused 7` where a pair is beyond the limit.
 
 mod cases;
+mod older_banks;
 mod random;
 
 pub use cases::cases;
 pub use random::random_frame;
 
 use oracle::list::Listed;
+use oracle::pairs::are_within_limit;
 use oracle::{Coefficients, History, encode_frame, encode_frame_bytes};
 
 /// The lowest and the highest sample.
@@ -36,13 +38,9 @@ impl Case {
         Self { count: samples.len(), history, samples: padded, coefficients }
     }
 
-    /// Document 01's limits of a pair.
+    /// Whether a pair is beyond document 02's limit.
     pub fn is_refused(&self) -> bool {
-        self.coefficients
-            .as_chunks::<2>()
-            .0
-            .iter()
-            .any(|[c0, c1]| !(-4096..=4096).contains(c0) || !(-2048..=2048).contains(c1))
+        !are_within_limit(&self.coefficients)
     }
 }
 

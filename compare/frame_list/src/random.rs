@@ -1,16 +1,19 @@
 //! Random frames.
 
-use crate::cases::{HISTORIES, limits};
+use crate::cases::HISTORIES;
 use crate::{Case, HIGH, LOW};
+use oracle::pairs::{MEASURED, largest_measured};
 use oracle::random::Random;
 use oracle::{Coefficients, History, measure};
 
-/// A random frame of any kind, full or short; one in 64 has a coefficient beyond its limit.
+/// A random frame of any kind, full or short; one in 32 has a pair beyond the limit, one in 32 one coefficient larger than
+/// measured ones.
 pub fn random_frame(random: &mut Random) -> Case {
     let mut case = if random.below(4) == 0 { within_clip(random) } else { alone(random) };
-    if random.below(64) == 0 {
-        let place = random.below(16);
-        case.coefficients[place] = beyond(random, [4096, 2048][place % 2]);
+    match random.below(32) {
+        0 => case.coefficients = random.with_pair_beyond(case.coefficients),
+        1 => case.coefficients = random.with_one_larger(case.coefficients),
+        _ => {}
     }
     case
 }
@@ -108,11 +111,23 @@ fn history(random: &mut Random) -> History {
     }
 }
 
-/// Coefficients: of any size, at the limits, small, like a resonance's, or few pairs repeated.
+/// Coefficients: more than a third of older banks, else of measured size.
 fn coefficients(random: &mut Random) -> Coefficients {
+    match random.below(11) {
+        0..3 => random.older_bank(),
+        3 => {
+            let bank = random.older_bank();
+            few_pairs(random, bank)
+        }
+        _ => of_measured_size(random),
+    }
+}
+
+/// Coefficients within ±4,096 and ±2,048: at these limits, small, like a resonance's, few pairs, or any.
+fn of_measured_size(random: &mut Random) -> Coefficients {
     match random.below(8) {
-        0 => limits()[random.below(limits().len())],
-        1 => std::array::from_fn(|place| [-1, 0, 1][random.below(3)] * [4096, 2048][place % 2]),
+        0 => largest_measured()[random.below(largest_measured().len())],
+        1 => std::array::from_fn(|place| [-1, 0, 1][random.below(3)] * MEASURED[place % 2]),
         2 => std::array::from_fn(|_| within_bits(random, 10)),
         3 | 4 => std::array::from_fn(|place| match place % 2 {
             0 => random.within(4096) as i16,
@@ -120,19 +135,14 @@ fn coefficients(random: &mut Random) -> Coefficients {
         }),
         5 => {
             let some = random.coefficients();
-            let pairs = 1 + random.below(3);
-            std::array::from_fn(|place| some[place % (2 * pairs)])
+            few_pairs(random, some)
         }
         _ => random.coefficients(),
     }
 }
 
-/// A coefficient beyond ±`limit`: by one, by any amount, or at the ends of 16 bits.
-fn beyond(random: &mut Random, limit: i16) -> i16 {
-    let by = 1 + random.below_one(&[1, 2, 28_000]) as i16;
-    match random.below(5) {
-        0 => [LOW, HIGH][random.below(2)],
-        1 | 2 => limit + by,
-        _ => -limit - by,
-    }
+/// The first one to three pairs, repeated.
+fn few_pairs(random: &mut Random, some: Coefficients) -> Coefficients {
+    let pairs = 1 + random.below(3);
+    std::array::from_fn(|place| some[place % (2 * pairs)])
 }

@@ -2,6 +2,7 @@
 
 use frame_list::{Case, cases, random_frame};
 use oracle::list::Listed;
+use oracle::pairs::{are_of_measured_size, sum_of_pair};
 use oracle::random::Random;
 
 /// Random frames.
@@ -63,7 +64,7 @@ fn random_frames_are_of_every_kind() {
     assert!(some(&|case| case.samples.array_windows().all(|pair| alternates(*pair))));
     assert!(some(&|case| case.history == [i16::MIN; 2]));
     assert!(some(&|case| case.coefficients[..2] == [4096, -2048]));
-    assert!(some(&|case| case.coefficients.iter().all(|number| number.abs() < 100)));
+    assert!(some(&|case| case.coefficients.iter().all(|number| number.unsigned_abs() < 100)));
     assert!(some(&Case::is_refused));
 }
 
@@ -76,5 +77,54 @@ fn random_frames_use_every_pair_and_scale() {
     }
     for scale in 0..=12 {
         assert!(answers.iter().any(|answer| answer[1..2] == format!("{scale:x}")));
+    }
+}
+
+/// Whether a frame has a pair of this sum with these signs, at this place where one is told.
+fn has_pair(case: &Case, place: Option<usize>, sum: usize, is_negative: [bool; 2]) -> bool {
+    let is = |pair: [i16; 2]| sum_of_pair(pair) == sum && pair.map(|c| c < 0) == is_negative;
+    let mut pairs = case.coefficients.as_chunks().0.iter().enumerate();
+    pairs.any(|(at, pair)| place.is_none_or(|place| place == at) && is(*pair))
+}
+
+/// The four choices of signs.
+const SIGNS: [[bool; 2]; 4] = [[false, false], [false, true], [true, false], [true, true]];
+
+#[test]
+fn random_frames_are_at_the_limit_and_beyond_it() {
+    let frames = random_frames(40_000);
+    let count = |is: &dyn Fn(&Case) -> bool| frames.iter().filter(|case| is(case)).count();
+    let of_older_banks = count(&|case| !are_of_measured_size(&case.coefficients));
+    assert!((12_000..=16_000).contains(&of_older_banks), "{of_older_banks}");
+    for signs in SIGNS {
+        let at_limit = |case: &Case| has_pair(case, None, 61_440, signs) && !case.is_refused();
+        assert!(count(&at_limit) >= 1000, "{signs:?}");
+        for place in 0..8 {
+            let beyond = |case: &Case| has_pair(case, Some(place), 61_441, signs);
+            assert!(count(&beyond) >= 3, "{place} {signs:?}");
+            assert!(frames.iter().all(|case| !beyond(case) || case.is_refused()));
+        }
+    }
+    for end in [i16::MAX, i16::MIN] {
+        for place in 0..2 {
+            let at_end = |pair: &[i16; 2]| pair[place] == end && sum_of_pair(*pair) == 61_440;
+            let has = |case: &Case| case.coefficients.as_chunks().0.iter().any(at_end);
+            assert!(count(&|case| has(case) && !case.is_refused()) >= 200, "{place} {end}");
+        }
+    }
+    let one_larger =
+        |case: &Case| case.coefficients.iter().filter(|c| c.unsigned_abs() > 4096).count() == 1;
+    assert!(count(&|case| one_larger(case) && !case.is_refused()) >= 200);
+}
+
+#[test]
+fn frames_of_older_banks_end_at_every_scale() {
+    let is_older = |case: &Case| !are_of_measured_size(&case.coefficients) && !case.is_refused();
+    let frames = random_frames(6000).into_iter().filter(is_older);
+    let scales: Vec<_> = frames.map(|case| case.answers()[1..2].to_owned()).collect();
+    for scale in 0..=12 {
+        let scale = format!("{scale:x}");
+        let count = scales.iter().filter(|other| **other == scale).count();
+        assert!(count >= 20, "{scale}: {count}");
     }
 }

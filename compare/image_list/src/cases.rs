@@ -11,7 +11,8 @@ use crate::refused_runs::refused_runs;
 use crate::runs::runs;
 use crate::sameness::sameness;
 use crate::writer::Writer;
-use clip_list::{HISTORIES, Start, extreme_coefficients, image_of};
+use clip_list::{HISTORIES, Start, image_of};
+use oracle::pairs::largest_measured;
 use oracle::random::Random;
 
 /// All cases, the same each time.
@@ -20,7 +21,7 @@ pub fn cases() -> Vec<Case> {
     let mut cases = vec![worked()];
     cases.extend(lengths(&mut random));
     cases.extend(longer(&mut random));
-    cases.extend(limits(&mut random));
+    cases.extend(of_measured_size(&mut random));
     cases.extend(any(&mut random));
     cases.extend(rooms(&mut random));
     cases.extend(refusals(&mut random));
@@ -99,10 +100,10 @@ fn longer(random: &mut Random) -> Vec<Case> {
     cases
 }
 
-/// Coefficients at the limits with extreme starting histories.
-fn limits(random: &mut Random) -> Vec<Case> {
+/// The largest measured coefficients with extreme starting histories.
+fn of_measured_size(random: &mut Random) -> Vec<Case> {
     let mut cases = vec![];
-    for coefficients in extreme_coefficients() {
+    for coefficients in largest_measured() {
         for history in HISTORIES {
             let mut clip = Clip::new(random, 30, 16);
             (clip.start.coefficients, clip.start.history) = (coefficients, history);

@@ -2,15 +2,16 @@
 
 use crate::convert::{library_start, number, state};
 use crate::tally::Tally;
-use clip_list::{Start, State, image_of, image_size};
+use clip_list::{Start, State, block_count, image_of, image_size};
 use doilycairn::{EncoderState, Refusal};
 use oracle::random::Random;
 use oracle::{encode, measure};
 
-/// What a clip is started with: mostly the Rust's coefficients.
+/// What a clip is started with: mostly the Rust's coefficients, a third of the time an older bank.
 pub fn random_start(random: &mut Random, samples: &[i16]) -> Start {
-    let coefficients = match random.below(8) {
+    let coefficients = match random.below(12) {
         0 => random.coefficients(),
+        1..5 => random.older_bank(),
         _ => measure(&[samples]).coefficients,
     };
     let history = match random.below(2) {
@@ -55,10 +56,19 @@ pub fn encoded(random: &mut Random, start: &Start, samples: &[i16], tally: &mut 
     let mut right = image.clone();
     let library = encode_in(start, &pieces, &mut image).map_err(number);
     right[..size].copy_from_slice(&image_of(start, &pieces));
+    count_frames(start, &right[..size], tally);
     tally.compare("clip", &input, library, Ok(right_state(start, &pieces)));
     tally.compare("image", &input, image[..size].to_vec(), right[..size].to_vec());
     tally.compare("image and after it", &input, image, right.clone());
     right
+}
+
+/// Counts the frames of an image's bodies, of eight bytes each but for the last.
+fn count_frames(start: &Start, image: &[u8], tally: &mut Tally) {
+    let bodies = 56 + 16 * block_count(start.total, start.block()) as usize;
+    for frame in image[bodies..].chunks(8) {
+        tally.frames.count(frame[0], &start.coefficients);
+    }
 }
 
 /// A clip from start to close.

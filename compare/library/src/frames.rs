@@ -21,6 +21,9 @@ pub fn random(random: &mut Random, tally: &mut Tally) {
 /// One-frame encoding, and for a short frame a clip that has it alone.
 fn compare(case: &Case, tally: &mut Tally) {
     let right = right(case);
+    if let Ok((bytes, ..)) = &right {
+        tally.frames.count(bytes[0], &case.coefficients);
+    }
     if case.count < case.samples.len() {
         tally.compare("short frame", case, short(case), right_short(case, &right));
     }

@@ -1,7 +1,8 @@
 //! Drives libdoilycairn.a and the unchanged Rust on the same inputs and compares every result.
 //!
 //! What is encoded, played, joined, converted and measured is the Rust's answer; refusals' numbers, states and how an image is made
-//! and read are document 01's, the block of a bad entry and the run from a sample on document 02's, read plainly.
+//! and read are document 01's, the limit of a pair of coefficients, the block of a bad entry and the run from a sample on document
+//! 02's, read plainly.
 
 mod answer;
 mod blocks;
@@ -14,6 +15,7 @@ mod damage;
 mod damaging;
 mod encoding;
 mod ffi;
+mod frame_count;
 mod frames;
 mod long;
 mod measuring;
@@ -25,6 +27,7 @@ mod states;
 mod stores;
 mod tally;
 
+pub use frame_count::FrameCount;
 pub use tally::Tally;
 
 use oracle::random::Random;

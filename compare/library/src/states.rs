@@ -32,7 +32,11 @@ fn state(random: &mut Random) -> State {
         rate: 1 + random.bits() as u32 / 2,
         block: 8 * (1 + random.below_one(&[1, 4, 20, 8192]) as u32),
         gain: random.bits() as u16,
-        coefficients: random.coefficients(),
+        coefficients: if random.below(3) == 0 {
+            random.older_bank()
+        } else {
+            random.coefficients()
+        },
         history: [random.sample(), random.sample()],
         fed,
         passes: random.below(104 * encoded as usize + 1) as u32,
@@ -50,11 +54,10 @@ fn spoiled(random: &mut Random, good: &State) -> State {
         1 => state.total = [0, state.fed.saturating_sub(1), 14_680_065, u32::MAX][random.below(4)],
         2 => state.block = [0, 7, 12, 65_537, 65_544, u32::MAX][random.below(6)],
         3 => state.rate = 0,
-        4 => {
-            let place = random.below(16);
-            let beyond = [4097, 2049][place % 2];
-            state.coefficients[place] = [beyond, -beyond, i16::MIN, i16::MAX][random.below(4)];
+        4 if random.below(4) == 0 => {
+            state.coefficients = random.with_one_larger(state.coefficients);
         }
+        4 => state.coefficients = random.with_pair_beyond(state.coefficients),
         5 => state.closed = true,
         _ => state.passes = [104 * state.total.div_ceil(14) + 1, u32::MAX][random.below(2)],
     }

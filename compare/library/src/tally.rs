@@ -1,6 +1,7 @@
 //! Compares answers and counts what differs.
 
 use crate::answer::Answer;
+use crate::frame_count::FrameCount;
 use image_list::reader::Refused;
 use std::collections::BTreeMap;
 use std::fmt::{self, Debug};
@@ -19,14 +20,24 @@ pub struct Tally {
     pub refused: [u64; 23],
     /// How often each comparison saw 20, 21 and 22, and whether of a later block than the first.
     pub bad_entries: BTreeMap<(&'static str, u8, bool), u64>,
+    /// The frames that the Rust encoded, in the parts that count them.
+    pub frames: FrameCount,
     /// The comparison that is made with altered answers.
     wrong: Option<String>,
 }
 
 impl Tally {
     pub fn new(part: &'static str, wrong: Option<String>) -> Self {
-        let (compared, bad_entries) = (BTreeMap::new(), BTreeMap::new());
-        Self { part, cases: 0, differences: 0, compared, refused: [0; 23], bad_entries, wrong }
+        Self {
+            part,
+            cases: 0,
+            differences: 0,
+            compared: BTreeMap::new(),
+            refused: [0; 23],
+            bad_entries: BTreeMap::new(),
+            frames: FrameCount::default(),
+            wrong,
+        }
     }
 
     /// Compares the library's answer with the one that it should give.
@@ -66,6 +77,9 @@ impl fmt::Display for Tally {
         write!(f, "; refused")?;
         for (code, count) in self.refused.iter().enumerate().skip(1).filter(|(_, n)| **n > 0) {
             write!(f, ", by {code} {count}")?;
+        }
+        if self.frames.all > 0 {
+            write!(f, "; {}", self.frames)?;
         }
         Ok(())
     }

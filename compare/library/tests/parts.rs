@@ -1,6 +1,6 @@
 //! Nothing differs, every refusal is seen, and each comparison can fail.
 
-use library::{LONG, PARTS, Part, run};
+use library::{FrameCount, LONG, PARTS, Part, run};
 use std::process::Command;
 
 /// The count of cases; a case of `contents` damages its image in thousands of ways, a case of `parts` has fourteen runs.
@@ -48,21 +48,21 @@ fn each_comparison_can_fail() {
     }
 }
 
-/// The part whose calls are made through C.
-fn contents() -> &'static Part {
-    PARTS.iter().find(|part| part.name == "contents").unwrap()
+/// The part of this name.
+fn part(name: &str) -> &'static Part {
+    PARTS.iter().find(|part| part.name == name).unwrap()
 }
 
 #[test]
 fn each_altered_answer_through_c_is_found() {
-    for (what, count) in run(contents(), 1, 3, None).compared {
-        assert_eq!(run(contents(), 1, 3, Some(what)).differences, count, "{what}");
+    for (what, count) in run(part("contents"), 1, 3, None).compared {
+        assert_eq!(run(part("contents"), 1, 3, Some(what)).differences, count, "{what}");
     }
 }
 
 #[test]
 fn each_call_names_the_first_block_and_later_ones() {
-    let seen = run(contents(), 4, 4, None).bad_entries;
+    let seen = run(part("contents"), 4, 4, None).bad_entries;
     for what in ["open", "block_body", "play", "play_all", "play_from", "same"] {
         for code in 20..=22 {
             for later in [false, true] {
@@ -74,12 +74,21 @@ fn each_call_names_the_first_block_and_later_ones() {
 
 #[test]
 fn runs_are_refused_for_every_reason() {
-    let part = PARTS.iter().find(|part| part.name == "parts").unwrap();
-    let refused = run(part, 400, 5, None).refused;
+    let refused = run(part("parts"), 400, 5, None).refused;
     for (code, count) in refused.into_iter().enumerate().skip(1) {
         let expected = [13, 15, 19, 20, 21, 22].contains(&code);
         assert_eq!(count >= 50, expected, "{code}: {count}");
         assert!(expected || count == 0, "{code}: {count}");
+    }
+}
+
+#[test]
+fn frames_with_an_older_bank_are_many_and_do_not_all_end_at_exponent_12() {
+    for (name, count) in [("frames", 6000), ("clips", 300)] {
+        let frames = run(part(name), count, 6, None).frames;
+        let FrameCount { all, older, older_at_12, .. } = frames;
+        assert!((all / 5..all / 2).contains(&older), "{name}: {frames}");
+        assert!((older / 10..older * 9 / 10).contains(&older_at_12), "{name}: {frames}");
     }
 }
 

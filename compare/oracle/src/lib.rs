@@ -5,6 +5,8 @@ mod caught;
 mod encode;
 pub mod list;
 mod measure;
+mod older_bank;
+pub mod pairs;
 mod pieces;
 mod quantise;
 pub mod random;

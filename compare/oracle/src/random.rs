@@ -1,5 +1,6 @@
 //! Random clips, cuts and coefficients, the same for the same seed.
 
+use crate::pairs::MEASURED;
 use crate::{Coefficients, History};
 
 /// A source of random numbers (splitmix64).
@@ -48,7 +49,7 @@ impl Random {
 
     /// Coefficients with c0 within ±4096 and c1 within ±2048, limits and zeros more often.
     pub fn coefficients(&mut self) -> Coefficients {
-        std::array::from_fn(|place| self.coefficient(if place % 2 == 0 { 4096 } else { 2048 }))
+        std::array::from_fn(|place| self.coefficient(MEASURED[place % 2]))
     }
 
     /// One coefficient within ±`limit`.
@@ -59,18 +60,6 @@ impl Random {
             2 => 0,
             _ => self.within(limit.into()) as i16,
         }
-    }
-
-    /// Coefficients with |c0| + |c1| within `limit` in each pair, the limit itself more often.
-    pub fn wide_coefficients(&mut self, limit: i32) -> Coefficients {
-        let mut coefficients = [0; 16];
-        for pair in coefficients.as_chunks_mut::<2>().0 {
-            let sum = if self.below(2) == 0 { limit } else { self.within(limit).abs() };
-            let first = self.within(sum.min(32_767));
-            let second = (sum - first.abs()).min(32_767);
-            *pair = [first as i16, if self.below(2) == 0 { second } else { -second } as i16];
-        }
-        coefficients
     }
 
     /// Samples that nearly follow one pair from a history, so that errors build up.

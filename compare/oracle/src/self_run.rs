@@ -1,5 +1,6 @@
 //! Random clips through every call; says what panicked and what did not agree.
 
+use crate::pairs::are_of_measured_size;
 use crate::random::Random;
 use crate::{Coefficients, Encoded, History, SAMPLES_PER_FRAME};
 use crate::{caught, coefficients_of_records, decode, encode, encode_frame, measure};
@@ -53,7 +54,11 @@ fn run_clip(report: &mut Report, random: &mut Random) {
     let samples = random.clip(len);
     report.samples += len as u64;
     let Some(measured) = run_measure(report, &random.cut(&samples)) else { return };
-    let coefficients = if random.below(2) == 0 { measured } else { random.coefficients() };
+    let coefficients = match random.below(3) {
+        0 => measured,
+        1 => random.older_bank(),
+        _ => random.coefficients(),
+    };
     let history = [random.sample(), random.sample()];
     let size = 8 + random.below_one(&[8, 100, 70_000]);
     let cut = random.cut(&samples);
@@ -64,14 +69,12 @@ fn run_clip(report: &mut Report, random: &mut Random) {
     run_decode(report, &encoded, history, len);
 }
 
-/// Measures a clip; its coefficients must be those of its records and within the limits.
+/// Measures a clip; its coefficients must be those of its records, within ±4,096 and ±2,048.
 fn run_measure(report: &mut Report, pieces: &[&[i16]]) -> Option<Coefficients> {
     let measured = report.call("measure", || measure(pieces))?;
     let again = report.call("finish", || coefficients_of_records(&measured.records))?;
     report.expect(again == measured.coefficients, "coefficients of the records");
-    let pairs = measured.coefficients.as_chunks::<2>().0;
-    let inside = |pair: &[i16; 2]| pair[0].unsigned_abs() <= 4096 && pair[1].unsigned_abs() <= 2048;
-    report.expect(pairs.iter().all(inside), "coefficients outside the limits");
+    report.expect(are_of_measured_size(&again), "coefficients outside ±4,096 and ±2,048");
     report.expect(!measured.records.is_empty() || again == [0; 16], "no record, not zeros");
     Some(measured.coefficients)
 }

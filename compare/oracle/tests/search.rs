@@ -119,11 +119,10 @@ fn frames_follow_the_rules() {
     assert!((24..=104).contains(&most), "{most}");
 }
 
-/// The same for larger coefficients, |c0| + |c1| up to 61,440.
 #[test]
-fn frames_follow_the_rules_with_larger_coefficients() {
-    let most = compare_many(22, |random| {
-        let coefficients = random.wide_coefficients(61_440);
+fn frames_follow_the_rules_with_older_banks() {
+    let most = compare_many(24, |random| {
+        let coefficients = random.older_bank();
         repeat_some(random, coefficients)
     });
     println!("most passes of a frame: {most}");

@@ -1,8 +1,9 @@
-//! The worked numbers of the scope paper, run against the Rust.
+//! The worked numbers of the scope paper, and two frames within document 02's limit, run against the Rust.
 //!
 //! The image sizes S and the image's head have no counterpart in the Rust (it knows no image), so
 //! they are left to the port. Of the last example the block is compared: body, length, context.
 
+use oracle::pairs::with_pair;
 use oracle::{
     FrameContext, address_to_sample, decode, encode, encode_frame, sample_to_address, unclamped,
 };
@@ -83,6 +84,35 @@ fn one_sample_frames_as_listed() {
     assert_eq!(one_sample(8), (vec![0x00, 0x70], 8, vec![7]));
     assert_eq!(one_sample(-9), (vec![0x00, 0x80], 8, vec![-8]));
     assert_eq!(one_sample(9), (vec![0x01, 0x40], 16, vec![8]));
+}
+
+/// A full frame that begins with one sample, from a history, and what it plays.
+fn one_and_zeros(history: [i16; 2], sample: i16, bank: &[i16; 16]) -> (Vec<u8>, u32, Vec<i16>) {
+    let mut samples = [0; 14];
+    samples[0] = sample;
+    let (bytes, passes, _) = encode_frame(history, &samples, bank);
+    let context = FrameContext { predictor_and_scale: bytes[0].into(), last_samples: history };
+    let (played, _) = decode(&bytes, 16, bank, context);
+    (bytes, passes, played)
+}
+
+/// A hand-made pair before seven zero pairs.
+#[test]
+fn a_frame_with_a_hand_made_pair() {
+    let bank = with_pair([0; 16], 0, [8_192, -4_096]);
+    let mut played = vec![0; 14];
+    played[0] = 8;
+    let bytes = vec![0x02, 0x28, 0x40, 0, 0, 0, 0, 0];
+    assert_eq!(one_and_zeros([0, 0], 9, &bank), (bytes, 15, played));
+}
+
+/// A pair at the limit, the lowest history and the lowest sample.
+#[test]
+fn a_frame_with_the_largest_prediction() {
+    let bank = std::array::from_fn(|place| [-32_768, -28_672][place % 2]);
+    let (bytes, passes, played) = one_and_zeros([-32_768; 2], -32_768, &bank);
+    assert_eq!((bytes, passes), (vec![0x0c, 0x87, 0x87, 0x87, 0x87, 0x87, 0x87, 0x87], 16));
+    assert_eq!(played[..2], [32_767, -32_768]);
 }
 
 #[test]

@@ -1,16 +1,20 @@
 -- What holds of every vector that the last round makes, and of every coefficient, holds of finish's answer.
 use mathlib.Core.Path.{_≡_, refl, sym, ap, _∙_, subst}
 use mathlib.Core.List.{List}
-use Prim.Native.Nat.{ℕ, zero, suc, _+_, _*_, _≤_, _<_}
-use native.Mathlib.Nat.{le-refl}
+use Prim.Native.Nat.{ℕ, zero, suc, _+_, _*_, _/_, _%_, _≤_, _<_}
+use native.Mathlib.Nat.{le-refl, lt-of-not-le}
 use native.Mathlib.Omega.{arith}
-use native.Mathlib.Decide.{ℕ-discrete}
+use native.Mathlib.Decide.{ℕ-discrete, decLe}
 use mathlib.Core.Bool.{Bool, true, false, cond}
 use lib.Arith.{lt-of-le-ne}
 use lib.IntN.{ℤ, pos}
-use lib.Dec.{eqb}
-use lib.ListN.{length, getD, set, replicate, length-set, length-replicate, getD-replicate}
+use lib.Dec.{eqb, lit<}
+use lib.Ieee.{Float}
+use lib.Ieee.Casts.{toSigned-in}
+use lib.ListN.{length, getD, set, replicate, length-set, length-replicate, getD-replicate, List·getD-eq-default}
 use lib.Seq.{getD-set-same, getD-set-other}
+use mir.Syntax.{w16}
+use mir.Val.{SFits}
 use Rattle.coefficients.specs.Store.{firstVector}
 use Rattle.coefficients.specs.Clusters.{blank, none, gather, withOne, made, renewed, filterRound, doubled, grown, vectors, beside}
 use Rattle.coefficients.specs.CoefficientLimits.{OfPair}
@@ -130,3 +134,32 @@ module _ (P Q : ℤ → Type 0) (p0 : P (pos 0)) (q0 : Q (pos 0)) where
       go : (b : Bool) → OfPair P Q (cond b (replicate 16 (pos 0)) (pairs (vectors rs) 8)) i
       go true = zeros-each i s
       go false = pairs-each (vectors rs) 8 (le-refl 8) h i s
+
+-- ---- their width
+
+zero-16 : SFits w16 (pos 0)
+zero-16 = record { sfits = lit< tt }
+
+coefficient-fits : (v : Float) → SFits w16 (coefficient v)
+unfolding coefficient
+coefficient-fits v = record { sfits = toSigned-in 15 _ }
+
+-- each is of 16 bits, whatever the records are
+pub finish-fits : (rs : List Record) (i : ℕ) → SFits w16 (getD (recordCoefficients rs) i (pos 0))
+finish-fits rs i = go (decLe 16 i)
+  where
+    pair : (j : ℕ) → j < 8 → OfPair (SFits w16) (SFits w16) (recordCoefficients rs) j
+    pair = finish-each (SFits w16) (SFits w16) zero-16 zero-16 rs (λ j s. (coefficient-fits _, coefficient-fits _))
+
+    here : (r : ℕ) → i % 2 ≡ r → r < 2 → i < 16 → SFits w16 (getD (recordCoefficients rs) i (pos 0))
+    here zero e l h =
+        let p : 2 * (i / 2) ≡ i = omega arith in
+        subst (λ (k : ℕ). SFits w16 (getD (recordCoefficients rs) k (pos 0))) p (pair (i / 2) (omega arith) .even)
+    here (suc zero) e l h =
+        let p : 2 * (i / 2) + 1 ≡ i = omega arith in
+        subst (λ (k : ℕ). SFits w16 (getD (recordCoefficients rs) k (pos 0))) p (pair (i / 2) (omega arith) .odd)
+    here (suc (suc r)) e l h = absurd (omega arith)
+
+    go : Dec (16 ≤ i) → SFits w16 (getD (recordCoefficients rs) i (pos 0))
+    go (yes h) = subst (SFits w16) (sym (List·getD-eq-default (recordCoefficients rs) (pos 0) (omega (arith, finish-length rs)))) zero-16
+    go (no h) = here (i % 2) refl (omega arith) (lt-of-not-le h)

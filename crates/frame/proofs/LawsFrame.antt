@@ -1,20 +1,17 @@
 -- Laws of the encoded frame.
-use mathlib.Core.Path.{_≡_, refl, sym, ap, _∙_, subst}
+use mathlib.Core.Path.{_≡_, refl, sym, subst}
 use mathlib.Core.Bool.{Bool, true, false, cond, _&&_}
-use mathlib.Core.List.{List, [], _∷_}
-use Prim.Native.Nat.{ℕ, zero, suc, _+_, _-_, _*_, _/_, _%_, _≤_, _<_}
+use mathlib.Core.List.{List}
+use Prim.Native.Nat.{ℕ, zero, suc, _+_, _-_, _≤_, _<_}
 use native.Mathlib.Numerals.{add-one}
 use native.Mathlib.Nat.{lt-of-not-le}
 use native.Mathlib.Decide.{decLe}
 use native.Mathlib.Omega.{arith}
-use lib.Dec.{leb}
-use borrow.Author.Tests.{leb-true}
-use lib.IntN.{ℤ, pos, negsuc, natAbs}
+use borrow.Author.Tests.{leb-true, le-leb}
+use lib.IntN.{ℤ, pos, natAbs}
 use lib.ListN.{getD}
-use mir.Syntax.{w16}
-use mir.Val.{SFits}
 use Rattle.whole.specs.declared.History.{History}
-use Rattle.frame.specs.Pass.{Bounded}
+use Rattle.frame.specs.Pass.{pairLimit, Bounded}
 use Rattle.frame.specs.Choice.{c0At, c1At, AllBounded}
 use Rattle.frame.specs.Frame.{preceded, historyAfter, pairOk, pairsOk, coefficientsOk}
 use Rattle.frame.proofs.LawsOrder.{none-below}
@@ -43,7 +40,7 @@ history-more h xs (suc (suc k)) l =
     let b : suc (suc k) - 2 ≡ k = omega arith in
     rw (a, b)
 
--- ---- the limits
+-- ---- the limit
 and-false : (a : Bool) → a && false ≡ false
 and-false true = refl
 and-false false = refl
@@ -64,13 +61,15 @@ both : (a b : Bool) → a && b ≡ true → (a ≡ true) × (b ≡ true)
 both true b e = (refl, e)
 both false b e = absurd (subst (λ (t : Bool). cond t ⊥ Unit) e tt)
 
-pub pair-bounded : (c0 c1 : ℤ) → pairOk c0 c1 ≡ true → Bounded c0 c1
+pub bounded-pair : (c0 c1 : ℤ) → Bounded c0 c1 → pairOk c0 c1 ≡ true
 unfolding pairOk
-pair-bounded c0 c1 e =
-    let t = both (leb (natAbs c0) 4096) (leb (natAbs c1) 2048) e in
-    record { sum = omega (arith, leb-true (natAbs c0) 4096 (t .0), leb-true (natAbs c1) 2048 (t .1)) }
+bounded-pair c0 c1 b = le-leb (natAbs c0 + natAbs c1) pairLimit (b .sum)
 
-pub pairs-at : (cs : List ℤ) (k i : ℕ) → i < k → pairsOk cs k ≡ true → pairOk (c0At cs i) (c1At cs i) ≡ true
+pair-bounded : (c0 c1 : ℤ) → pairOk c0 c1 ≡ true → Bounded c0 c1
+unfolding pairOk
+pair-bounded c0 c1 e = record { sum = leb-true (natAbs c0 + natAbs c1) pairLimit e }
+
+pairs-at : (cs : List ℤ) (k i : ℕ) → i < k → pairsOk cs k ≡ true → pairOk (c0At cs i) (c1At cs i) ≡ true
 unfolding pairsOk
 pairs-at cs zero i l e = absurd (none-below i l)
 pairs-at cs (suc k) i l e = go (decLe k i) (pairs-at cs k i)
@@ -82,29 +81,20 @@ pairs-at cs (suc k) i l e = go (decLe k i) (pairs-at cs k i)
     go (yes m) r = let x : k ≡ i = omega arith in subst (λ (j : ℕ). pairOk (c0At cs j) (c1At cs j) ≡ true) x (t .1)
     go (no m) r = r (lt-of-not-le m) (t .0)
 
--- document 01's two limits are inside the limit that the arithmetic has room for
+-- what code 7 accepts is what every law of the search is stated over
 pub limits-bounded : (cs : List ℤ) → coefficientsOk cs ≡ true → AllBounded cs
 unfolding coefficientsOk
 limits-bounded cs e = record { pair = λ i l. pair-bounded (c0At cs i) (c1At cs i) (pairs-at cs 8 i l e) }
 
--- coefficients within the limits are of 16 bits
-small : (z : ℤ) → natAbs z ≤ 4096 → SFits w16 z
-small (pos n) h = record { sfits = omega arith }
-small (negsuc n) h = record { sfits = omega arith }
+pairs-bounded : (cs : List ℤ) → AllBounded cs → (k : ℕ) → k ≤ 8 → pairsOk cs k ≡ true
+unfolding pairsOk
+pairs-bounded cs b zero h = refl
+pairs-bounded cs b (suc k) h = rw (pairs-bounded cs b k (omega arith), bounded-pair (c0At cs k) (c1At cs k) (b .pair k (omega arith)))
 
-pub limits-fit : (cs : List ℤ) → coefficientsOk cs ≡ true → (i : ℕ) → i < 16 → SFits w16 (getD cs i (pos 0))
-unfolding coefficientsOk pairOk
-limits-fit cs ok i h = go (i % 2) refl (omega arith)
-  where
-    t : (leb (natAbs (c0At cs (i / 2))) 4096 ≡ true) × (leb (natAbs (c1At cs (i / 2))) 2048 ≡ true)
-    t = both (leb (natAbs (c0At cs (i / 2))) 4096) (leb (natAbs (c1At cs (i / 2))) 2048) (pairs-at cs 8 (i / 2) (omega arith) ok)
+pub bounded-limits : (cs : List ℤ) → AllBounded cs → coefficientsOk cs ≡ true
+unfolding coefficientsOk
+bounded-limits cs b = pairs-bounded cs b 8 (omega arith)
 
-    go : (r : ℕ) → i % 2 ≡ r → r < 2 → SFits w16 (getD cs i (pos 0))
-    go zero e l =
-        let p : 2 * (i / 2) ≡ i = omega arith in
-        subst (λ (k : ℕ). SFits w16 (getD cs k (pos 0))) p (small (c0At cs (i / 2)) (leb-true (natAbs (c0At cs (i / 2))) 4096 (t .0)))
-    go (suc zero) e l =
-        let p : 2 * (i / 2) + 1 ≡ i = omega arith in
-        let q = leb-true (natAbs (c1At cs (i / 2))) 2048 (t .1) in
-        subst (λ (k : ℕ). SFits w16 (getD cs k (pos 0))) p (small (c1At cs (i / 2)) (omega arith))
-    go (suc (suc r)) e l = absurd (omega arith)
+-- document 01's two limits are inside this one
+pub older-limits : (cs : List ℤ) → ((i : ℕ) → i < 8 → (natAbs (c0At cs i) ≤ 4096) × (natAbs (c1At cs i) ≤ 2048)) → coefficientsOk cs ≡ true
+older-limits cs h = bounded-limits cs (record { pair = λ i l. record { sum = let t = h i l in omega (arith, t .0, t .1) } })

@@ -23,7 +23,7 @@ use Rattle.frame.specs.declared.pass.Step.{Step}
 use Rattle.frame.specs.declared.pass.Pass.{Pass}
 use Rattle.frame.specs.Estimate.{weigh}
 use Rattle.frame.specs.Quantise.{scale, quantise, clamp4}
-use Rattle.frame.specs.Pass.{Bounded, residual, reconstruct, codeSample, squaredDifference, Carried, next, upto, runPass}
+use Rattle.frame.specs.Pass.{pairLimit, Bounded, residual, reconstruct, codeSample, squaredDifference, Carried, next, upto, runPass}
 use Rattle.frame.specs.Frame.{preceded, historyAfter}
 use Rattle.frame.specs.inner.Nibbles.{InNibble, up, down}
 use Rattle.frame.specs.Fits.{Fit, FitHistory}
@@ -32,9 +32,9 @@ use Rattle.frame.proofs.LawsQuantise.{quantise-size, quantise-12, clamp
 
 -- ---- sizes
 
--- (x + y) * 32768, of what a pair's magnitudes may weigh
-both : (a b s t : ℕ) → a + b ≤ 61440 → s ≤ 32768 → t ≤ 32768 → a * s + b * t ≤ 2013265920
-both a b s t h p q =
+-- what the magnitudes of a pair within the limit may weigh: 61440 × 32768
+weighed-size : (a b s t : ℕ) → a + b ≤ pairLimit → s ≤ 32768 → t ≤ 32768 → a * s + b * t ≤ 2013265920
+weighed-size a b s t h p q =
     let x : a * s ≤ a * 32768 = mul-le-mul (le-refl a) p in
     let y : b * t ≤ b * 32768 = mul-le-mul (le-refl b) q in
     omega arith
@@ -42,7 +42,7 @@ both a b s t h p q =
 pub weigh-size : (c0 c1 s0 s1 : ℤ) → Bounded c0 c1 → SFits w16 s0 → SFits w16 s1 → natAbs (weigh c0 c1 s0 s1) ≤ 2013265920
 unfolding weigh
 weigh-size c0 c1 s0 s1 l f g =
-    omega (arith, abs-add (c0 *ℤ s0) (c1 *ℤ s1), abs-mul c0 s0, abs-mul c1 s1, both (natAbs c0) (natAbs c1) (natAbs s0) (natAbs s1) (l .sum) (abs-sfits f) (abs-sfits g))
+    omega (arith, abs-add (c0 *ℤ s0) (c1 *ℤ s1), abs-mul c0 s0, abs-mul c1 s1, weighed-size (natAbs c0) (natAbs c1) (natAbs s0) (natAbs s1) (l .sum) (abs-sfits f) (abs-sfits g))
 
 pub residual-size : (c0 c1 s0 s1 x : ℤ) → Bounded c0 c1 → SFits w16 s0 → SFits w16 s1 → SFits w16 x → natAbs (residual c0 c1 s0 s1 x) ≤ 2080374784
 unfolding residual

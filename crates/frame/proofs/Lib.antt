@@ -1,4 +1,4 @@
--- Laws that callers cite.
+-- Laws that callers cite, and the numbers that the search reaches (Reached).
 pub mod LawsOrder
 pub mod LawsQuantise
 pub mod LawsEstimate
@@ -15,4 +15,5 @@ pub mod LawsNearHalf
 pub mod LawsUnclamped
 pub mod LawsLane
 pub mod LawsLanes
+pub mod Reached
 pub mod Worked

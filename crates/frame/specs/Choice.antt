@@ -18,7 +18,7 @@ c0At cs i = getD cs (2 * i) (pos 0)
 abbrev pub c1At : List ℤ → ℕ → ℤ
 c1At cs i = getD cs (2 * i + 1) (pos 0)
 
--- every pair within the limit that the arithmetic has room for
+-- every pair within the limit
 pub record AllBounded (cs : List ℤ) : Type 0 where
   pub pair : (i : ℕ) → i < 8 → Bounded (c0At cs i) (c1At cs i)
 

@@ -13,6 +13,7 @@ use Rattle.frame.specs.declared.Refusal.the-variants.{CoefficientOutside
 use Rattle.frame.specs.declared.Verdict.{Verdict}
 use Rattle.frame.specs.declared.Verdict.the-variants.{Encoded, Refused}
 use Rattle.whole.specs.Outcome.{Outcome, accepted, refused}
+use Rattle.frame.specs.Pass.{pairLimit}
 use Rattle.frame.specs.Choice.{c0At, c1At, candidateAt, winner, passesUpTo}
 
 -- "Header = index × 16 + p"
@@ -52,16 +53,16 @@ preceded h xs = h .older ∷ (h .newest ∷ xs)
 unfoldable pub historyAfter : History → List ℤ → ℕ → History
 historyAfter h xs m = record { newest = getD (preceded h xs) (suc m) (pos 0); older = getD (preceded h xs) m (pos 0) }
 
--- code 7: "c0 outside ±4096 or c1 outside ±2048"
+-- code 7: "|c0| + |c1| ≤ 61,440 .. in place of the two separate limits"
 unfoldable pub pairOk : ℤ → ℤ → Bool
-pairOk c0 c1 = leb (natAbs c0) 4096 && leb (natAbs c1) 2048
+pairOk c0 c1 = leb (natAbs c0 + natAbs c1) pairLimit
 
--- the first k pairs are within the limits
+-- the first k pairs are within the limit
 unfoldable pub pairsOk : List ℤ → ℕ → Bool
 pairsOk cs zero = true
 pairsOk cs (suc k) = pairsOk cs k && pairOk (c0At cs k) (c1At cs k)
 
--- all eight pairs are within the limits
+-- "for every pair", whether or not a frame chooses it
 unfoldable pub coefficientsOk : List ℤ → Bool
 coefficientsOk cs = pairsOk cs 8
 

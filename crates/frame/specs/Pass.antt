@@ -10,9 +10,13 @@ use Rattle.frame.specs.declared.pass.Pass.{Pass}
 use Rattle.frame.specs.Estimate.{weigh}
 use Rattle.frame.specs.Quantise.{scale, quantise, clamp4}
 
--- the limit of a pair that the arithmetic has room for; document 01's own limits are inside
+-- "The frame encoder's limit becomes |c0| + |c1| ≤ 61,440"
+abbrev pub pairLimit : ℕ
+pairLimit = 61440
+
+-- a pair within it, which is all that the arithmetic asks of its coefficients
 pub record Bounded (c0 c1 : ℤ) : Type 0 where
-  pub sum : natAbs c0 + natAbs c1 ≤ 61440
+  pub sum : natAbs c0 + natAbs c1 ≤ pairLimit
 
 -- "D = 2048 × sample − (c0 × s0 + c1 × s1)"
 unfoldable pub residual : ℤ → ℤ → ℤ → ℤ → ℤ → ℤ

@@ -45,14 +45,14 @@ pub struct OneFrame {
     pub history: History,
 }
 
-// Whether c0 is within 4096 and c1 within 2048 of zero.
+// Whether the magnitudes of c0 and c1 add up to 61440 at most.
 fn pair_ok(c0: i16, c1: i16) -> bool
     ensures { λ r. ⌜ r ≡ pairOk c0 c1 ⌝ }
 {
-    magnitude(c0 as i64) <= 4096 && magnitude(c1 as i64) <= 2048
+    magnitude(c0 as i64) + magnitude(c1 as i64) <= 61440
 }
 
-// Whether every pair is within the limits of code 7.
+// Whether every pair is within the limit of code 7.
 pub fn coefficients_ok(coefficients: [i16; 16]) -> bool
     ensures { λ r. ⌜ r ≡ coefficientsOk coefficients ⌝ }
 {

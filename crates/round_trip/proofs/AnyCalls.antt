@@ -1,5 +1,5 @@
 -- From any list of measurings and askings to the image.
-use mathlib.Core.Path.{_≡_, refl, sym, ap, _∙_}
+use mathlib.Core.Path.{_≡_, refl, sym, ap, _∙_, subst}
 use mathlib.Core.List.{List, [], _∷_, _++_, foldl}
 use Prim.Native.Nat.{ℕ}
 use lib.Dec.{ltb}
@@ -16,11 +16,11 @@ use Rattle.clip.specs.Encoding.{start}
 use Rattle.clip.specs.Runs as encoded
 use Rattle.clip.specs.declared.starting.Start.{Start}
 use Rattle.clip.proofs.WholeRuns.{encoding-runs}
-use Rattle.round_trip.specs.Job.{lastCoefficients}
+use Rattle.round_trip.specs.Job.{Sampled, lastCoefficients}
 use Rattle.frame.specs.Fits.{FitHistory}
 use Rattle.round_trip.specs.ClosedClip.{AnyCalls}
 use Rattle.round_trip.proofs.ClipTheorem.{closed-image}
-use Rattle.round_trip.proofs.Pieces.{coefficients-length}
+use Rattle.round_trip.proofs.Pieces.{coefficients-length, coefficients-sampled}
 
 -- ---- an asking after some calls
 
@@ -67,5 +67,5 @@ any-calls-to-image store ms g l ks asked hf ok =
       measured-answers = measuring-runs store (ms ++ (asks ∷ []));
       coefficients = c;
       encoded-answers = encoding-runs g l sixteen ok ks;
-      closed = closed-image g l sixteen hf ok ks;
+      closed = closed-image g l sixteen (subst Sampled (sym c) (coefficients-sampled (plainAfter (length store) [] ms))) hf ok ks;
     }

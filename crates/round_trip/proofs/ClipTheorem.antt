@@ -35,8 +35,8 @@ use Rattle.image.specs.Sameness.{samplesIn}
 use Rattle.round_trip.specs.Job.{Sampled, joined, measuringCalls, encodingCalls, lastCoefficients, encodingAnswers}
 use Rattle.round_trip.specs.ClosedClip.{ClosedClip, seen, given, started, Done}
 use Rattle.round_trip.proofs.ImageOpens.{total-is, rate-is, block-is, gain-is, blocks-are, coefficients-are, image-opens}
-use Rattle.round_trip.proofs.ImagePlayed.{all-heard, block-plays, all-plays, part-plays, header-heard}
-use Rattle.round_trip.proofs.Pieces.{coefficients-length, measured-answers, last-answer, encoded-after, encoded-answers}
+use Rattle.round_trip.proofs.ImagePlayed.{all-heard, pairs-heard, block-plays, all-plays, part-plays, header-heard}
+use Rattle.round_trip.proofs.Pieces.{coefficients-length, coefficients-sampled, measured-answers, last-answer, encoded-after, encoded-answers}
 
 -- ---- of X's closed image
 
@@ -53,7 +53,7 @@ module _ (g : Start) (F : Fine g) (xs : List ℤ) (l : List ℕ) (A : Audible g 
   unfolding openImage headIn
   opened =
       ap (λ (o : Outcome Unit). effect o (ifAccepted o (headIn image) noHead)) (image-opens g F xs rest)
-      ∙ rw (total-is g F xs rest, rate-is g F xs rest, block-is g F xs rest, gain-is g F xs rest, coefficients-are g F xs rest, blocks-are g F xs rest)
+      ∙ rw (total-is g F xs rest, rate-is g F xs rest, block-is g F xs rest, gain-is g F xs rest, coefficients-are g F xs rest (A .coefficients), blocks-are g F xs rest)
 
   near : (i : ℕ) → i < length xs
       → (let p = getD image (framePlace (startShape g) (i / 14)) 0 % 16 in p < 12 → natAbs (getD (samplesIn image) i (pos 0) -ℤ getD xs i (pos 0)) ≤ (3 * 2 ^ p + 1) / 2)
@@ -73,15 +73,16 @@ module _ (g : Start) (F : Fine g) (xs : List ℤ) (l : List ℕ) (A : Audible g 
         count = rw e (ap length (all-heard g F xs rest A) ∙ sound-count g F xs ∙ sym all);
         plays-all = rw (e, all) (all-plays g F xs rest A);
         plays-from = rw (e, all) (part-plays g F xs rest A);
+        pairs = rw e (pairs-heard g F xs rest A);
         near = rw e near;
       }
 
--- The theorem on closed images. From an accepted start, with any coefficients that starting accepts, take any list of feedings and
+-- The theorem on closed images. From an accepted start, with any coefficients of 16 bits that starting accepts, take any list of feedings and
 -- closings on its buffer, refused ones included, after which the clip is closed. Then the image is that of the samples accepted; it opens; its
 -- blocks play from their entries, exactly as many samples as were accepted, each within its distance of the original.
-pub closed-image : (g : Start) (l : List ℕ) → length (g .coefficients) ≡ 16 → FitHistory (g .history) → start g l .outcome ≡ accepted tt → (ks : List Call)
+pub closed-image : (g : Start) (l : List ℕ) → length (g .coefficients) ≡ 16 → Sampled (g .coefficients) → FitHistory (g .history) → start g l .outcome ≡ accepted tt → (ks : List Call)
     → (let m = plainAfter (cut g) (plain [] false) ks in m .closed ≡ true → Sampled (m .samples) → ClosedClip (cut g) (m .samples) l (after (start g l .left) ks))
-closed-image g l sixteen hf ok ks closed fits =
+closed-image g l sixteen cf hf ok ks closed fits =
     let F = start-fine g l sixteen ok in
     let m = plainAfter (cut g) (plain [] false) ks in
     let L = legal-after (cut g) [] false (open-legal (cut g) [] (omega arith)) ks in
@@ -89,7 +90,7 @@ closed-image g l sixteen hf ok ks closed fits =
     let all = L .all closed in
     let rest = drop (imageSize (startShape (cut g))) l in
     let A : Audible (cut g) (m .samples) =
-    record { bounded = limits-bounded (g .coefficients) (F .within); history = hf; samples = fits } in
+    record { bounded = limits-bounded (g .coefficients) (F .within); coefficients = cf; history = hf; samples = fits } in
     let e : after (start g l .left) ks ≡ leftAfter (cut g) rest (m .samples) true = encoding-states g l sixteen ok ks ∙ ap (leftAfter (cut g) rest (m .samples)) closed in
     subst (λ (s : Left). ClosedClip (cut g) (m .samples) l s) (sym e) (outcome (cut g) F (m .samples) l A (omega arith))
 
@@ -116,6 +117,7 @@ clip-theorem ps qs same fits store room rate size gain h hf l ok =
     ∙ ap (λ (ys : List ℤ). replicate (length ps) (accepted []) ++ (accepted (coefficientsOf ys) ∷ [])) same in
     let c : cs ≡ coefficientsOf xs = ap lastCoefficients all ∙ last-answer (length ps) (coefficientsOf xs) in
     let sixteen : length cs ≡ 16 = ap length c ∙ coefficients-length xs in
+    let cf : Sampled cs = subst Sampled (sym c) (coefficients-sampled xs) in
     let a : plainAfter (cut g) (plain [] false) (encodingCalls qs) ≡ plain xs true = encoded-after (cut g) qs [] (omega arith) in
     let z : plainAfter (cut g) (plain [] false) (encodingCalls qs) .samples ≡ xs = ap (λ (m : Plain). m .samples) a in
     record {
@@ -124,5 +126,5 @@ clip-theorem ps qs same fits store room rate size gain h hf l ok =
       encoded-answers = rw add-one (ap encodingAnswers (encoding-runs g l sixteen ok (encodingCalls qs)) ∙ encoded-answers (cut g) qs [] (omega arith));
       closed =
           subst (λ (ys : List ℤ). ClosedClip (cut g) ys l (after (start g l .left) (encodingCalls qs))) z
-          (closed-image g l sixteen hf ok (encodingCalls qs) (ap (λ (m : Plain). m .closed) a) (subst Sampled (sym z) fits));
+          (closed-image g l sixteen cf hf ok (encodingCalls qs) (ap (λ (m : Plain). m .closed) a) (subst Sampled (sym z) fits));
     }

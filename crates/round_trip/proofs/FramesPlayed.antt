@@ -28,9 +28,10 @@ use Rattle.round_trip.specs.Job.{Sampled}
 use Rattle.round_trip.proofs.EqualParts.{row, row-at}
 use Rattle.round_trip.proofs.FramePlayed.{frame-replayed}
 
--- what a start and X's samples are: coefficients within bounds, 16-bit history and samples
+-- what a start and X's samples are: coefficients within the limit; coefficients, history and samples of 16 bits
 pub record Audible (g : Start) (xs : List ℤ) : Type 0 where
   pub bounded : AllBounded (g .coefficients)
+  pub coefficients : Sampled (g .coefficients)
   pub history : FitHistory (g .history)
   pub samples : Sampled xs
 

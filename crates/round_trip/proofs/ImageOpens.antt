@@ -10,8 +10,6 @@ use lib.Seq.{take-suc, take-all}
 use mir.Syntax.{w16}
 use mir.Val.{ofZ, toZ}
 use mir.ValLaws.{toZ-ofZ}
-use Rattle.frame.specs.Frame.{pairsOk}
-use Rattle.frame.proofs.LawsFrame.{limits-fit}
 use Rattle.layout.specs.Fields.{at16, at32, mark}
 use Rattle.clip.specs.Image.{startShape, headBytes, coefficientBytes}
 use Rattle.layout.specs.Sizes.{bodiesPlace, blockCount, imageSize, blockOffset, bodyBytes, lastSamples}
@@ -22,6 +20,7 @@ use Rattle.layout.proofs.SizeLaws.{block-first, block-place}
 use Rattle.clip.proofs.ImageByFrames.{Fine, listed, filled, built, built-length}
 use Rattle.round_trip.proofs.FieldsReadBack as read
 use Rattle.round_trip.proofs.BlocksOfX.{block-parts}
+use Rattle.round_trip.specs.Job.{Sampled}
 use Rattle.round_trip.proofs.FramesPlayed.{Audible, contextBefore, history-sampled}
 use Rattle.whole.specs.Outcome.{accepted}
 use Rattle.image.specs.Reading.{shapeIn, totalIn, rateIn, blockIn, gainIn, zeroIn, blocksIn, signedAt, coefficientsUpTo, coefficientsIn, offsetIn, lengthIn, headerIn, newestIn, olderIn, entryZeroIn}
@@ -70,19 +69,20 @@ module _ (g : Start) (F : Fine g) (xs : List ℤ) (rest : List ℕ) where
   unfolding markOk headBytes coefficientBytes blockCount frameCount
   marked = ap markOk parts
 
-  coefficients-upto : (k : ℕ) → k ≤ 16 → coefficientsUpTo image k ≡ take k (g .coefficients)
+  -- coefficients of 16 bits are read back
+  coefficients-upto : Sampled (g .coefficients) → (k : ℕ) → k ≤ 16 → coefficientsUpTo image k ≡ take k (g .coefficients)
   unfolding coefficientsUpTo signedAt
-  coefficients-upto zero h = refl
-  coefficients-upto (suc k) h =
+  coefficients-upto fit zero h = refl
+  coefficients-upto fit (suc k) h =
       let cs = g .coefficients in
       let x = getD cs k (pos 0) in
       let e : at16 image (16 + 2 * k) ≡ ofZ w16 x = ap (λ (l : List ℕ). at16 l (16 + 2 * k)) parts ∙ read.head-coefficient g tail (F .sixteen) k (omega arith) in
-      ap₂ (λ (l : List ℤ) (z : ℤ). l ++ (z ∷ [])) (coefficients-upto k (omega arith)) (ap (toZ w16) e ∙ toZ-ofZ w16 x (limits-fit cs (F .within) k (omega arith)))
+      ap₂ (λ (l : List ℤ) (z : ℤ). l ++ (z ∷ [])) (coefficients-upto fit k (omega arith)) (ap (toZ w16) e ∙ toZ-ofZ w16 x (fit k))
       ∙ sym (take-suc cs k (pos 0) (omega (arith, F .sixteen)))
 
-  pub coefficients-are : coefficientsIn image ≡ g .coefficients
+  pub coefficients-are : Sampled (g .coefficients) → coefficientsIn image ≡ g .coefficients
   unfolding coefficientsIn
-  coefficients-are = coefficients-upto 16 (omega arith) ∙ take-all 16 (g .coefficients) (omega (arith, F .sixteen))
+  coefficients-are fit = coefficients-upto fit 16 (omega arith) ∙ take-all 16 (g .coefficients) (omega (arith, F .sixteen))
 
   -- ---- head and entries
 

@@ -1,19 +1,15 @@
 -- What is heard of X's closed image: each block, all of them, and their nearness to X.
 use mathlib.Core.Path.{_≡_, refl, sym, ap, ap₂, _∙_}
-use mathlib.Core.Bool.{Bool, true, false, _&&_}
+use mathlib.Core.Bool.{false}
 use mathlib.Core.List.{List, _++_}
 use Prim.Native.Nat.{ℕ, zero, suc, _+_, _-_, _*_, _/_, _≤_, _<_, min}
 use native.Mathlib.Omega.{arith}
-use borrow.Author.Tests.{eqb-true, ne-eqb}
-use lib.Dec.{eqb}
-use lib.IntN.{ℤ, pos, negsuc}
+use lib.IntN.{ℤ}
 use lib.ListN.{length, getD, take, drop}
-use Rattle.frame.specs.Choice.{c0At, c1At, AllBounded}
-use Rattle.frame.specs.Pass.{Bounded}
 use Rattle.block.specs.Address.{addressToSample}
 use Rattle.block.specs.Frame.{Playing}
 use Rattle.block.specs.Play as Block
-use Rattle.block.specs.Refusals.{equal, lowestAmong, lowestPair}
+use Rattle.block.specs.Refusals.{lowestPair}
 use Rattle.layout.specs.Sizes.{bodiesPlace, blockCount, blockLength}
 use Rattle.whole.specs.Frames.{frameCount}
 use Rattle.layout.specs.Sizes.{framePlace}
@@ -37,27 +33,8 @@ use Rattle.image.proofs.LawsAll.{all-answered, all-output}
 use Rattle.image.proofs.LawsPlayed.{play-leaves, play-output, block-count}
 use Rattle.image.proofs.PartOfAll.{from-accepts, part-answered, part-output}
 use Rattle.image.proofs.Parts.{part-at}
+use Rattle.round_trip.proofs.LowestPair.{bounded-lowest}
 use Rattle.round_trip.proofs.ImageOpens.{image, total-is, block-is, blocks-are, coefficients-are, entry-made, context-is, image-made}
-
--- ---- coefficients with room in the arithmetic have no pair of -32768
-
-not-both : (c0 c1 : ℤ) → Bounded c0 c1 → equal c0 (negsuc 32767) && equal c1 (negsuc 32767) ≡ false
-not-both (pos m) c1 b = refl
-not-both (negsuc m) (pos n) b = go (eqb m 32767)
-  where
-    go : (t : Bool) → t && false ≡ false
-    go true = refl
-    go false = refl
-not-both (negsuc m) (negsuc n) b = go (eqb m 32767) refl
-  where
-    go : (t : Bool) → eqb m 32767 ≡ t → t && eqb n 32767 ≡ false
-    go true e = let p = eqb-true m 32767 e in ne-eqb n 32767 (λ q. omega (arith, b .sum))
-    go false e = refl
-
-none-lowest : (cs : List ℤ) → AllBounded cs → (k : ℕ) → k ≤ 8 → lowestAmong cs k ≡ false
-unfolding lowestAmong
-none-lowest cs b zero h = refl
-none-lowest cs b (suc k) h = rw (none-lowest cs b k (omega arith), not-both (c0At cs k) (c1At cs k) (b .pair k (omega arith)))
 
 -- ---- X's image
 
@@ -73,7 +50,7 @@ module _ (g : Start) (F : Fine g) (xs : List ℤ) (rest : List ℕ) (A : Audible
       let at : (i : ℕ) → i < (blockLength (startShape g) j + 1) / 2 → getD bytes i 0
       ≡ getD l (offsetIn l j + i) 0 = λ i h. part-at l (offsetIn l j) ((lengthIn l j + 1) / 2) i (omega (arith, e .nibbles)) in
       let p = block-played g F xs rest j few bytes (λ i h. at i h ∙ ap (λ (o : ℕ). getD l (o + i) 0) (e .offset)) A in
-      ap₂ (λ (cs : List ℤ) (n : ℕ). Block.play bytes cs n (contextIn l j) .samples) (coefficients-are g F xs rest) (e .nibbles)
+      ap₂ (λ (cs : List ℤ) (n : ℕ). Block.play bytes cs n (contextIn l j) .samples) (coefficients-are g F xs rest (A .coefficients)) (e .nibbles)
       ∙ ap (λ (c : _). Block.play bytes (g .coefficients) (blockLength (startShape g) j) c .samples) (context-is g F xs rest j few A)
       ∙ ap (λ (q : Playing). q .samples) p
 
@@ -89,9 +66,9 @@ module _ (g : Start) (F : Fine g) (xs : List ℤ) (rest : List ℕ) (A : Audible
   unfolding samplesIn
   all-heard = ap (samplesFrom l 0) (blocks-are g F xs rest) ∙ blocks-heard (blockCount (startShape g)) (omega arith) ∙ all-blocks g F xs
 
-  pairs-heard : lowestPair (coefficientsIn l) ≡ false
-  unfolding lowestPair
-  pairs-heard = rw (coefficients-are g F xs rest) (none-lowest (g .coefficients) (A .bounded) 8 (omega arith))
+  -- code 13 is not given
+  pub pairs-heard : lowestPair (coefficientsIn l) ≡ false
+  pairs-heard = rw (coefficients-are g F xs rest (A .coefficients)) (bounded-lowest (g .coefficients) (A .bounded))
 
   -- a block plays to an output with enough room
   pub block-plays : (k : ℕ) (out : List ℤ) → k < blockCount (startShape g)

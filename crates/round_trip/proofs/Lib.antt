@@ -4,6 +4,7 @@ pub mod FieldsReadBack
 pub mod FramePlayed
 pub mod FramesPlayed
 pub mod BlocksOfX
+pub mod LowestPair
 pub mod ImageOpens
 pub mod ImagePlayed
 pub mod Pieces

@@ -12,15 +12,19 @@ use Rattle.whole.specs.Outcome.{Outcome, accepted}
 use Rattle.whole.specs.Frames.{most, frameCount}
 use Rattle.coefficients.specs.Runs as measured
 use Rattle.coefficients.specs.Runs.{coefficientsOf, measures, asks}
-use Rattle.coefficients.proofs.EachCoefficient.{finish-length}
+use Rattle.coefficients.proofs.EachCoefficient.{finish-length, finish-fits}
 use Rattle.clip.specs.Runs as encoded
 use Rattle.clip.specs.declared.starting.Start.{Start}
 use Rattle.clip.specs.Runs.{plain, feeds, closes, plainAfter}
-use Rattle.round_trip.specs.Job.{joined, measuringCalls, encodingCalls, lastCoefficients, encodingAnswers}
+use Rattle.round_trip.specs.Job.{Sampled, joined, measuringCalls, encodingCalls, lastCoefficients, encodingAnswers}
 
 pub coefficients-length : (xs : List ℤ) → length (coefficientsOf xs) ≡ 16
 unfolding coefficientsOf
 coefficients-length xs = finish-length _
+
+pub coefficients-sampled : (xs : List ℤ) → Sampled (coefficientsOf xs)
+unfolding coefficientsOf
+coefficients-sampled xs = finish-fits _
 
 -- ---- measured
 

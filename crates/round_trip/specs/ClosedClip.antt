@@ -8,6 +8,7 @@ use lib.IntN.{ℤ, pos, natAbs, _-ℤ_}
 use lib.ListN.{length, getD, take, drop, replicate}
 use Rattle.whole.specs.declared.History.{History}
 use Rattle.block.specs.Address.{addressToSample}
+use Rattle.block.specs.Refusals.{lowestPair}
 use Rattle.whole.specs.Outcome.{Outcome, accepted, Effect, effect}
 use Rattle.coefficients.specs.Measure.{measuring, fresh}
 use Rattle.coefficients.specs.Runs as measured
@@ -20,6 +21,7 @@ use Rattle.clip.specs.Runs as encoded
 use Rattle.clip.specs.declared.starting.Start.{Start}
 use Rattle.clip.specs.Runs.{stateAfter, imageAfter, plain, after}
 use Rattle.image.specs.Opening.{openImage}
+use Rattle.image.specs.Reading.{coefficientsIn}
 use Rattle.image.specs.Part.{samplesPerBlock, touched, playFrom}
 use Rattle.image.specs.Playing.{play}
 use Rattle.image.specs.Sameness.{blockSamples, samplesIn}
@@ -35,6 +37,8 @@ pub record ClosedClip (g : Start) (xs : List ℤ) (l : List ℕ) (closed : Left)
   pub opens : openImage (closed .bytes)
       ≡ effect (accepted tt)
       (record { total = g .total; rate = g .rate; block = g .block; gain = g .gain; coefficients = g .coefficients; blocks = blockCount (startShape g) })
+  -- no call is refused by 13 for it: none of its pairs is −32,768 twice
+  pub pairs : lowestPair (coefficientsIn (closed .bytes)) ≡ false
   -- "blocks 0 to K−1 are played in turn from their entries with enough room": block k's samples, as many as its length says, and what stood beyond them
   pub plays : (k : ℕ) (out : List ℤ) → k < blockCount (startShape g)
       → (let n = addressToSample (blockLength (startShape g) k) in

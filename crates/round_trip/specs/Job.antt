@@ -11,7 +11,7 @@ use Rattle.coefficients.specs.Runs.{measures, asks}
 use Rattle.clip.specs.Runs as encoded
 use Rattle.clip.specs.Runs.{feeds, closes}
 
--- "A sample is a signed 16-bit number"
+-- "A sample is a signed 16-bit number"; a coefficient is one, too
 abbrev pub Sampled : List ℤ → Type 0
 Sampled xs = (i : ℕ) → SFits w16 (getD xs i (pos 0))
 

@@ -34,7 +34,7 @@ int main(void) {
     SIZE(comparison), FIELD(comparison, code), FIELD(comparison, entry), FIELD(comparison, same);
     SIZE(joining), FIELD(joining, code), FIELD(joining, nibbles);
     NUMBER(VERSION_MAJOR), NUMBER(VERSION_MINOR), NUMBER(VERSION_PATCH);
-    NUMBER(MAX_SAMPLES), NUMBER(MIN_BLOCK_SIZE), NUMBER(MAX_BLOCK_SIZE);
+    NUMBER(MAX_PAIR_SUM), NUMBER(MAX_SAMPLES), NUMBER(MIN_BLOCK_SIZE), NUMBER(MAX_BLOCK_SIZE);
     codes();
     return 0;
 }

@@ -1,7 +1,7 @@
 //! Layouts, version, limits and codes are those that the C compiler makes of include/doilycairn.h.
 
 use super::*;
-use crate::{BLOCK_SIZES, MAX_SAMPLES, Refusal};
+use crate::{BLOCK_SIZES, MAX_PAIR_SUM, MAX_SAMPLES, Refusal};
 use std::env;
 use std::fmt::Write;
 use std::mem::{offset_of, size_of};
@@ -56,6 +56,7 @@ fn rust_numbers() -> String {
     writeln!(text, "VERSION_MAJOR {}", env!("CARGO_PKG_VERSION_MAJOR")).unwrap();
     writeln!(text, "VERSION_MINOR {}", env!("CARGO_PKG_VERSION_MINOR")).unwrap();
     writeln!(text, "VERSION_PATCH {}", env!("CARGO_PKG_VERSION_PATCH")).unwrap();
+    writeln!(text, "MAX_PAIR_SUM {MAX_PAIR_SUM}").unwrap();
     writeln!(text, "MAX_SAMPLES {MAX_SAMPLES}").unwrap();
     writeln!(text, "MIN_BLOCK_SIZE {}", BLOCK_SIZES.start()).unwrap();
     writeln!(text, "MAX_BLOCK_SIZE {}", BLOCK_SIZES.end()).unwrap();

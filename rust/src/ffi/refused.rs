@@ -34,7 +34,7 @@ fn measuring_gives_back_the_state() {
 #[test]
 fn a_frame_is_zeros_and_the_history_given() {
     let mut coefficients = COEFFICIENTS;
-    coefficients.0[15] = 2049;
+    coefficients.0[14..].copy_from_slice(&[28_674, -32_767]);
     let frame = encode_frame(HISTORY, &[7; 14], &coefficients);
     assert_eq!((frame.code, frame.bytes, frame.passes, frame.history), (7, [0; 8], 0, HISTORY));
 }

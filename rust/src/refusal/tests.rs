@@ -57,6 +57,10 @@ fn the_number_of_no_refusal_is_an_unknown_code() {
 fn words_name_the_number_and_the_block() {
     for (refusal, words) in [
         (Refusal::RateZero, "the sample rate is 0 (refusal 5)"),
+        (
+            Refusal::CoefficientOutside,
+            "a pair of coefficients has |c0| + |c1| above 61,440 (refusal 7)",
+        ),
         (Refusal::NoSuchSample, "the first sample is not in the clip (refusal 19)"),
         (
             Refusal::BadOffset { block: 0 },

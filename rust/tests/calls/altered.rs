@@ -1,7 +1,9 @@
 //! What the calls do with states and buffers that do not belong together, and with altered states that pass the test of code 1.
 
 use crate::clips::{Random, encode_from, noise, start_of, tone};
-use doilycairn::{Calculator, Encoder, EncoderState, Image, Refusal, Start, image_size};
+use doilycairn::{
+    Calculator, Coefficients, Encoder, EncoderState, Image, Refusal, Start, image_size,
+};
 
 /// A clip of 100 samples, its start, and the state and buffer after 50.
 fn half() -> (Vec<i16>, Start, EncoderState, Vec<u8>) {
@@ -53,29 +55,83 @@ fn with_another_clips_buffer_that_clips_head_stays() {
     assert_eq!(other[image.len()..], before[image.len()..]);
 }
 
+/// The coefficients of these records.
+fn worked_out(mut store: Vec<f64>) -> Coefficients {
+    let records = store.len() as u32 / 2;
+    Calculator { samples: 14 * records, records, history: [0; 28] }.finish(&mut store).unwrap()
+}
+
+/// Ten records of any numbers, NaNs among them.
+fn any_store(random: &mut Random) -> Vec<f64> {
+    let any = |_| {
+        let bits = u64::from(random.next()) << 33 | u64::from(random.next()) << 11;
+        match random.next() % 40 {
+            0 => f64::NAN,
+            1..20 => f64::from_bits(bits),
+            _ => f64::from(random.next() as i32 % 2001 - 1000) / 1000.0,
+        }
+    };
+    (0..20).map(any).collect()
+}
+
+/// The coefficients of such records.
+fn of_any_store(random: &mut Random) -> Coefficients {
+    worked_out(any_store(random))
+}
+
 #[test]
-fn any_store_gives_coefficients_within_their_limits_or_the_lowest() {
+fn any_store_gives_coefficients_of_measured_size_or_the_lowest() {
     let mut random = Random(5);
     let (mut lowest, mut within) = (0, 0);
-    for _ in 0..500 {
-        let any = |random: &mut Random| {
-            let bits = u64::from(random.next()) << 33 | u64::from(random.next()) << 11;
-            match random.next() % 40 {
-                0 => f64::NAN,
-                1..20 => f64::from_bits(bits),
-                _ => f64::from(random.next() as i32 % 2001 - 1000) / 1000.0,
-            }
-        };
-        let mut store: Vec<f64> = (0..20).map(|_| any(&mut random)).collect();
-        let state = Calculator { samples: 140, records: 10, history: [0; 28] };
-        for (c0, c1) in state.finish(&mut store).unwrap().pairs() {
-            for (c, most) in [(c0, 4096), (c1, 2048)] {
-                assert!(c == i16::MIN || c.unsigned_abs() <= most);
-                if c == i16::MIN { lowest += 1 } else { within += 1 }
-            }
+    for (c0, c1) in (0..500).flat_map(|_| of_any_store(&mut random).pairs()) {
+        for (c, most) in [(c0, 4096), (c1, 2048)] {
+            assert!(c == i16::MIN || c.unsigned_abs() <= most);
+            if c == i16::MIN { lowest += 1 } else { within += 1 }
         }
     }
     assert!(lowest > 0 && within > 0);
+}
+
+/// Two records without a NaN whose sums are infinite, with different signs.
+const TWICE: [f64; 4] = [1e160, 0.0, 2e160, -3.0];
+
+/// Starts a clip with coefficients that were worked out: refused by 7 exactly where a pair is the lowest twice.
+fn starts(coefficients: Coefficients) -> bool {
+    let twice = coefficients.pairs().contains(&(i16::MIN, i16::MIN));
+    let started = Encoder::start(&Start { coefficients, ..start_of(&tone(20), 8) });
+    assert_eq!(started.err(), twice.then_some(Refusal::CoefficientOutside));
+    !twice
+}
+
+#[test]
+fn starting_refuses_coefficients_of_any_store_only_where_a_pair_is_the_lowest_twice() {
+    let mut random = Random(6);
+    let lowest = |coefficients: &Coefficients| coefficients.0.contains(&i16::MIN);
+    let any = (0..2000).map(|_| of_any_store(&mut random)).filter(lowest);
+    assert!(any.filter(|coefficients| starts(*coefficients)).count() > 100);
+    for more in [&[][..], &[0.5, 0.1]] {
+        assert!(!starts(worked_out([&TWICE, more].concat())));
+    }
+}
+
+#[test]
+fn a_nan_or_what_makes_one_gives_the_lowest_coefficient() {
+    let (nan, infinity) = (f64::NAN, f64::INFINITY);
+    for record in [[nan, 0.5], [0.5, nan], [infinity, 0.5], [0.5, -infinity], [1e200, 1e200]] {
+        let coefficients = worked_out(record.to_vec());
+        assert_eq!(coefficients.pairs()[0], (i16::MIN, 0));
+        assert!(starts(coefficients));
+    }
+}
+
+#[test]
+fn a_nan_among_any_records_gives_a_lowest_coefficient() {
+    let mut random = Random(7);
+    for turn in 0..2000 {
+        let mut store = any_store(&mut random);
+        store[turn % 20] = f64::NAN;
+        assert!(worked_out(store.clone()).0.contains(&i16::MIN), "{store:?}");
+    }
 }
 
 #[test]

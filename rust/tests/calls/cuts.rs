@@ -1,7 +1,7 @@
 //! It does not matter how a clip is cut into pieces, nor whether calls are refused in between.
 
 use crate::clips::{clips, encode_from, start_of};
-use doilycairn::{Calculator, Encoder, Image, Measure, Refusal, store_size};
+use doilycairn::{Calculator, Encoder, Image, Measure, Refusal, Start, store_size};
 
 /// A clip in pieces: of the lengths given in turn.
 fn pieces<'a>(clip: &'a [i16], lengths: &[usize]) -> Vec<&'a [i16]> {
@@ -44,31 +44,35 @@ fn measuring() {
     }
 }
 
+/// Encodes a clip in each of the cuts, with refused calls in between: image and state are the same.
+pub fn same_in_any_cuts(start: &Start, clip: &[i16]) {
+    let image = encode_from(start, clip);
+    let too_long = vec![1; clip.len() + 1];
+    let mut states = vec![];
+    for cut in CUTS {
+        let mut encoder = Encoder::start(start).unwrap();
+        for piece in pieces(clip, cut) {
+            assert_eq!(Image::open(encoder.image()).unwrap_err(), Refusal::BadHead);
+            if !piece.is_empty() {
+                assert_eq!(encoder.close(), Err(Refusal::Unfinished));
+            }
+            encoder.feed(piece).unwrap();
+            assert_eq!(encoder.feed(&too_long), Err(Refusal::PieceTooLong));
+        }
+        encoder.close().unwrap();
+        assert_eq!(encoder.feed(&[]), Err(Refusal::AlreadyClosed));
+        assert_eq!(encoder.close(), Err(Refusal::AlreadyClosed));
+        assert_eq!(encoder.image(), image);
+        states.push(encoder.state());
+    }
+    assert!(states.iter().all(|state| *state == states[0]));
+}
+
 #[test]
 fn encoding() {
     for clip in clips() {
         for block_size in [8, 24, 4096] {
-            let start = start_of(&clip, block_size);
-            let image = encode_from(&start, &clip);
-            let mut states = vec![];
-            for cut in CUTS {
-                let mut encoder = Encoder::start(&start).unwrap();
-                for piece in pieces(&clip, cut) {
-                    assert_eq!(Image::open(encoder.image()).unwrap_err(), Refusal::BadHead);
-                    if !piece.is_empty() {
-                        assert_eq!(encoder.close(), Err(Refusal::Unfinished));
-                    }
-                    encoder.feed(piece).unwrap();
-                    let too_long = vec![1; clip.len() + 1];
-                    assert_eq!(encoder.feed(&too_long), Err(Refusal::PieceTooLong));
-                }
-                encoder.close().unwrap();
-                assert_eq!(encoder.feed(&[]), Err(Refusal::AlreadyClosed));
-                assert_eq!(encoder.close(), Err(Refusal::AlreadyClosed));
-                assert_eq!(encoder.image(), image);
-                states.push(encoder.state());
-            }
-            assert!(states.iter().all(|state| *state == states[0]));
+            same_in_any_cuts(&start_of(&clip, block_size), &clip);
         }
     }
 }

@@ -1,6 +1,7 @@
 //! The calls of the crate, against the archive that it is linked with.
 
 mod altered;
+mod banks;
 mod blocks;
 mod clips;
 mod cuts;
@@ -8,6 +9,7 @@ mod damage;
 mod editor;
 mod entries;
 mod lists;
+mod older_banks;
 mod parts;
 mod reading;
 mod refusals;

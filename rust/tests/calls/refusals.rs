@@ -1,5 +1,6 @@
 //! Every refusal by its number, in the documents' sequence, with nothing written.
 
+use crate::banks::one_pair;
 use crate::clips::{encode, start_of, tone};
 use doilycairn::*;
 
@@ -33,16 +34,18 @@ fn closed() -> EncoderState {
     state.close(&mut image).unwrap()
 }
 
-fn outside(place: usize, value: i16) -> Coefficients {
-    let mut coefficients = [0; 16];
-    coefficients[place] = value;
-    Coefficients(coefficients)
-}
+/// Pairs with |c0| + |c1| = 61,441 and above, each coefficient at its ends.
+const OUTSIDE: [(i16, i16); 6] = [
+    (32_767, 28_674),
+    (28_674, -32_767),
+    (-32_768, 28_673),
+    (-28_673, -32_768),
+    (32_767, -32_768),
+    (-32_768, -32_768),
+];
 
 fn lowest(pair: usize) -> Coefficients {
-    let mut coefficients = [0; 16];
-    coefficients[2 * pair..2 * pair + 2].fill(i16::MIN);
-    Coefficients(coefficients)
+    one_pair(pair, (i16::MIN, i16::MIN))
 }
 
 #[test]
@@ -95,10 +98,9 @@ fn invalid_states() -> Vec<EncoderState> {
         EncoderState { passes: 1, fed: 13, ..state },
         EncoderState { passes: 2 * 104 + 1, ..closed() },
     ];
-    for place in 0..16 {
-        let limit = if place % 2 == 0 { 4097 } else { 2049 };
-        states.push(EncoderState { coefficients: outside(place, limit), ..state });
-        states.push(EncoderState { coefficients: outside(place, -limit), ..state });
+    for index in 0..8 {
+        let outside = OUTSIDE.map(|pair| one_pair(index, pair));
+        states.extend(outside.map(|coefficients| EncoderState { coefficients, ..state }));
     }
     states
 }
@@ -160,18 +162,11 @@ fn numbers_4_to_8() {
     for block_size in [0, 7, 65_537, u32::MAX] {
         assert_eq!(refused(Start { block_size, ..good }), 6);
     }
-    for place in 0..16 {
-        let limit = if place % 2 == 0 { 4096 } else { 2048 };
-        for value in [limit + 1, -limit - 1, i16::MIN, i16::MAX] {
-            let coefficients = outside(place, value);
+    for index in 0..8 {
+        for coefficients in OUTSIDE.map(|pair| one_pair(index, pair)) {
             assert_eq!(refused(Start { coefficients, ..good }), 7);
             let frame = encode_frame(History::default(), &[1; 14], &coefficients);
             assert_eq!(frame, Err(Refusal::CoefficientOutside));
-        }
-        for value in [limit, -limit] {
-            let coefficients = outside(place, value);
-            assert!(Encoder::start(&Start { coefficients, ..good }).is_ok());
-            assert!(encode_frame(History::default(), &[1; 14], &coefficients).is_ok());
         }
     }
     assert_eq!(good.image_size(), Some(SIZE));
@@ -183,8 +178,8 @@ fn numbers_4_to_8() {
 #[test]
 fn starting_tests_in_sequence() {
     let good = start();
-    let mut bad =
-        Start { total: 0, rate: 0, block_size: 7, coefficients: outside(3, 2049), ..good };
+    let coefficients = one_pair(3, (32_767, -28_674));
+    let mut bad = Start { total: 0, rate: 0, block_size: 7, coefficients, ..good };
     let number = |bad: &Start| EncoderState::start(bad, &mut [0; 9]).unwrap_err().number();
     assert_eq!(number(&bad), 4);
     bad.total = good.total;

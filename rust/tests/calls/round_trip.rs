@@ -22,34 +22,40 @@ fn the_image_says_what_the_clip_was_started_with() {
     }
 }
 
+/// Plays an image and tests each sample's distance from its original; gives how many have a bound.
+pub fn near_its_original(bytes: &[u8], clip: &[i16]) -> usize {
+    let image = Image::open(bytes).unwrap();
+    let played = image.play().unwrap();
+    assert_eq!(played.len(), clip.len());
+    let headers = image.blocks().flat_map(|block| block.bytes.iter().step_by(8));
+    let frames = clip.chunks(14).zip(played.chunks(14));
+    let mut bounded = 0;
+    for (header, (original, played)) in headers.zip(frames) {
+        let exponent = header & 15;
+        if exponent < 12 {
+            let most = (3 * (1 << exponent) + 1) / 2;
+            for (a, b) in original.iter().zip(played) {
+                assert!((i32::from(*a) - i32::from(*b)).abs() <= most);
+                bounded += 1;
+            }
+        }
+    }
+    bounded
+}
+
 #[test]
 fn each_sample_is_near_its_original() {
     let mut bounded = 0;
     for clip in clips() {
         for block_size in BLOCK_SIZES {
-            let bytes = encode(&clip, block_size);
-            let image = Image::open(&bytes).unwrap();
-            let played = image.play().unwrap();
-            assert_eq!(played.len(), clip.len());
-            let headers = image.blocks().flat_map(|block| block.bytes.iter().step_by(8));
-            let frames = clip.chunks(14).zip(played.chunks(14));
-            for (header, (original, played)) in headers.zip(frames) {
-                let exponent = header & 15;
-                if exponent < 12 {
-                    let most = (3 * (1 << exponent) + 1) / 2;
-                    for (a, b) in original.iter().zip(played) {
-                        assert!((i32::from(*a) - i32::from(*b)).abs() <= most);
-                        bounded += 1;
-                    }
-                }
-            }
+            bounded += near_its_original(&encode(&clip, block_size), &clip);
         }
     }
     assert!(bounded > 10_000);
 }
 
 /// Plays an image in every way there is.
-fn played_alike(bytes: &[u8]) {
+pub fn played_alike(bytes: &[u8]) {
     let image = Image::open(bytes).unwrap();
     let whole = image.play().unwrap();
     assert_eq!(whole.len(), image.head().total as usize);

@@ -100,13 +100,13 @@ fn refusals_have_their_numbers() {
     folder.write("in.wav", wav(&sound(100, 4), 32_000));
     folder.write("none.wav", wav(&[], 32_000));
     folder.write("still.wav", wav(&[1], 0));
-    folder.write("wide", "1 2 3 -2049 0 0 0 0 0 0 0 0 0 0 0 0");
+    folder.write("wide", "1 2 32767 -28674 0 0 0 0 0 0 0 0 0 0 0 0");
     let cases = [
         ("encode none.wav out", "(refusal 4); it has 0"),
         ("encode still.wav out", "the sample rate is 0 (refusal 5)"),
         (
             "encode --coefficients wide in.wav out",
-            "wide: a coefficient is outside its limits (refusal 7); pair 1 is 3 and -2,049",
+            "wide: a pair of coefficients has |c0| + |c1| above 61,440 (refusal 7); pair 1 of 0 to 7 is 32,767 and -28,674, which makes 61,441",
         ),
     ];
     for (line, words) in cases {

@@ -1,4 +1,4 @@
--- `coefficients_ok` meets its contract. The invariant: the flag says whether the pairs so far are within the limits.
+-- `coefficients_ok` meets its contract. The invariant: the flag says whether the pairs so far are within the limit.
 use mathlib.Core.Path.{_≡_, refl, sym, ap, _∙_}
 use mathlib.Core.Bool.{true, false}
 use mathlib.Core.Logic.{⊎-elim}
