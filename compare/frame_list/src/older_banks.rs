@@ -16,6 +16,7 @@ pub fn older_banks(random: &mut Random) -> Vec<Case> {
         at_the_limit(random),
         beyond_by_one(random),
         of_all_kinds(random),
+        long_searches(),
     ];
     lists.concat()
 }
@@ -132,4 +133,13 @@ fn of_all_kinds(random: &mut Random) -> Vec<Case> {
         Case::new(&samples, history, bank)
     };
     (0..60).map(frame).collect()
+}
+
+/// Frames whose search takes four passes for each pair, which random ones seldom do.
+fn long_searches() -> Vec<Case> {
+    vec![
+        Case::new(&[-8, 53, -531], [3, -2], eight_times(-25_108, -30_652)),
+        Case::new(&[17], [3, -2], eight_times(-10_553, LOW)),
+        Case::new(&[8], [3, -2], eight_times(-15_804, LOW)),
+    ]
 }

@@ -1,6 +1,6 @@
 -- The pairs that starting accepts, beside the pair of -32768 twice that playing refuses by 13.
 use mathlib.Core.Path.{_≡_, refl, ap₂, _∙_}
-use mathlib.Core.Bool.{Bool, true, false, not, _&&_, _||_}
+use mathlib.Core.Bool.{Bool, true, false, not, _&&_, _||_, and-false}
 use mathlib.Core.List.{List}
 use mathlib.Core.Logic.{inl, inr}
 use Prim.Native.Nat.{ℕ, zero, suc, _≤_, _<_}
@@ -29,11 +29,7 @@ use Rattle.clip.proofs.WholeRuns.{start-answered}
 
 not-lowest : (c0 c1 : ℤ) → Bounded c0 c1 → equal c0 (negsuc 32767) && equal c1 (negsuc 32767) ≡ false
 not-lowest (pos m) c1 b = refl
-not-lowest (negsuc m) (pos n) b = go (eqb m 32767)
-  where
-    go : (t : Bool) → t && false ≡ false
-    go true = refl
-    go false = refl
+not-lowest (negsuc m) (pos n) b = and-false (eqb m 32767)
 not-lowest (negsuc m) (negsuc n) b = go (eqb m 32767) refl
   where
     go : (t : Bool) → eqb m 32767 ≡ t → t && eqb n 32767 ≡ false
