@@ -3,42 +3,33 @@ use mathlib.Core.Path.{_≡_, refl, sym, ap, ap₂, _∙_, subst}
 use mathlib.Core.Bool.{Bool, true, false, cond}
 use mathlib.Core.List.{List}
 use Prim.Native.Nat.{ℕ, zero, suc, _+_, _-_, _*_, _≤_, _<_}
+use native.Mathlib.Numerals.{add-one}
 use native.Mathlib.Omega.{arith}
 use native.Mathlib.Nat.{le-refl, lt-of-not-le, zero-add}
 use native.Mathlib.Decide.{decLe}
 use lib.Dec.{ltb}
 use lib.IntN.{ℤ, pos}
-use lib.ListN.{getD, length}
+use lib.ListN.{getD}
 use borrow.Author.Tests.{lt-ltb, le-ltb, ltb-true, ltb-false}
-use mir.Syntax.{w16}
-use mir.Val.{SFits}
 use Rattle.whole.specs.declared.History.{History}
 use Rattle.frame.specs.declared.search.Coded.{Coded}
-use Rattle.frame.specs.declared.search.Candidate.{Candidate}
-use Rattle.frame.specs.declared.choice.Best.{Best}
-use Rattle.frame.specs.Pass.{Bounded, runPass}
+use Rattle.frame.specs.declared.choice.Held.{Held}
 use Rattle.frame.specs.Search.{finished, tryCoefficients}
-use Rattle.frame.specs.Choice.{c0At, c1At, candidateAt, winner, passesUpTo}
-use Rattle.frame.specs.inner.Chosen.{choose}
+use Rattle.frame.specs.Choice.{c0At, c1At, candidateAt, winner, passesUpTo, heldAfter, Wins}
+use Rattle.frame.specs.Frame.{encodeFrame, header, packFrame}
 use Rattle.frame.specs.inner.Nibbles.{InNibble}
-use Rattle.frame.specs.inner.Lanes.{candidateOf}
-use Rattle.frame.specs.Fits.{Fit, FitHistory}
 use Rattle.frame.proofs.LawsOrder.{none-below}
 use Rattle.frame.proofs.LawsPass.{pass-nibble}
-use Rattle.frame.proofs.LawsSearch.{Shape, try-shape, Found, try-found}
+use Rattle.frame.proofs.LawsSearch.{Shape, try-shape}
 
 -- a candidate with its index and the passes made
-abbrev pub best : Coded → ℕ → ℕ → Best
-best c i n = record { candidate = c; index = i; passes = n }
+abbrev held : Coded → ℕ → ℕ → Held
+held c i n = record { candidate = c; index = i; passes = n }
 
 module _ (h : History) (xs : List ℤ) (cs : List ℤ) where
   pub candidate-shape : (i : ℕ) → Shape (c0At cs i) (c1At cs i) h xs 0 13 (candidateAt h xs cs i)
   unfolding candidateAt
   candidate-shape i = try-shape (c0At cs i) (c1At cs i) h xs
-
-  pub candidate-found : (i : ℕ) → Bounded (c0At cs i) (c1At cs i) → FitHistory h → Fit 14 xs → Found (c0At cs i) (c1At cs i) h xs (candidateAt h xs cs i)
-  unfolding candidateAt
-  candidate-found i b f x = try-found (c0At cs i) (c1At cs i) h xs b f x
 
   pub candidate-nibble : (i j : ℕ) → j < 14 → InNibble (getD (candidateAt h xs cs i .nibbles) j (pos 0))
   unfolding finished
@@ -96,67 +87,95 @@ module _ (h : History) (xs : List ℤ) (cs : List ℤ) where
   passes-le zero = omega arith
   passes-le (suc k) = omega (arith, passes-le k, candidate-shape k .passes-le)
 
-  -- ---- the loop's step
+  -- ---- one candidate more
 
-  -- the candidate of pair i + 1 against the best of the pairs 0 to i
-  module _ (k : ℕ) (b c : Coded) (j n : ℕ) (e : best b j n ≡ choose h xs cs k) (f : c ≡ candidateAt h xs cs (suc k)) where
-    was : b ≡ candidateAt h xs cs (winner h xs cs k)
-    unfolding choose
-    was = ap (λ (x : Best). x .candidate) e
+  -- the first alone
+  pub held-first : (c : Coded) → c ≡ candidateAt h xs cs 0 → held c 0 (c .passes) ≡ heldAfter h xs cs 1
+  unfolding heldAfter winner passesUpTo
+  held-first c e = rw (e, zero-add)
 
-    index-was : j ≡ winner h xs cs k
-    unfolding choose
-    index-was = ap (λ (x : Best). x .index) e
-
-    passes-were : n ≡ passesUpTo h xs cs (suc k)
-    unfolding choose
-    passes-were = ap (λ (x : Best). x .passes) e
-
-    pub taken : c .distance < b .distance → best c (suc k) (n + c .passes) ≡ choose h xs cs (suc k)
-    unfolding choose winner passesUpTo
-    taken l =
-        let t : ltb (distanceAt (suc k)) (distanceAt (winner h xs cs k)) ≡ true = lt-ltb _ _ (rw (f, was) at l) in
-        rw (f, passes-were, t)
-
-    pub left : b .distance ≤ c .distance → best b j (n + c .passes) ≡ choose h xs cs (suc k)
-    unfolding choose winner passesUpTo
-    left l =
-        let t : ltb (distanceAt (suc k)) (distanceAt (winner h xs cs k)) ≡ false = le-ltb _ _ (rw (f, was) at l) in
-        rw (f, passes-were, was, index-was, t)
-
-  -- the first pair alone
-  pub best-first : (c : Coded) → c ≡ candidateAt h xs cs 0 → best c 0 (c .passes) ≡ choose h xs cs 0
-  unfolding choose winner passesUpTo
-  best-first c e = rw (e, zero-add)
-
-  -- the same at the loop's i
-  module _ (i : ℕ) (b c : Coded) (j n : ℕ) (l : 1 ≤ i) (e : best b j n ≡ choose h xs cs (i - 1)) (f : c ≡ candidateAt h xs cs i) where
-    here : i ≡ suc (i - 1)
+  -- candidate k against what is held after k
+  module _ (k : ℕ) (b c : Coded) (j n : ℕ) (l : 1 ≤ k) (e : held b j n ≡ heldAfter h xs cs k) (f : c ≡ candidateAt h xs cs k) where
+    here : k ≡ suc (k - 1)
     here = omega arith
 
-    there : suc (i - 1) ≡ (i + 1) - 1
+    there : (k + 1) - 1 ≡ suc (k - 1)
     there = omega arith
 
-    pub best-taken : c .distance < b .distance → best c i (n + c .passes) ≡ choose h xs cs ((i + 1) - 1)
-    best-taken m = ap (λ (x : ℕ). best c x (n + c .passes)) here ∙ taken (i - 1) b c j n e (f ∙ ap (candidateAt h xs cs) here) m ∙ ap (choose h xs cs) there
+    was : b ≡ candidateAt h xs cs (winner h xs cs (k - 1))
+    unfolding heldAfter
+    was = ap (λ (x : Held). x .candidate) e
 
-    pub best-left : b .distance ≤ c .distance → best b j (n + c .passes) ≡ choose h xs cs ((i + 1) - 1)
-    best-left m = left (i - 1) b c j n e (f ∙ ap (candidateAt h xs cs) here) m ∙ ap (choose h xs cs) there
+    index-was : j ≡ winner h xs cs (k - 1)
+    unfolding heldAfter
+    index-was = ap (λ (x : Held). x .index) e
 
-  -- the same of trials
-  module _ (i : ℕ) (t b : Candidate) (j n : ℕ) (l : 1 ≤ i) (f : t ≡ candidateOf (candidateAt h xs cs i)) (g : b ≡ candidateOf (candidateAt h xs cs j))
-      (e : best (candidateAt h xs cs j) j n ≡ choose h xs cs (i - 1)) where
-    far : t .distance ≡ distanceAt i
-    far = ap (λ (w : Candidate). w .distance) f
+    passes-were : n ≡ passesUpTo h xs cs k
+    unfolding heldAfter
+    passes-were = ap (λ (x : Held). x .passes) e
 
-    near : b .distance ≡ distanceAt j
-    near = ap (λ (w : Candidate). w .distance) g
+    passes-now : n + c .passes ≡ passesUpTo h xs cs (k + 1)
+    unfolding passesUpTo
+    passes-now = rw (passes-were, f, add-one)
 
-    count : t .passes ≡ candidateAt h xs cs i .passes
-    count = ap (λ (w : Candidate). w .passes) f
+    tried : c ≡ candidateAt h xs cs (suc (k - 1))
+    tried = f ∙ ap (candidateAt h xs cs) here
 
-    pub trial-taken : t .distance < b .distance → best (candidateAt h xs cs i) i (n + t .passes) ≡ choose h xs cs ((i + 1) - 1)
-    trial-taken m = ap (λ (k : ℕ). best (candidateAt h xs cs i) i (n + k)) count ∙ best-taken i (candidateAt h xs cs j) (candidateAt h xs cs i) j n l e refl (omega (arith, far, near))
+    winner-now : (t : Bool) → ltb (c .distance) (b .distance) ≡ t → winner h xs cs ((k + 1) - 1) ≡ cond t k j
+    unfolding winner
+    winner-now t m = ap (winner h xs cs) there ∙ rw (sym tried, sym was, m, sym here, sym index-was)
 
-    pub trial-left : b .distance ≤ t .distance → best (candidateAt h xs cs j) j (n + t .passes) ≡ choose h xs cs ((i + 1) - 1)
-    trial-left m = ap (λ (k : ℕ). best (candidateAt h xs cs j) j (n + k)) count ∙ best-left i (candidateAt h xs cs j) (candidateAt h xs cs i) j n l e refl (omega (arith, far, near))
+    pub held-taken : c .distance < b .distance → held c k (n + c .passes) ≡ heldAfter h xs cs (k + 1)
+    unfolding heldAfter
+    held-taken m = let w = winner-now true (lt-ltb _ _ m) in rw (w, sym f, sym passes-now)
+
+    pub held-left : b .distance ≤ c .distance → held b j (n + c .passes) ≡ heldAfter h xs cs (k + 1)
+    unfolding heldAfter
+    held-left m = let w = winner-now false (le-ltb _ _ m) in rw (w, sym passes-now) (ap (λ (x : Coded). held x j (n + c .passes)) (was ∙ ap (candidateAt h xs cs) (sym index-was)))
+
+  -- ---- what is held
+
+  -- after k candidates the encoder holds the one that would win among these alone, and their passes
+  pub held-wins : (k : ℕ) → 1 ≤ k → Wins h xs cs k (heldAfter h xs cs k)
+  unfolding heldAfter
+  held-wins k l = record {
+    among = omega (arith, winner-le (k - 1));
+    is = refl;
+    least = λ j m. winner-least (k - 1) j (omega arith);
+    lowest = λ j m. winner-first (k - 1) j m;
+    passes-are = refl;
+  }
+
+  -- a frame is made of what is held after all eight
+  pub encoded-held : let b = heldAfter h xs cs 8 in encodeFrame h xs cs
+      ≡ record { bytes = packFrame (header (b .index) (b .candidate .exponent)) (b .candidate .nibbles) 7; passes = b .passes; samples = b .candidate .samples }
+  unfolding encodeFrame heldAfter
+  encoded-held = refl
+
+-- ---- of the first k pairs alone
+
+module _ (h : History) (xs cs ds : List ℤ) where
+  candidate-alone : (k j : ℕ) → j < k → ((i : ℕ) → i < k → (c0At cs i ≡ c0At ds i) × (c1At cs i ≡ c1At ds i)) → candidateAt h xs cs j ≡ candidateAt h xs ds j
+  unfolding candidateAt
+  candidate-alone k j l a = ap₂ (λ (c d : ℤ). tryCoefficients c d h xs) (a j l .0) (a j l .1)
+
+  winner-alone : (k : ℕ) → ((i : ℕ) → i < suc k → (c0At cs i ≡ c0At ds i) × (c1At cs i ≡ c1At ds i)) → winner h xs cs k ≡ winner h xs ds k
+  unfolding winner
+  winner-alone zero a = refl
+  winner-alone (suc k) a =
+      let w = winner-alone k (λ i l. a i (omega arith)) in
+      let l = winner-le h xs ds k in
+      rw (w, candidate-alone (suc (suc k)) (suc k) (omega arith) a, candidate-alone (suc (suc k)) (winner h xs ds k) (omega arith) a)
+
+  passes-alone : (k : ℕ) → ((i : ℕ) → i < k → (c0At cs i ≡ c0At ds i) × (c1At cs i ≡ c1At ds i)) → passesUpTo h xs cs k ≡ passesUpTo h xs ds k
+  unfolding passesUpTo
+  passes-alone zero a = refl
+  passes-alone (suc k) a = rw (passes-alone k (λ i l. a i (omega arith)), candidate-alone (suc k) k (omega arith) a)
+
+  -- what is held after k candidates does not depend on the other pairs
+  pub held-alone : (k : ℕ) → 1 ≤ k → ((i : ℕ) → i < k → (c0At cs i ≡ c0At ds i) × (c1At cs i ≡ c1At ds i)) → heldAfter h xs cs k ≡ heldAfter h xs ds k
+  unfolding heldAfter
+  held-alone k l a =
+      let w = winner-alone (k - 1) (λ i m. a i (omega arith)) in
+      let b = winner-le h xs ds (k - 1) in
+      rw (w, candidate-alone k (winner h xs ds (k - 1)) (omega arith) a, passes-alone k a)

@@ -1,12 +1,12 @@
 -- The distance of a reconstructed sample from its original, where the nibble was at most one out of range.
 use mathlib.Core.Path.{_≡_, refl, sym, ap, _∙_, subst}
 use mathlib.Core.Bool.{Bool, true, false, cond}
-use Prim.Native.Nat.{ℕ, zero, suc, _+_, _-_, _*_, _/_, _%_, _^_, _≤_, _<_, compare}
-use native.Mathlib.Nat.{le-trans, le-of-eq, mul-le-mul-right, mul-comm, div-add-mod', mod-lt, lt-of-not-le, le-antisymm}
+use Prim.Native.Nat.{ℕ, suc, _+_, _-_, _*_, _/_, _%_, _^_, _≤_, _<_}
+use native.Mathlib.Nat.{mul-le-mul-right, div-add-mod', mod-lt, lt-of-not-le}
 use native.Mathlib.Decide.{decLe}
 use native.Mathlib.Omega.{arith}
 use lib.Dec.{ltb}
-use lib.Pow.{pow-mono, pow-pos, pow-add}
+use lib.Pow.{pow-mono, pow-add}
 use lib.IntN.{ℤ, pos, negsuc, negℤ, natAbs, _+ℤ_, _-ℤ_, _*ℤ_, *ℤ-comm}
 use borrow.Author.Tests.{ltb-true, ltb-false}
 use lib.Ieee.{size}
@@ -14,37 +14,15 @@ use lib.Ieee.Digits.{size-reaches}
 use lib.Ieee.Nearest.{closest}
 use mir.Syntax.{w16}
 use mir.Val.{SFits}
-use Rattle.whole.specs.Whole.{clamp16, floored}
+use Rattle.whole.specs.Whole.{floored}
 use Rattle.whole.proofs.Differences.{Diff, diff-of, diff-pos, diff-neg, diff-add, diff-sub, diff-times, diff-same, diff-abs, abs-diff, over, under, left, floor-law}
 use Rattle.whole.proofs.Clamping.{clamp-nearer}
 use Rattle.frame.specs.Estimate.{weigh}
-use Rattle.frame.specs.Quantise.{unit24, round24, scale, nearestDown, withSign, quantise, clamp4}
-use Rattle.frame.specs.Pass.{Bounded, residual, reconstruct, codeSample}
-use Rattle.frame.proofs.LawsQuantise.{cmp-lt, cmp-gt, cmp-eq, size-above, unit-pos, round-same, scale-pos, clamp4-size}
-use Rattle.frame.proofs.LawsPass.{residual-size}
+use Rattle.frame.specs.Quantise.{unit24, round24, scale, nearestDown, quantise, clamp4}
+use Rattle.frame.specs.Pass.{residual, reconstruct, codeSample}
+use Rattle.frame.proofs.LawsQuantise.{closest-near, size-above, unit-pos, round-same, scale-pos, clamp4-size}
 
 -- ---- roundings move a number little
-
--- m / u to the nearest, times u, is within u / 2 of m
-closest-near : (m u : ℕ) → 0 < u → (closest m u * u * 2 ≤ m * 2 + u) × (m * 2 ≤ closest m u * u * 2 + u)
-closest-near m u p = go (decLe u (m % u * 2)) (decLe (m % u * 2) u)
-  where
-    m-is : m / u * u + m % u ≡ m
-    m-is = div-add-mod' m u
-
-    r-lt : m % u < u
-    r-lt = mod-lt m p
-
-    tie : (q : ℕ) → m % u * 2 ≡ u → m / u ≤ q → q ≤ m / u + 1 → (q * u * 2 ≤ m * 2 + u) × (m * 2 ≤ q * u * 2 + u)
-    tie q e a b =
-        let x : m / u * u ≤ q * u = mul-le-mul-right u a in
-        let y : q * u ≤ (m / u + 1) * u = mul-le-mul-right u b in
-        (omega (arith, m-is), omega (arith, m-is))
-
-    go : Dec (u ≤ m % u * 2) → Dec (m % u * 2 ≤ u) → (closest m u * u * 2 ≤ m * 2 + u) × (m * 2 ≤ closest m u * u * 2 + u)
-    go (no l) d = let h = lt-of-not-le l in rw (cmp-lt _ _ h) (omega (arith, m-is), omega (arith, m-is))
-    go (yes l) (no k) = let h = lt-of-not-le k in rw (cmp-gt _ _ h) (omega (arith, m-is, r-lt), omega (arith, m-is, r-lt))
-    go (yes l) (yes k) = let e : m % u * 2 ≡ u = omega arith in rw (cmp-eq _ _ e) (tie (m / u + m / u % 2) e (omega arith) (omega arith))
 
 -- the unit of the last of 24 digits is at most m / 2^23
 unit-small : (m : ℕ) → 16777216 ≤ m → unit24 m * 8388608 ≤ m

@@ -1,16 +1,15 @@
 -- Laws of the estimate: sizes, the look over the samples, the halvings and the first exponent.
-use mathlib.Core.Path.{_≡_, refl, sym, ap, _∙_, subst}
+use mathlib.Core.Path.{_≡_, refl, ap, _∙_}
 use mathlib.Core.Bool.{Bool, true, false, cond}
 use mathlib.Core.List.{List}
 use Prim.Native.Nat.{ℕ, zero, suc, _+_, _-_, _*_, _/_, _^_, _≤_, _<_}
-use native.Mathlib.Nat.{mul-le-mul, le-trans, pow-suc}
-use native.Mathlib.Numerals.{add-one}
+use native.Mathlib.Nat.{mul-le-mul, le-refl, pow-suc}
 use native.Mathlib.Omega.{arith}
-use lib.Dec.{T, ltb}
-use lib.IntN.{ℤ, pos, negsuc, negℤ, natAbs, subℕ, _+ℤ_, _-ℤ_, _*ℤ_}
+use lib.Dec.{ltb}
+use lib.IntN.{ℤ, pos, negsuc, negℤ, natAbs, _+ℤ_, _-ℤ_, _*ℤ_}
 use lib.ListN.{getD}
 use lib.Signed.{mag, ltZ, quotZ}
-use borrow.Author.Tests.{lt-ltb, le-ltb, ltb-true, ltb-false}
+use borrow.Author.Tests.{lt-ltb, le-ltb}
 use mir.Syntax.{w16}
 use mir.Val.{SFits}
 use Rattle.whole.specs.Whole.{towardsZero}
@@ -19,15 +18,21 @@ use Rattle.whole.proofs.Differences.{diff-pos, diff-sub, diff-eq}
 use Rattle.whole.proofs.Clamping.{clamp-fits}
 use Rattle.whole.specs.declared.History.{History}
 use Rattle.frame.specs.Estimate.{weigh, difference, largerMagnitude, isLowest, look, largestDifference, isSmall, halvingsWithin, halvings, maxZ, exponentOf, firstExponent}
+use Rattle.frame.specs.Pass.{Bounded}
 
 -- ---- sizes
 
-pub weigh-any : (c0 c1 s0 s1 : ℤ) → SFits w16 c0 → SFits w16 c1 → SFits w16 s0 → SFits w16 s1 → natAbs (weigh c0 c1 s0 s1) ≤ 2147483648
+-- two samples of 16 bits weigh at most 32768 times the magnitudes of the pair
+pub weigh-of : (c0 c1 s0 s1 : ℤ) → SFits w16 s0 → SFits w16 s1 → natAbs (weigh c0 c1 s0 s1) ≤ (natAbs c0 + natAbs c1) * 32768
 unfolding weigh
-weigh-any c0 c1 s0 s1 f g h k =
-    let a : natAbs c0 * natAbs s0 ≤ 32768 * 32768 = mul-le-mul (abs-sfits f) (abs-sfits h) in
-    let b : natAbs c1 * natAbs s1 ≤ 32768 * 32768 = mul-le-mul (abs-sfits g) (abs-sfits k) in
+weigh-of c0 c1 s0 s1 f g =
+    let a : natAbs c0 * natAbs s0 ≤ natAbs c0 * 32768 = mul-le-mul (le-refl (natAbs c0)) (abs-sfits f) in
+    let b : natAbs c1 * natAbs s1 ≤ natAbs c1 * 32768 = mul-le-mul (le-refl (natAbs c1)) (abs-sfits g) in
     omega (arith, abs-add (c0 *ℤ s0) (c1 *ℤ s1), abs-mul c0 s0, abs-mul c1 s1)
+
+-- by a pair within the limit: 61440 × 32768
+pub weigh-size : (c0 c1 s0 s1 : ℤ) → Bounded c0 c1 → SFits w16 s0 → SFits w16 s1 → natAbs (weigh c0 c1 s0 s1) ≤ 2013265920
+weigh-size c0 c1 s0 s1 l f g = omega (arith, l .sum, weigh-of c0 c1 s0 s1 f g)
 
 pub difference-fits : (c0 c1 s0 s1 x : ℤ) → SFits w16 (difference c0 c1 s0 s1 x)
 unfolding difference
@@ -49,26 +54,7 @@ pub larger-magnitude-fits : (d e : ℤ) → SFits w16 d → SFits w16 e → SFit
 unfolding largerMagnitude
 larger-magnitude-fits d e f g = fits-either (ltb (natAbs d) (natAbs e)) g f
 
--- ---- the look, from place i on
-module _ (c0 c1 d p b : ℤ) (xs : List ℤ) (i : ℕ) (E : ℤ) (h : i < 14) (inv : look c0 c1 xs (14 - i) i d p b ≡ E) where
-  one : 14 - i ≡ suc (14 - (i + 1))
-  one = omega arith
-
-  pub look-more : isLowest (difference c0 c1 p b (getD xs i (pos 0))) ≡ false
-      → look c0 c1 xs (14 - (i + 1)) (i + 1) (largerMagnitude d (difference c0 c1 p b (getD xs i (pos 0)))) (getD xs i (pos 0)) p ≡ E
-  unfolding look
-  look-more e = ap (λ (j : ℕ). look c0 c1 xs (14 - (i + 1)) j (largerMagnitude d (difference c0 c1 p b (getD xs i (pos 0)))) (getD xs i (pos 0)) p) (add-one i)
-      ∙ sym (ap (λ (k : ℕ). look c0 c1 xs k i d p b) one ∙ rw e) ∙ inv
-
-  pub look-low : isLowest (difference c0 c1 p b (getD xs i (pos 0))) ≡ true → difference c0 c1 p b (getD xs i (pos 0)) ≡ E
-  unfolding look
-  look-low e = sym (ap (λ (k : ℕ). look c0 c1 xs k i d p b) one ∙ rw e) ∙ inv
-
-pub look-end : (c0 c1 d p b : ℤ) (xs : List ℤ) (i : ℕ) (E : ℤ) → 14 ≤ i → look c0 c1 xs (14 - i) i d p b ≡ E → d ≡ E
-unfolding look
-look-end c0 c1 d p b xs i E h inv =
-    let none : 14 - i ≡ 0 = omega arith in
-    sym (ap (λ (k : ℕ). look c0 c1 xs k i d p b) none) ∙ inv
+-- ---- the look
 
 pub look-fits : (c0 c1 : ℤ) (xs : List ℤ) (k i : ℕ) (d p b : ℤ) → SFits w16 d → SFits w16 (look c0 c1 xs k i d p b)
 unfolding look
@@ -83,30 +69,6 @@ unfolding largestDifference
 largest-fits c0 c1 h xs = look-fits c0 c1 xs 14 0 (pos 0) (h .newest) (h .older) (record { sfits = omega arith })
 
 -- ---- the halvings
-pub halve-more : (k : ℕ) (z : ℤ) → isSmall z ≡ false → halvingsWithin (suc k) z ≡ suc (halvingsWithin k (quotZ z (pos 2)))
-unfolding halvingsWithin
-halve-more k z e = rw e
-
-pub halve-done : (k : ℕ) (z : ℤ) → isSmall z ≡ true → halvingsWithin k z ≡ 0
-unfolding halvingsWithin
-halve-done zero z e = refl
-halve-done (suc k) z e = rw e
-
-pub halve-step : (h : ℕ) (z : ℤ) (n : ℕ) → h < 13 → isSmall z ≡ false → h + halvingsWithin (13 - h) z ≡ n → (h + 1) + halvingsWithin (13 - (h + 1)) (quotZ z (pos 2)) ≡ n
-halve-step h z n lt e i =
-    let m : 13 - h ≡ suc (13 - (h + 1)) = omega arith in
-    let s : halvingsWithin (13 - h) z ≡ suc (halvingsWithin (13 - (h + 1)) (quotZ z (pos 2))) = ap (λ (k : ℕ). halvingsWithin k z) m ∙ halve-more (13 - (h + 1)) z e in
-    omega arith
-
-pub halve-left : (h : ℕ) (z : ℤ) (n : ℕ) → h ≤ 13 → 13 ≤ h → h + halvingsWithin (13 - h) z ≡ n → h ≡ n
-unfolding halvingsWithin
-halve-left h z n p q i =
-    let m : 13 - h ≡ 0 = omega arith in
-    let s : halvingsWithin (13 - h) z ≡ 0 = ap (λ (k : ℕ). halvingsWithin k z) m in
-    omega arith
-
-pub halve-stop : (h : ℕ) (z : ℤ) (n : ℕ) → isSmall z ≡ true → h + halvingsWithin (13 - h) z ≡ n → h ≡ n
-halve-stop h z n e i = omega (arith, halve-done (13 - h) z e)
 
 -- a number below 8 * 2^k in magnitude (−8 * 2^k too) is small after k halvings at most
 half-mag : (z : ℤ) (n : ℕ) → mag z < n * 2 → mag (quotZ z (pos 2)) < n

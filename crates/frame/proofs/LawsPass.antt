@@ -1,8 +1,8 @@
 -- Laws of a pass: sizes, the loop's step, what holds at each place.
-use mathlib.Core.Path.{_≡_, refl, sym, ap, ap₂, _∙_, subst}
-use mathlib.Core.Bool.{Bool, true, false, cond}
+use mathlib.Core.Path.{_≡_, refl, sym, ap, _∙_, subst}
+use mathlib.Core.Bool.{Bool, true, false}
 use mathlib.Core.List.{List, [], _∷_, _++_}
-use Prim.Native.Nat.{ℕ, zero, suc, _+_, _-_, _*_, _^_, _<_, _≤_, max}
+use Prim.Native.Nat.{ℕ, zero, suc, _+_, _*_, _^_, _<_, _≤_, max}
 use native.Mathlib.Numerals.{add-one}
 use native.Mathlib.Nat.{le-refl, le-trans, le-of-eq, mul-le-mul, lt-of-not-le}
 use native.Mathlib.Decide.{decLe}
@@ -15,7 +15,7 @@ use lib.Seq.{take-suc-set, take-all, getD-at}
 use mir.Syntax.{w16}
 use mir.Val.{SFits}
 use Rattle.whole.specs.Whole.{clamp16, floored}
-use Rattle.whole.proofs.SignedLocals.{abs-add, abs-sub, abs-mul, abs-sfits}
+use Rattle.whole.proofs.SignedLocals.{abs-sub, abs-mul, abs-sfits}
 use Rattle.whole.proofs.FloorDivision.{floor-scaled}
 use Rattle.whole.proofs.Clamping.{clamp-fits, clamp-low, clamp-high, clamp-mid}
 use Rattle.whole.specs.declared.History.{History}
@@ -23,26 +23,16 @@ use Rattle.frame.specs.declared.pass.Step.{Step}
 use Rattle.frame.specs.declared.pass.Pass.{Pass}
 use Rattle.frame.specs.Estimate.{weigh}
 use Rattle.frame.specs.Quantise.{scale, quantise, clamp4}
-use Rattle.frame.specs.Pass.{pairLimit, Bounded, residual, reconstruct, codeSample, squaredDifference, Carried, next, upto, runPass}
-use Rattle.frame.specs.Frame.{preceded, historyAfter}
+use Rattle.frame.specs.Pass.{Bounded, residual, reconstruct, codeSample, squaredDifference, Carried, next, upto, runPass}
+use Rattle.frame.specs.Frame.{preceded}
 use Rattle.frame.specs.inner.Nibbles.{InNibble, up, down}
 use Rattle.frame.specs.Fits.{Fit, FitHistory}
 use Rattle.frame.proofs.LawsOrder.{none-below}
+use Rattle.frame.proofs.LawsEstimate.{weigh-size}
+use Rattle.frame.proofs.LawsFloor.{apart-16}
 use Rattle.frame.proofs.LawsQuantise.{quantise-size, quantise-12, clamp4-size, clamp4-excess}
 
 -- ---- sizes
-
--- what the magnitudes of a pair within the limit may weigh: 61440 × 32768
-weighed-size : (a b s t : ℕ) → a + b ≤ pairLimit → s ≤ 32768 → t ≤ 32768 → a * s + b * t ≤ 2013265920
-weighed-size a b s t h p q =
-    let x : a * s ≤ a * 32768 = mul-le-mul (le-refl a) p in
-    let y : b * t ≤ b * 32768 = mul-le-mul (le-refl b) q in
-    omega arith
-
-pub weigh-size : (c0 c1 s0 s1 : ℤ) → Bounded c0 c1 → SFits w16 s0 → SFits w16 s1 → natAbs (weigh c0 c1 s0 s1) ≤ 2013265920
-unfolding weigh
-weigh-size c0 c1 s0 s1 l f g =
-    omega (arith, abs-add (c0 *ℤ s0) (c1 *ℤ s1), abs-mul c0 s0, abs-mul c1 s1, weighed-size (natAbs c0) (natAbs c1) (natAbs s0) (natAbs s1) (l .sum) (abs-sfits f) (abs-sfits g))
 
 pub residual-size : (c0 c1 s0 s1 x : ℤ) → Bounded c0 c1 → SFits w16 s0 → SFits w16 s1 → SFits w16 x → natAbs (residual c0 c1 s0 s1 x) ≤ 2080374784
 unfolding residual
@@ -61,11 +51,13 @@ step-overflow c0 c1 s0 s1 x p l f g h =
     let r = residual-size c0 c1 s0 s1 x l f g h in
     omega (arith, abs-sub u (clamp4 u), clamp4-size u, quantise-size (residual c0 c1 s0 s1 x) p (omega arith))
 
-pub squared-le : {x y : ℤ} → SFits w16 x → SFits w16 y → squaredDifference x y ≤ 4294967296
+-- the square of a difference has 32 bits
+pub square-lt : (x y : ℤ) → SFits w16 x → SFits w16 y → squaredDifference x y < 4294967296
 unfolding squaredDifference
-squared-le {x} {y} f g =
-    let h : natAbs (x -ℤ y) ≤ 65536 = omega (arith, abs-sub x y, abs-sfits f, abs-sfits g) in
-    mul-le-mul h h
+square-lt x y f g =
+    let l = apart-16 x y f g in
+    let m : natAbs (x -ℤ y) * natAbs (x -ℤ y) ≤ 65535 * 65535 = mul-le-mul l l in
+    omega arith
 
 -- ---- playing gives what encoding reconstructed
 

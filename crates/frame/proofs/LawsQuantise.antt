@@ -1,8 +1,8 @@
 -- Laws of quantising: leading zeros as a number's size, the 24-bit rounding, division to the nearest, the nibble's clamp.
-use mathlib.Core.Path.{_≡_, refl, sym, ap, ap₂, _∙_, subst}
+use mathlib.Core.Path.{_≡_, refl, sym, ap, _∙_, subst}
 use mathlib.Core.Bool.{Bool, true, false, not, cond}
 use Prim.Native.Nat.{ℕ, zero, suc, _+_, _-_, _*_, _/_, _%_, _^_, _≤_, _<_, compare, Ordering, Ordering·lt, Ordering·eq, Ordering·gt}
-use native.Mathlib.Nat.{le-trans, le-refl, lt-of-le-of-lt, lt-of-lt-of-le, suc-mul, mul-le-mul-right, div-mul-le-self, div-le-self, pow-suc, mul-comm, one-mul, mod-eq-of-lt}
+use native.Mathlib.Nat.{le-trans, lt-of-le-of-lt, suc-mul, mul-le-mul-right, div-mul-le-self, div-le-self, pow-suc, mul-comm, one-mul, mod-eq-of-lt}
 use native.Mathlib.Nat.{mod-lt, mod-one, div-one, mul-one, div-add-mod', div-eq-of-lt-le, div-eq-of-lt, add-div-right, zero-mod, zero-div, lt-of-not-le, le-of-eq}
 use native.Mathlib.Decide.{decLe}
 use native.Mathlib.Omega.{arith}
@@ -11,8 +11,8 @@ use lib.Pow.{pow-mono, pow-pos, pow-add}
 use lib.Count.{leadingZeros, leading-unique}
 use lib.IntN.{ℤ, pos, negsuc, negℤ, natAbs, _+ℤ_, _-ℤ_, +ℤ-idl}
 use lib.Signed.{ltZ, shrZ}
-use borrow.Author.Tests.{ltb-true, ltb-false, lt-ltb, le-ltb}
-use lib.Ieee.{size, nearest}
+use borrow.Author.Tests.{ltb-true, ltb-false}
+use lib.Ieee.{size}
 use lib.Ieee.Fits.{nearest-le}
 use lib.Ieee.Digits.{size-lt, size-reaches, size-le}
 use lib.Ieee.Nearest.{closest}
@@ -24,7 +24,7 @@ use Rattle.frame.proofs.LawsOrder.{none-below}
 
 -- ---- `compare` from an order
 module _ (a b : ℕ) where
-  pub cmp-lt : a < b → compare a b ≡ Ordering·lt
+  cmp-lt : a < b → compare a b ≡ Ordering·lt
   cmp-lt h = go (compare a b) (nleb→lt a b) (eqb→eq a b)
     where
       go : (o : Ordering) → (T (not (isLe o)) → b < a) → (T (isEq o) → a ≡ b) → o ≡ Ordering·lt
@@ -38,7 +38,7 @@ module _ (a b : ℕ) where
           clash : b < a → ⊥
           clash q = omega arith
 
-  pub cmp-gt : b < a → compare a b ≡ Ordering·gt
+  cmp-gt : b < a → compare a b ≡ Ordering·gt
   cmp-gt h = go (compare a b) (leb→le a b)
     where
       clash : a ≤ b → ⊥
@@ -49,7 +49,7 @@ module _ (a b : ℕ) where
       go Ordering·eq k = absurd (clash (k tt))
       go Ordering·gt k = refl
 
-  pub cmp-eq : a ≡ b → compare a b ≡ Ordering·eq
+  cmp-eq : a ≡ b → compare a b ≡ Ordering·eq
   cmp-eq h = go (compare a b) (subst (λ (x : ℕ). T (eqb a x)) h (eqb-refl a))
     where
       go : (o : Ordering) → T (isEq o) → o ≡ Ordering·eq
@@ -102,7 +102,7 @@ digits-dropped m h g =
     (omega arith, omega arith, omega arith, omega arith)
 
 -- ---- the 24-bit rounding
-pub unit-le : (m : ℕ) → m ≤ 2147483648 → unit24 m ≤ 256
+unit-le : (m : ℕ) → m ≤ 2147483648 → unit24 m ≤ 256
 unfolding unit24
 unit-le m h =
     let s : size m ≤ 32 = size-le m 32 (omega arith) in
@@ -139,6 +139,27 @@ pub closest-mul : (m u : ℕ) → closest m u * u ≤ m + u
 closest-mul m u =
     let a : closest m u * u ≤ suc (m / u) * u = mul-le-mul-right u (nearest-le (m / u) (compare (m % u * 2) u)) in
     omega (arith, a, suc-mul (m / u) u, div-mul-le-self m u)
+
+-- m / u to the nearest, times u, is within u / 2 of m
+pub closest-near : (m u : ℕ) → 0 < u → (closest m u * u * 2 ≤ m * 2 + u) × (m * 2 ≤ closest m u * u * 2 + u)
+closest-near m u p = go (decLe u (m % u * 2)) (decLe (m % u * 2) u)
+  where
+    m-is : m / u * u + m % u ≡ m
+    m-is = div-add-mod' m u
+
+    r-lt : m % u < u
+    r-lt = mod-lt m p
+
+    tie : (q : ℕ) → m % u * 2 ≡ u → m / u ≤ q → q ≤ m / u + 1 → (q * u * 2 ≤ m * 2 + u) × (m * 2 ≤ q * u * 2 + u)
+    tie q e a b =
+        let x : m / u * u ≤ q * u = mul-le-mul-right u a in
+        let y : q * u ≤ (m / u + 1) * u = mul-le-mul-right u b in
+        (omega (arith, m-is), omega (arith, m-is))
+
+    go : Dec (u ≤ m % u * 2) → Dec (m % u * 2 ≤ u) → (closest m u * u * 2 ≤ m * 2 + u) × (m * 2 ≤ closest m u * u * 2 + u)
+    go (no l) d = let h = lt-of-not-le l in rw (cmp-lt _ _ h) (omega (arith, m-is), omega (arith, m-is))
+    go (yes l) (no k) = let h = lt-of-not-le k in rw (cmp-gt _ _ h) (omega (arith, m-is, r-lt), omega (arith, m-is, r-lt))
+    go (yes l) (yes k) = let e : m % u * 2 ≡ u = omega arith in rw (cmp-eq _ _ e) (tie (m / u + m / u % 2) e (omega arith) (omega arith))
 
 pub round24-le : (m : ℕ) → m ≤ 2147483648 → round24 m ≤ m + 256
 unfolding round24
@@ -230,6 +251,12 @@ scale-is p = pow-add 2 p 11 ∙ mul-comm (2 ^ p) 2048
 
 pub scale-le : (p : ℕ) → p ≤ 12 → scale p ≤ 8388608
 scale-le p h = let l : 2 ^ p ≤ 4096 = pow-mono h in omega arith
+
+-- 2^31 is a multiple of a step
+pub scale-divides : (p : ℕ) → p ≤ 12 → 2 ^ (20 - p) * scale p ≡ 2147483648
+scale-divides p h =
+    let e : (20 - p) + (p + 11) ≡ 31 = omega arith in
+    ap (λ (n : ℕ). 2 ^ (20 - p) * n) (sym (scale-is p)) ∙ sym (pow-add 2 (20 - p) (p + 11)) ∙ ap (λ (n : ℕ). 2 ^ n) e
 
 pub scale-pos : (p : ℕ) → 0 < scale p
 scale-pos p = omega (arith, pow-pos p)

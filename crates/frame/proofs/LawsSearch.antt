@@ -12,15 +12,13 @@ use lib.IntN.{ℤ}
 use borrow.Author.Tests.{eqb-true, eqb-false, leb-true, lt-ltb, le-ltb}
 use Rattle.whole.specs.declared.History.{History}
 use Rattle.frame.specs.declared.search.Coded.{Coded}
-use Rattle.frame.specs.declared.pass.Pass.{Pass}
-use Rattle.frame.specs.declared.search.Candidate.{Candidate}
 use Rattle.frame.specs.Estimate.{firstExponent}
 use Rattle.frame.specs.Pass.{Bounded, runPass}
 use Rattle.frame.specs.Search.{raiseWithin, raise, isLast, finished, searchWithin, tryCoefficients}
-use Rattle.frame.specs.inner.Lanes.{candidateOf}
 use Rattle.frame.specs.Fits.{Fit, FitHistory}
+use Rattle.frame.proofs.LawsOrder.{neither}
 use Rattle.frame.proofs.LawsEstimate.{first-le}
-use Rattle.frame.proofs.LawsPass.{overflow-le, overflow-12}
+use Rattle.frame.proofs.LawsPass.{overflow-12}
 
 -- ---- the raise
 pub raise-more : (k y p : ℕ) → 256 < y → raiseWithin (suc k) y p ≡ raiseWithin k (y / 2) (min (p + 1) 11)
@@ -86,13 +84,9 @@ unfolding raise
 raise-12 o p h = raise-within-12 24 (o + 8) p h
 
 -- ---- the end test
-or-left : (a b : Bool) → (a || b) ≡ false → a ≡ false
-or-left true b e = e
-or-left false b e = refl
-
 pub not-twelve : (p o : ℕ) → isLast p o ≡ false → p ≡ 12 → ⊥
 unfolding isLast
-not-twelve p o e q = eqb-false p 12 (or-left (eqb p 12) (leb o 1) e) q
+not-twelve p o e q = eqb-false p 12 (neither (eqb p 12) (leb o 1) e .0) q
 
 either : (a b : Bool) → (a || b) ≡ true → (a ≡ true) ⊎ (b ≡ true)
 either true b e = inl refl
@@ -223,18 +217,3 @@ module _ (c0 c1 : ℤ) (h : History) (xs : List ℤ) (b : Bounded c0 c1) (f : Fi
   pub try-bound : (j : ℕ) → searchWithin (13 + j) c0 c1 h xs (firstExponent c0 c1 h xs) 0 ≡ tryCoefficients c0 c1 h xs
   unfolding tryCoefficients
   try-bound j = search-bound j 13 (firstExponent c0 c1 h xs) 0 (le-trans (first-le _ _ _ _) (lit≤ tt)) (omega arith)
-
--- ---- a candidate from its trial and one more pass
-
-pub again : (c0 c1 : ℤ) (h : History) (xs : List ℤ) (c : Coded) → Found c0 c1 h xs c → (t : Pass) (b : Candidate) → b ≡ candidateOf c → t ≡ runPass c0 c1 h xs (b .exponent)
-    → _≡_ {A = Coded} (record { nibbles = t .nibbles; samples = t .samples; distance = b .distance; exponent = b .exponent; passes = b .passes }) c
-unfolding finished
-again c0 c1 h xs c f t b e g =
-    let p = runPass c0 c1 h xs (c .exponent) in
-    let k : t ≡ p = g ∙ ap (λ (w : Candidate). runPass c0 c1 h xs (w .exponent)) e in
-    ap (λ (w : Pass). made w b) k ∙ ap (made p) e
-    ∙ ap (λ (d : ℕ). finished (record { nibbles = p .nibbles; samples = p .samples; overflow = p .overflow; distance = d }) (c .exponent) (c .passes))
-    (ap (λ (w : Coded). w .distance) (f .is)) ∙ sym (f .is)
-  where
-    made : Pass → Candidate → Coded
-    made w v = record { nibbles = w .nibbles; samples = w .samples; distance = v .distance; exponent = v .exponent; passes = v .passes }

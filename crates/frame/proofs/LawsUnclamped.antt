@@ -22,7 +22,6 @@ use lib.Ieee.Scale.{grid}
 use Rattle.frame.specs.Quantise.{unit24, round24, scale, nearestDown, quantise, clamp4}
 use Rattle.frame.specs.Pass.{Bounded, residual, reconstruct, codeSample}
 use Rattle.frame.specs.Unclamped.{asF32, nearHalf, quotient, unclamped}
-use Rattle.frame.specs.declared.pass.Step.{Step}
 use Rattle.frame.proofs.LawsFloat.{few-digits, whole-at, round-between, neg-at, div-at, add-at, toSigned-at}
 use Rattle.frame.proofs.LawsNearHalf.{NearlyHalf, sum-above, sum-below, down-most}
 use Rattle.frame.proofs.LawsQuantise.{round-same, round24-le, down-zero, scale-pos}
@@ -144,7 +143,7 @@ unclamped-is (negsuc n) p h l = rounded (negsuc n) p true (neg nearHalf) h l (in
 
 -- no further: at p = 13 this D is over a half of S' by less than 0.4999999 lacks
 pub unclamped-13 : (unclamped (pos 8388609) 13 ≡ pos 0) × (quantise (pos 8388609) 13 ≡ pos 1)
-unfolding unclamped quotient nearHalf round ofInt div add sub toSigned quantise round24 unit24 nearestDown
+unfolding unclamped quotient nearHalf ofInt div add sub toSigned quantise round24 unit24 nearestDown
 unclamped-13 = (refl, refl)
 
 -- so the step of a pass is the one with the Rust's expression: every D that it meets is in range

@@ -2,7 +2,13 @@
 pub mod LawsOrder
 pub mod LawsQuantise
 pub mod LawsEstimate
+pub mod LawsFloor
+pub mod LawsPlaces
+pub mod LawsEnds
+pub mod LawsQuick
+pub mod LawsShow
 pub mod LawsPass
+pub mod LawsSeen
 pub mod LawsNibbles
 pub mod LawsSearch
 pub mod LawsChoice
@@ -13,7 +19,5 @@ pub mod LawsDistance
 pub mod LawsFloat
 pub mod LawsNearHalf
 pub mod LawsUnclamped
-pub mod LawsLane
-pub mod LawsLanes
 pub mod Reached
 pub mod Worked

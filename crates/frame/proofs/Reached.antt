@@ -8,7 +8,6 @@ use Rattle.frame.specs.Estimate.{weigh}
 use Rattle.frame.specs.Quantise.{unit24, round24, nearestDown, quantise}
 use Rattle.frame.specs.Pass.{residual, codeSample, reconstruct, squaredDifference}
 use Rattle.frame.specs.Frame.{pairOk}
-use Rattle.frame.specs.inner.Lanes.{finer}
 
 -- the pairs of a sum of 61440 below are within the limit, and one more is not
 pub pairs-taken : (pairOk (negsuc 32767) (negsuc 28671) ≡ true) × (pairOk (pos 32767) (pos 28673) ≡ true) × (pairOk (pos 32767) (pos 28674) ≡ false)
@@ -21,14 +20,10 @@ unfolding weigh
 sum-reached = (refl, refl)
 
 -- D: -2080374784 at the lowest sample, 2080372736 at the highest (`residual-size`)
-pub residual-reached : (residual (negsuc 32767) (negsuc 28671) (negsuc 32767) (negsuc 32767) (negsuc 32767) ≡ negsuc 2080374783) × (residual (pos 32767) (pos 28673) (negsuc 32767) (negsuc 32767) (pos 32767) ≡ pos 2080372736)
+pub residual-reached : (residual (negsuc 32767) (negsuc 28671) (negsuc 32767) (negsuc 32767) (negsuc 32767) ≡ negsuc 2080374783)
+    × (residual (pos 32767) (pos 28673) (negsuc 32767) (negsuc 32767) (pos 32767) ≡ pos 2080372736)
 unfolding residual weigh
 residual-reached = (refl, refl)
-
--- a lane's number before the clamp, at the smallest unit and at the largest (`finer-size`)
-pub lane-reached : (finer (negsuc 2080374783) (pos 1) ≡ negsuc 1015807) × (finer (pos 2080372736) (pos 4096) ≡ pos 1017854)
-unfolding finer
-lane-reached = (refl, refl)
 
 -- a squared difference: 65535 × 65535, where the pair above plays 32767 for -32768
 pub square-reached : (codeSample (negsuc 32767) (negsuc 28671) (negsuc 32767) (negsuc 32767) (negsuc 32767) 12 .sample ≡ pos 32767) × (squaredDifference (negsuc 32767) (pos 32767) ≡ 4294836225)
@@ -37,5 +32,5 @@ square-reached = (refl, refl)
 
 -- the overflow at exponent 12: 241, and y = 249 is not above 256 (`overflow-12`)
 pub overflow-reached : codeSample (pos 32767) (pos 28673) (negsuc 32767) (negsuc 32767) (pos 32767) 12 .overflow ≡ 241
-unfolding codeSample reconstruct residual weigh clamp quantise round24 nearestDown unit24 size span climb
+unfolding codeSample residual weigh clamp quantise round24 nearestDown unit24 size span climb
 overflow-reached = refl

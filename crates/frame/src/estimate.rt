@@ -1,8 +1,22 @@
 // The exponent of a frame's first pass.
 ghost use mathlib.Core.Path.{_≡_};
-ghost use Rattle.frame.specs.Estimate.{weigh, difference, largerMagnitude, isSmall, largestDifference, halvings, firstExponent};
-use crate::quantise::magnitude;
-use whole::History;
+ghost use Prim.Native.Nat.{_≤_};
+ghost use lib.Dec.{T};
+ghost use lib.IntN.{pos, natAbs};
+ghost use lib.Signed.{nonNeg};
+ghost use Rattle.frame.specs.Estimate.{weigh, difference, exponentOf, halvings, firstExponent};
+ghost use Rattle.frame.specs.Pass.{Bounded};
+ghost use Rattle.frame.specs.inner.Ends.{endsOf, upFirst};
+ghost use Rattle.frame.specs.inner.Places.{Padded, historyOf, samplesOf};
+use crate::narrow::higher;
+use crate::narrow::lower;
+use crate::narrow::narrowed;
+
+// The highest and the lowest difference, 0 among them.
+pub(crate) struct Ends {
+    pub high: i16,
+    pub low: i16,
+}
 
 // c0 * previous + c1 * before.
 pub(crate) fn weigh(c0: i16, c1: i16, previous: i16, before: i16) -> i64
@@ -11,76 +25,88 @@ pub(crate) fn weigh(c0: i16, c1: i16, previous: i16, before: i16) -> i64
     (c0 as i64) * (previous as i64) + (c1 as i64) * (before as i64)
 }
 
-// How far a sample is from its prediction.
+// How far a sample is from its prediction, in 32 bits.
 fn difference(c0: i16, c1: i16, previous: i16, before: i16, sample: i16) -> i16
+    requires { ⌜ Bounded c0 c1 ⌝ }
     ensures { λ r. ⌜ r ≡ difference c0 c1 previous before sample ⌝ }
 {
-    let predicted = whole::quotient_2048(weigh(c0, c1, previous, before));
-    whole::clamp_i16((sample as i64) - predicted)
+    let q = (c0 as i32) * (previous as i32) + (c1 as i32) * (before as i32);
+    let predicted = whole::quotient_2048(q);
+    narrowed((sample as i32) - predicted)
 }
 
-// The one of larger magnitude, d among equals.
-fn larger_magnitude(d: i16, e: i16) -> i16
-    ensures { λ r. ⌜ r ≡ largerMagnitude d e ⌝ }
+// The ends of the fourteen differences, two places a turn: 0 to 7 beside 6 to 13, so that 6 and 7 are looked at twice.
+fn ends_of(c0: i16, c1: i16, frame: &[i16; 18]) -> Ends
+    requires { ⌜ Bounded c0 c1 ⌝ }
+    ensures { λ r. ⌜ r ≡ endsOf c0 c1 (now (frame .entry)) ⌝ }
 {
-    if magnitude(d as i64) < magnitude(e as i64) {
-        return e;
-    }
-    d
-}
-
-// The difference of largest magnitude over the frame's original samples.
-fn largest_difference(c0: i16, c1: i16, history: History, samples: [i16; 14]) -> i16
-    ensures { λ r. ⌜ r ≡ largestDifference c0 c1 history samples ⌝ }
-{
-    let mut largest: i16 = 0;
-    let mut previous = history.newest;
-    let mut before = history.older;
+    let mut high: i16 = 0;
+    let mut low: i16 = 0;
     let mut i: usize = 0;
-    while i < 14 {
-        let x = samples[i];
-        let d = difference(c0, c1, previous, before, x);
-        if d < -32767 {
-            return d;
-        }
-        largest = larger_magnitude(largest, d);
-        before = previous;
-        previous = x;
+    while i < 8 {
+        let d = difference(c0, c1, frame[i + 1], frame[i], frame[i + 2]);
+        let e = difference(c0, c1, frame[i + 7], frame[i + 6], frame[i + 8]);
+        high = higher(higher(high, d), e);
+        low = lower(lower(low, d), e);
         i = i + 1;
     }
-    largest
+    Ends {
+        high: high,
+        low: low,
+    }
 }
 
-// Whether z is within -8..7.
-fn is_small(z: i16) -> bool
-    ensures { λ r. ⌜ r ≡ isSmall z ⌝ }
+// The exponent of a largest difference m, not negative.
+fn exponent(m: u32) -> u8
+    requires { ⌜ m ≤ 32768 ⌝ }
+    ensures { λ r. ⌜ r ≡ exponentOf (halvings (pos m)) ⌝ }
 {
-    -9 < z && z < 8
+    (28 - u32::leading_zeros(m | 15)) as u8
 }
 
-// How often d is halved until it is small.
-fn halvings(d: i16) -> u8
-    ensures { λ r. ⌜ r ≡ halvings d ⌝ }
+// Whether `high` comes before -`high` among the differences.
+fn is_first(c0: i16, c1: i16, frame: &[i16; 18], high: i16) -> bool
+    requires { ⌜ Bounded c0 c1 ⌝ }
+    requires { ⌜ T (nonNeg high) ⌝ }
+    ensures { λ r. ⌜ r ≡ upFirst c0 c1 (now (frame .entry)) (natAbs high) 14 0 ⌝ }
 {
-    let mut z = d;
-    let mut h: u8 = 0;
-    while h < 13 {
-        if is_small(z) {
-            break;
+    let wide = high as i32;
+    let mut i: usize = 0;
+    while i < 14 {
+        let d = difference(c0, c1, frame[i + 1], frame[i], frame[i + 2]) as i32;
+        if d == wide {
+            return true;
         }
-        z = z / 2;
-        h = h + 1;
+        if d == 0 - wide {
+            return false;
+        }
+        i = i + 1;
     }
-    h
+    true
 }
 
-// The exponent of the first pass.
-pub(crate) fn first_exponent(c0: i16, c1: i16, history: History, samples: [i16; 14]) -> u8
-    ensures { λ r. ⌜ r ≡ firstExponent c0 c1 history samples ⌝ }
+// The exponent of the first pass: a negative largest difference -m has that of 8 m / 9.
+pub(crate) fn first_exponent(c0: i16, c1: i16, frame: &[i16; 18]) -> u8
+    requires { ⌜ Bounded c0 c1 ⌝ }
+    requires { ⌜ Padded (now frame) ⌝ }
+    ensures { λ r. ⌜ r ≡ firstExponent c0 c1 (historyOf (now (frame .entry))) (samplesOf (now (frame .entry))) ⌝ }
 {
-    let h = halvings(largest_difference(c0, c1, history, samples));
-    if h == 0 {
-        return 0;
+    let e = ends_of(c0, c1, frame);
+    let high = e.high as i32;
+    let low = 0 - (e.low as i32);
+    let up = exponent(high as u32);
+    let down = exponent(8 * (low as u32) / 9);
+    if up == down {
+        return up;
     }
-    h - 1
+    if high < low {
+        return down;
+    }
+    if low < high {
+        return up;
+    }
+    if is_first(c0, c1, frame, e.high) {
+        return up;
+    }
+    down
 }

@@ -7,16 +7,18 @@ ghost use Rattle.frame.specs.Frame.{code, coefficientsOk, encodeFrame, e
 
 mod choice;
 mod estimate;
-mod lane;
-mod lanes;
+mod narrow;
 mod nibbles;
 mod pass;
+mod places;
 mod quantise;
+mod quick;
 mod search;
+mod seen;
 
 use choice::choose;
 use nibbles::pack_frame;
-use quantise::magnitude;
+use quantise::magnitudes;
 use whole::History;
 
 // A frame's eight bytes, the passes over all eight candidates, and the samples that the bytes play.
@@ -49,7 +51,7 @@ pub struct OneFrame {
 fn pair_ok(c0: i16, c1: i16) -> bool
     ensures { λ r. ⌜ r ≡ pairOk c0 c1 ⌝ }
 {
-    magnitude(c0 as i64) + magnitude(c1 as i64) <= 61440
+    magnitudes(c0, c1) <= 61440
 }
 
 // Whether every pair is within the limit of code 7.
@@ -75,14 +77,14 @@ pub fn encode_frame(history: History, samples: [i16; 14], coefficients: [i16; 16
     requires { ⌜ AllBounded coefficients ⌝ }
     ensures { λ r. ⌜ r ≡ encodeFrame history samples coefficients ⌝ }
 {
-    let best = choose(history, samples, coefficients);
-    let candidate = best.candidate;
+    let held = choose(history, samples, coefficients);
+    let candidate = held.candidate;
     let nibbles = candidate.nibbles;
     let kept = candidate.samples;
-    let bytes = pack_frame(best.index * 16 + candidate.exponent, nibbles);
+    let bytes = pack_frame(held.index * 16 + candidate.exponent, nibbles);
     EncodedFrame {
         bytes: bytes,
-        passes: best.passes,
+        passes: held.passes,
         samples: kept,
     }
 }

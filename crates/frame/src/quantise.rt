@@ -1,6 +1,6 @@
 // From D to the number that is clamped to a nibble, in whole numbers.
 ghost use mathlib.Core.Path.{_≡_};
-ghost use Prim.Native.Nat.{_<_, _≤_, _*_, _^_};
+ghost use Prim.Native.Nat.{_+_, _<_, _≤_, _*_, _^_};
 ghost use lib.Ieee.Nearest.{closest};
 ghost use lib.IntN.{natAbs, _-ℤ_};
 ghost use Rattle.frame.specs.Quantise.{round24, scale, nearestDown, withSign, quantise, clamp4};
@@ -14,6 +14,13 @@ pub(crate) fn magnitude(z: i64) -> u64
         return (0 - z) as u64;
     }
     z as u64
+}
+
+// |a| + |b|.
+pub(crate) fn magnitudes(a: i16, b: i16) -> u64
+    ensures { λ r. ⌜ r ≡ natAbs a + natAbs b ⌝ }
+{
+    magnitude(a as i64) + magnitude(b as i64)
 }
 
 // n with the sign of z.

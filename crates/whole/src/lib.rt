@@ -32,7 +32,7 @@ pub fn clamp_i16(x: i64) -> i16
 }
 
 // x / 2048, rounded towards zero.
-pub fn quotient_2048(x: i64) -> i64
+pub fn quotient_2048(x: i32) -> i32
     ensures { λ r. ⌜ r ≡ towardsZero x 2048 ⌝ }
 {
     x / 2048

@@ -1,21 +1,22 @@
 -- `code_sample` meets its contract: each value of the code with its number and its size.
 use borrow.Author.Needs.{needs}
-use mathlib.Core.Path.{_≡_, refl, sym, ap, _∙_}
-use Prim.Native.Nat.{ℕ, _*_, _^_, _≤_}
+use mathlib.Core.Path.{sym, ap, _∙_}
+use Prim.Native.Nat.{ℕ, _^_, _≤_}
 use native.Mathlib.Omega.{arith}
 use lib.Pow.{pow-mono}
 use lib.IntN.{ℤ, pos, natAbs, _+ℤ_, _-ℤ_, _*ℤ_}
 use lib.Signed.{shrZ}
 use mir.Syntax.{w8, w16, w64}
-use mir.Val.{SFits, toZ, ofZ}
+use mir.Val.{toZ, ofZ}
 use mir.Facts.{toZ-ofZ}
 use Rattle.whole.specs.Whole.{clamp16, floored}
-use Rattle.whole.proofs.SignedLocals.{Is, is-16, is-in, is-lit, is-call, is-mul, chk-mul, is-add, chk-add, is-sub, chk-sub, is-shr, is-cast, chk-cast, is-size, is-le}
+use Rattle.whole.proofs.SignedLocals.{Is, is-16, is-in, is-lit, is-call, is-mul, chk-mul, is-add, chk-add, is-sub, chk-sub, is-shr, is-cast, chk-cast, is-size}
 use Rattle.frame.specs.Estimate.{weigh}
 use Rattle.frame.specs.Quantise.{quantise, clamp4}
 use Rattle.frame.specs.Pass.{residual, codeSample}
 use Rattle.frame.proofs.LawsQuantise.{quantise-size, clamp4-size}
-use Rattle.frame.proofs.LawsPass.{weigh-size, residual-size, reconstruct-played}
+use Rattle.frame.proofs.LawsEstimate.{weigh-size}
+use Rattle.frame.proofs.LawsPass.{reconstruct-played}
 use Rattle.frame.proofs.pass.code_sample.Statement.{statement}
 use Rattle.frame.proofs.pass.code_sample.Tie as tie
 

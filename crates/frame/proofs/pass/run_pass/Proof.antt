@@ -1,16 +1,15 @@
 -- `run_pass` meets its contract. The invariant: what is carried after i samples is what the definition has after i.
-use mathlib.Core.Path.{_≡_, refl, sym, ap, _∙_}
-use Prim.Native.Nat.{ℕ, _+_, _-_, _*_, _<_, _≤_}
+use mathlib.Core.Path.{_≡_, refl, ap, _∙_}
+use Prim.Native.Nat.{ℕ, _-_, _*_, _≤_}
 use native.Mathlib.Omega.{arith}
-use lib.ListN.{length, take, getD, set, length-set}
-use lib.IntN.{ℤ, pos}
+use lib.ListN.{length, take, getD, length-set}
+use lib.IntN.{pos}
 use mir.Syntax.{w8, w16}
 use mir.Val.{SFits, toZ, ofZ}
 use mir.Facts.{toZ-ofZ}
 use Rattle.whole.specs.declared.History.{History}
-use Rattle.frame.specs.declared.pass.Pass.{Pass}
-use Rattle.frame.specs.Pass.{upto, runPass, squaredDifference, codeSample}
-use Rattle.frame.proofs.LawsPass.{carried, carried-more, carried-done, squared-le}
+use Rattle.frame.specs.Pass.{upto, runPass, squaredDifference}
+use Rattle.frame.proofs.LawsPass.{carried, carried-more, carried-done, square-lt}
 use Rattle.frame.proofs.pass.run_pass.Statement.{statement}
 use Rattle.frame.proofs.pass.run_pass.Tie as tie
 
@@ -74,7 +73,7 @@ square-is : (c : tie.After-squared-difference Inv-loop μ-loop) → let l = c .b
 square-is c = rw (toZ-ofZ (x-fits (c .before .before .before .before .before)), toZ-ofZ (sample-fits (c .before .before .before))) at (c .squared-difference .ensures)
 
 square-small : (c : tie.After-squared-difference Inv-loop μ-loop) → c .squared-difference .result ≤ 4294967296
-square-small c = omega (arith, square-is c, squared-le (x-fits (c .before .before .before .before .before)) (sample-fits (c .before .before .before)))
+square-small c = omega (arith, square-is c, square-lt _ _ (x-fits (c .before .before .before .before .before)) (sample-fits (c .before .before .before)))
 
 add-distance : tie.Need-add-distance Inv-loop μ-loop
 add-distance c = omega (arith, square-small c)
