@@ -7,7 +7,7 @@
 #include <stdio.h>
 #include <string.h>
 
-enum { SAMPLES = 20, BLOCK_SIZE = 8, IMAGE = 56 + 2 * 16 + 8 + 1 + 3 };
+enum { SAMPLES = 20, BLOCK_SIZE = 8, IMAGE = 56 + 2 * 16 + 8 + 1 + 3, LOOP_IMAGE = IMAGE + 16, LOOP_START = 5, LOOP_END = 17 };
 
 static const int16_t silence[SAMPLES] = {0}, coefficients[16] = {0}, lowest[16] = {-32768, -32768};
 static const int16_t largest[16] = {-32768, 28672}, outside[16] = {-32768, 28673}; /* 61,440 and 61,441 */
@@ -31,6 +31,7 @@ static verdict of_opening(doilycairn_opening opened) { return (verdict){opened.c
 static verdict of_body(doilycairn_body body) { return (verdict){body.code, body.entry}; }
 static verdict of_playback(doilycairn_playback played) { return (verdict){played.code, played.entry}; }
 static verdict of_part(doilycairn_part part) { return (verdict){part.code, part.entry}; }
+static verdict of_turns(doilycairn_turns turns) { return (verdict){turns.code, turns.entry}; }
 static verdict of_comparison(doilycairn_comparison compared) { return (verdict){compared.code, compared.entry}; }
 
 /* Remembers where a verdict is not what was meant. */
@@ -76,6 +77,25 @@ static void starting(uint8_t *image) {
     expect(DOILYCAIRN_IMAGE_TOO_SHORT, doilycairn_start(SAMPLES, 1, BLOCK_SIZE, 0, coefficients, history, image, IMAGE - 1).code);
 }
 
+/* Starts the clip with a loop. */
+static doilycairn_encoding start_loop(uint32_t start, uint32_t end, uint8_t *image, size_t image_len) {
+    return doilycairn_start_loop(SAMPLES, 1, BLOCK_SIZE, 0, coefficients, history, start, end, image, image_len);
+}
+
+/* Leaves the image of a closed clip with a loop. */
+static void looping(uint8_t *image) {
+    expect(DOILYCAIRN_LOOP_OUTSIDE, start_loop(0, 0, image, LOOP_IMAGE).code);
+    expect(DOILYCAIRN_LOOP_OUTSIDE, start_loop(LOOP_END, LOOP_START, image, LOOP_IMAGE).code);
+    expect(DOILYCAIRN_LOOP_OUTSIDE, start_loop(LOOP_START, SAMPLES + 1, image, LOOP_IMAGE).code);
+    expect(DOILYCAIRN_IMAGE_TOO_SHORT, start_loop(LOOP_START, LOOP_END, image, LOOP_IMAGE - 1).code);
+    doilycairn_encoder encoder = start_loop(LOOP_START, LOOP_END, image, LOOP_IMAGE).encoder;
+    doilycairn_encoder altered = encoder;
+    altered.loop.end = SAMPLES + 1;
+    expect(DOILYCAIRN_INVALID_STATE, doilycairn_feed(altered, silence, 1, image, LOOP_IMAGE).code);
+    doilycairn_encoder fed = doilycairn_feed(encoder, silence, SAMPLES, image, LOOP_IMAGE).encoder;
+    expect(DOILYCAIRN_ACCEPTED, doilycairn_close(fed, image, LOOP_IMAGE).code);
+}
+
 /* Leaves the image of a closed clip. */
 static void feeding(uint8_t *image) {
     doilycairn_encoder encoder = doilycairn_start(SAMPLES, 1, BLOCK_SIZE, 0, coefficients, history, image, IMAGE).encoder;
@@ -118,44 +138,61 @@ static const damage damages[] = {
     {{55, 59}, {DOILYCAIRN_BAD_HEAD, 0}},   /* the head before any entry */
 };
 
-enum { DAMAGES = sizeof damages / sizeof damages[0] };
+/* The loop's entry stands at 88, bodies at 104 and 112. */
+static const damage loop_damages[] = {
+    {{88, 88}, {DOILYCAIRN_BAD_LOOP, 0}},    /* the start is above the end */
+    {{92, 92}, {DOILYCAIRN_BAD_LOOP, 0}},    /* the end is above the sample count */
+    {{97, 97}, {DOILYCAIRN_BAD_LOOP, 0}},    /* the header */
+    {{103, 103}, {DOILYCAIRN_BAD_LOOP, 0}},  /* zero bytes */
+    {{103, 81}, {DOILYCAIRN_BAD_HEADER, 1}}, /* every block before the loop */
+    {{103, 51}, {DOILYCAIRN_BAD_OFFSET, 0}}, /* said to have no loop: its bodies would begin 16 bytes earlier */
+};
 
-static void damage_image(const uint8_t *image, const damage *done, uint8_t *damaged) {
-    memcpy(damaged, image, IMAGE);
-    for (size_t i = 0; i < 2; i++) damaged[done->places[i]] = (uint8_t)(image[done->places[i]] ^ 1);
+/* An image, and the ways to damage it. */
+typedef struct {
+    const uint8_t *image;
+    size_t len;
+    const damage *damages;
+    size_t count;
+} subject;
+
+static void damage_image(const subject *whole, const damage *done, uint8_t *damaged) {
+    memcpy(damaged, whole->image, whole->len);
+    for (size_t i = 0; i < 2; i++) damaged[done->places[i]] = (uint8_t)(whole->image[done->places[i]] ^ 1);
 }
 
 /* The calls on one damaged image, for blocks that there are and for one that there is not, for a sample and for one past the last. */
-static void read_damaged(const uint8_t *damaged, verdict meant) {
+static void read_damaged(const uint8_t *damaged, size_t len, verdict meant) {
     int16_t out[SAMPLES];
-    say(of_opening(doilycairn_open(damaged, IMAGE)));
-    compare(meant, of_opening(doilycairn_open(damaged, IMAGE)));
+    say(of_opening(doilycairn_open(damaged, len)));
+    compare(meant, of_opening(doilycairn_open(damaged, len)));
     for (uint32_t k = 0; k < 3; k++) {
-        compare(meant, of_body(doilycairn_block_body(damaged, IMAGE, k)));
-        compare(meant, of_playback(doilycairn_play(damaged, IMAGE, k, out, SAMPLES)));
+        compare(meant, of_body(doilycairn_block_body(damaged, len, k)));
+        compare(meant, of_playback(doilycairn_play(damaged, len, k, out, SAMPLES)));
     }
-    compare(meant, of_playback(doilycairn_play_all(damaged, IMAGE, out, SAMPLES)));
-    compare(meant, of_part(doilycairn_play_from(damaged, IMAGE, 0, out, SAMPLES)));
-    compare(meant, of_part(doilycairn_play_from(damaged, IMAGE, SAMPLES, out, SAMPLES)));
+    compare(meant, of_playback(doilycairn_play_all(damaged, len, out, SAMPLES)));
+    compare(meant, of_part(doilycairn_play_from(damaged, len, 0, out, SAMPLES)));
+    compare(meant, of_part(doilycairn_play_from(damaged, len, SAMPLES, out, SAMPLES)));
+    compare(meant, of_turns(doilycairn_play_loop(damaged, len, 1, out, 0)));
 }
 
 /* Comparing with the image as it was, in either place, and with every damaged one: the first image is tested first. */
-static void compare_damaged(const uint8_t *image, const uint8_t *damaged, verdict meant) {
-    compare(meant, of_comparison(doilycairn_same(damaged, IMAGE, image, IMAGE)));
-    compare(meant, of_comparison(doilycairn_same(image, IMAGE, damaged, IMAGE)));
-    for (size_t i = 0; i < DAMAGES; i++) {
-        uint8_t other[IMAGE];
-        damage_image(image, &damages[i], other);
-        compare(meant, of_comparison(doilycairn_same(damaged, IMAGE, other, IMAGE)));
+static void compare_damaged(const subject *whole, const uint8_t *damaged, verdict meant) {
+    compare(meant, of_comparison(doilycairn_same(damaged, whole->len, whole->image, whole->len)));
+    compare(meant, of_comparison(doilycairn_same(whole->image, whole->len, damaged, whole->len)));
+    for (size_t i = 0; i < whole->count; i++) {
+        uint8_t other[LOOP_IMAGE];
+        damage_image(whole, &whole->damages[i], other);
+        compare(meant, of_comparison(doilycairn_same(damaged, whole->len, other, whole->len)));
     }
 }
 
-static void reading_damaged(const uint8_t *image) {
-    for (size_t i = 0; i < DAMAGES; i++) {
-        uint8_t damaged[IMAGE];
-        damage_image(image, &damages[i], damaged);
-        read_damaged(damaged, damages[i].meant);
-        compare_damaged(image, damaged, damages[i].meant);
+static void reading_damaged(const subject *whole) {
+    for (size_t i = 0; i < whole->count; i++) {
+        uint8_t damaged[LOOP_IMAGE];
+        damage_image(whole, &whole->damages[i], damaged);
+        read_damaged(damaged, whole->len, whole->damages[i].meant);
+        compare_damaged(whole, damaged, whole->damages[i].meant);
     }
 }
 
@@ -169,6 +206,14 @@ static void reading(const uint8_t *image) {
     expect_no_block(DOILYCAIRN_ACCEPTED, of_part(doilycairn_play_from(image, IMAGE, SAMPLES - 1, out, 0)));
 }
 
+static void playing_loop(const uint8_t *image, const uint8_t *looped) {
+    int16_t out[2 * SAMPLES];
+    size_t room = 2 * (LOOP_END - LOOP_START);
+    expect_no_block(DOILYCAIRN_OUTPUT_TOO_SHORT, of_turns(doilycairn_play_loop(looped, LOOP_IMAGE, 2, out, room - 1)));
+    expect_no_block(DOILYCAIRN_ACCEPTED, of_turns(doilycairn_play_loop(looped, LOOP_IMAGE, 2, out, room)));
+    expect_no_block(DOILYCAIRN_ACCEPTED, of_turns(doilycairn_play_loop(image, IMAGE, 2, out, 0))); /* no loop: no samples */
+}
+
 static void joining(void) {
     static const uint8_t bytes[8] = {0};
     uint8_t out[16];
@@ -176,14 +221,19 @@ static void joining(void) {
 }
 
 int main(void) {
-    uint8_t image[IMAGE];
+    uint8_t image[IMAGE], looped[LOOP_IMAGE];
     measuring();
     one_frame();
     starting(image);
     feeding(image);
+    looping(looped);
     playing_bytes();
     reading(image);
-    reading_damaged(image);
+    playing_loop(image, looped);
+    subject plain = {image, IMAGE, damages, sizeof damages / sizeof damages[0]};
+    subject with_loop = {looped, LOOP_IMAGE, loop_damages, sizeof loop_damages / sizeof loop_damages[0]};
+    reading_damaged(&plain);
+    reading_damaged(&with_loop);
     joining();
     return wrong;
 }

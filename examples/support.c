@@ -27,6 +27,8 @@ static const char *message_of(uint32_t code) {
     case DOILYCAIRN_BAD_OFFSET: return "the entry's offset is not where the block's body begins";
     case DOILYCAIRN_BAD_LENGTH: return "the entry's length or its zero bytes are wrong";
     case DOILYCAIRN_BAD_HEADER: return "the entry's predictor-and-scale is not the body's first byte";
+    case DOILYCAIRN_LOOP_OUTSIDE: return "the loop's start is not below its end, or its end is above the sample count";
+    case DOILYCAIRN_BAD_LOOP: return "the loop's entry is wrong: its start or end, its header or its zero bytes";
     default: return "a code that this program does not know";
     }
 }

@@ -117,6 +117,7 @@ if [ "$(od -An -v -tx1 shown | tr -d ' \n')" != "$shown" ]; then
     exit 1
 fi
 
+expect 0 "$bin/loop"
 expect 0 "$bin/undo"
 expect 0 "$bin/floating"
 expect 0 "$bin/round_trip"

@@ -29,7 +29,7 @@ int main(void) {
     for (int i = 0; i < FIRST; i++) first[i] = (int16_t)(i * 7 % 900);
     for (int i = 0; i < SECOND; i++) second[i] = (int16_t)(-i * 31 % 5000), better[i] = (int16_t)(i * 3 % 700);
 
-    doilycairn_encoder kept = begin(image); /* to undo is to keep this: 92 bytes */
+    doilycairn_encoder kept = begin(image); /* to undo is to keep this: 112 bytes */
     doilycairn_encoder later = feed(kept, second, SECOND, image);
     check("close", doilycairn_close(later, image, ROOM).code);
 

@@ -20,15 +20,15 @@
  * that state left it. No call can test that they do. With another store the coefficients are those of whatever numbers stand
  * there; each c0 is then within +-4,096 and each c1 within +-2,048, or is -32,768 where a NaN stood in the store, or an infinity or a
  * huge number that makes one. Starting takes such a -32,768, and refuses it by 7 only where both of a pair are: where others wrote
- * the store, look for it before starting. With another image the frames go to the places that the state's own total, block and
+ * the store, look for it before starting. With another image the frames go to the places that the state's own total, block, loop and
  * fed tell, within the image size of that state, and neither head nor table is written again: the image may open and play
  * something else, or may not open.
  *
  * Code 1 finds a state whose numbers contradict each other, and no more. A state that was forged or altered and passes (another
- * history, another frame, fewer records or passes, more samples fed) is taken at its word. No call then reads or
- * writes outside its buffers, and each still answers as its definition says of that state; but what comes out is no clip's, and
- * closing may leave an image that opens. `closed` is 0 or 1; a state that was read from a file or a network needs that tested
- * before it is a bool, since any other byte there is undefined behaviour in C and here.
+ * history, another frame, another loop or context for it, fewer records or passes, more samples fed) is taken at its word. No call then
+ * reads or writes outside its buffers, and each still answers as its definition says of that state; but what comes out is no clip's, and
+ * closing may leave an image that opens. `closed` and the loop's `present` are 0 or 1; a state that was read from a file or a network
+ * needs that tested before they are bools, since any other byte there is undefined behaviour in C and here.
  *
  * Buffers are lent for the length of the call. A length counts elements (samples, numbers or bytes). Pointers are not NULL, not even
  * where the length is 0 (as the data() of an empty std::vector may be), and are aligned for their type. A buffer that a call
@@ -77,20 +77,22 @@ enum doilycairn_code {
     DOILYCAIRN_RATE_ZERO = 5,           /* starting: rate 0 */
     DOILYCAIRN_BAD_BLOCK_SIZE = 6,      /* starting: block size below 8 or above 65,536 */
     DOILYCAIRN_COEFFICIENT_OUTSIDE = 7, /* starting, one frame: |c0| + |c1| above 61,440 in a pair */
-    DOILYCAIRN_IMAGE_TOO_SHORT = 8,     /* starting, feeding, closing: fewer bytes than doilycairn_image_size says */
+    DOILYCAIRN_IMAGE_TOO_SHORT = 8,     /* starting, feeding, closing: fewer bytes than doilycairn_image_size says, with a loop doilycairn_loop_image_size */
     DOILYCAIRN_ALREADY_CLOSED = 9,      /* feeding, closing: the clip is closed */
     DOILYCAIRN_PIECE_TOO_LONG = 10,     /* feeding: more samples than the clip still lacks */
     DOILYCAIRN_UNFINISHED = 11,         /* closing: the clip still lacks samples */
     DOILYCAIRN_LENGTH_OUT_OF_RANGE = 12,/* playing bytes: 0 nibbles, or more than two for each byte */
     DOILYCAIRN_LOWEST_PAIR = 13,        /* playing, comparing: a pair of coefficients is -32,768 twice */
-    DOILYCAIRN_OUTPUT_TOO_SHORT = 14,   /* playing bytes, a block or all, joining: the output is too short */
+    DOILYCAIRN_OUTPUT_TOO_SHORT = 14,   /* playing bytes, a block, all or the loop, joining: the output is too short */
     DOILYCAIRN_BAD_HEAD = 15,           /* an image: its first 56 bytes are not a clip's, or bytes are missing */
     DOILYCAIRN_NO_SUCH_BLOCK = 17,      /* an image: the block's number is not below the count of blocks */
     DOILYCAIRN_COEFFICIENTS_DIFFER = 18,/* joining: the two blocks have different coefficients */
     DOILYCAIRN_NO_SUCH_SAMPLE = 19,     /* an image: the number of the first sample to play is not below the count of samples */
     DOILYCAIRN_BAD_OFFSET = 20,         /* an image: an entry's offset is not where its block's body begins */
     DOILYCAIRN_BAD_LENGTH = 21,         /* an image: an entry's length is not its block's, or its two zero bytes are not zero */
-    DOILYCAIRN_BAD_HEADER = 22          /* an image: an entry's predictor-and-scale is not the first byte of its block's body */
+    DOILYCAIRN_BAD_HEADER = 22,         /* an image: an entry's predictor-and-scale is not the first byte of its block's body */
+    DOILYCAIRN_LOOP_OUTSIDE = 23,       /* starting with a loop: its start is not below its end, or its end is above the sample count */
+    DOILYCAIRN_BAD_LOOP = 24            /* an image: its loop's start and end break that rule, or its header byte or zero bytes are not as they should be */
 };
 
 /* ---- States and values ---- */
@@ -108,6 +110,19 @@ typedef struct {
     int16_t history[28]; /* the frame before, and the frame that is not yet full */
 } doilycairn_calculator;
 
+/* What playing carries from frame to frame. */
+typedef struct {
+    uint16_t predictor_and_scale; /* a frame's header: the pair's index x 16 + the scale's exponent */
+    int16_t last_samples[2];      /* the newest sample, and the one before it */
+} doilycairn_context;
+
+/* A loop: from sample `start` up to, not including, sample `end`. All zeros: no loop. */
+typedef struct {
+    uint32_t start;
+    uint32_t end; /* the sample after the last */
+    bool present; /* 0 or 1, no other byte; 0: no loop, and start and end are not looked at */
+} doilycairn_loop;
+
 /* The encoding state. The image lies in the buffer that the caller lends to each call. */
 typedef struct {
     uint32_t total; /* samples of the whole clip */
@@ -120,13 +135,9 @@ typedef struct {
     int16_t frame[14]; /* the frame that is not yet full */
     uint32_t passes;   /* of the scale search, over all frames so far */
     bool closed;       /* 0 or 1, no other byte */
+    doilycairn_loop loop;
+    doilycairn_context loop_context; /* what the loop is played from; zeros until the frame that holds its start is encoded */
 } doilycairn_encoder;
-
-/* What playing carries from frame to frame. */
-typedef struct {
-    uint16_t predictor_and_scale; /* a frame's header: the pair's index x 16 + the scale's exponent */
-    int16_t last_samples[2];      /* the newest sample, and the one before it */
-} doilycairn_context;
 
 /* What the head of an image says. */
 typedef struct {
@@ -167,6 +178,8 @@ typedef struct {
     uint32_t code;
     uint32_t entry;       /* with 20, 21, 22: the number of the block whose entry is bad; else 0 */
     doilycairn_head head; /* refused: zeros */
+    doilycairn_loop loop; /* refused, or without a loop: zeros */
+    doilycairn_context loop_context; /* what the loop is played from; refused, or without a loop: zeros */
 } doilycairn_opening;
 
 typedef struct {
@@ -194,6 +207,12 @@ typedef struct {
 
 typedef struct {
     uint32_t code;
+    uint32_t entry;   /* with 20, 21, 22: the number of the block whose entry is bad; else 0 */
+    uint64_t samples; /* written to the output, of all turns together; refused: 0 */
+} doilycairn_turns;
+
+typedef struct {
+    uint32_t code;
     uint32_t entry; /* with 20, 21, 22: the number of the block whose entry is bad; else 0 */
     bool same;      /* refused: false */
 } doilycairn_comparison;
@@ -208,8 +227,11 @@ typedef struct {
 /* Numbers that the store needs for measuring `samples` samples: two for each frame of 14, the last one counted whole. */
 uint64_t doilycairn_store_size(uint32_t samples);
 
-/* Bytes of the image of a clip of `total` samples; 0 where starting would refuse by 4 or 6. */
+/* Bytes of the image of a clip of `total` samples without a loop; 0 where starting would refuse by 4 or 6. */
 uint64_t doilycairn_image_size(uint32_t total, uint32_t block_size);
+
+/* The same for a clip with a loop: 16 more; 0 where starting would refuse by 4 or 6. */
+uint64_t doilycairn_loop_image_size(uint32_t total, uint32_t block_size);
 
 /* ---- Measuring: from samples to sixteen coefficients ---- */
 
@@ -239,7 +261,8 @@ doilycairn_finished doilycairn_finish(doilycairn_calculator calculator, double *
 doilycairn_frame doilycairn_encode_frame(doilycairn_history history, const int16_t samples[14], const int16_t coefficients[16]);
 
 /*
- * Starts a clip of `total` samples: writes the doilycairn_image_size(total, block_size) bytes of its image, with zeros for the mark, contexts and bodies.
+ * Starts a clip of `total` samples without a loop: writes the doilycairn_image_size(total, block_size) bytes of its image, with zeros for the mark,
+ * contexts and bodies.
  * `coefficients`: as measured, or brought from elsewhere, such as an older bank.
  * `image`: at least that many bytes, the same buffer for all calls of a run; bytes after them are never touched.
  * Refused by 4, 5, 6, 7, 8.
@@ -248,14 +271,25 @@ doilycairn_encoding doilycairn_start(uint32_t total, uint32_t rate, uint32_t blo
                                      doilycairn_history history, uint8_t *image, size_t image_len);
 
 /*
+ * Starts a clip with a loop, from sample `loop_start` up to, not including, sample `loop_end`; all else is as in doilycairn_start. The image has
+ * doilycairn_loop_image_size(total, block_size) bytes: its head says that there is a loop, and after the entries of the blocks stands one for the
+ * loop, which is zeros until closing. Frames, contexts of blocks and passes are those of the clip without a loop.
+ * Refused by 4, 5, 6, 7, 23, 8; by 23 with a loop of no samples, 0 and 0 too: without a loop a clip is started by doilycairn_start.
+ */
+doilycairn_encoding doilycairn_start_loop(uint32_t total, uint32_t rate, uint32_t block_size, uint16_t gain, const int16_t coefficients[16],
+                                          doilycairn_history history, uint32_t loop_start, uint32_t loop_end, uint8_t *image,
+                                          size_t image_len);
+
+/*
  * Feeds a piece, of any length: the next samples of the clip. Each frame that it fills is encoded to its place, and a block's first frame fills
- * its entry's context; no other byte is written.
+ * its entry's context; no other byte is written. The frame that holds the loop's start fills the state's `loop_context`.
  * Refused by 1, 8, 9, 10.
  */
 doilycairn_encoding doilycairn_feed(doilycairn_encoder encoder, const int16_t *piece, size_t piece_len, uint8_t *image, size_t image_len);
 
 /*
- * Closes the clip, once all its samples are fed: encodes a short last frame and writes the mark. Then the image opens.
+ * Closes the clip, once all its samples are fed: encodes a short last frame, and writes the entry of its loop, if it has one, and the mark. Then the
+ * image opens.
  * Refused by 1, 8, 9, 11.
  */
 doilycairn_encoding doilycairn_close(doilycairn_encoder encoder, uint8_t *image, size_t image_len);
@@ -269,28 +303,35 @@ doilycairn_encoding doilycairn_close(doilycairn_encoder encoder, uint8_t *image,
  *
  * 20, 21 and 22 speak of one entry of the table, and `entry` is the number of its block. After the head (15) the entries are tested in rising
  * order, block 0's first, each by 20, 21 and 22 in that sequence; the first bad one is named, and nothing is said of those after it. With 22 it
- * may be the first byte of the body that is damaged, and not the entry. Beside every other code `entry` is 0 and names no block.
+ * may be the first byte of the body that is damaged, and not the entry.
+ *
+ * 24 speaks of the loop's entry, which is tested after those of all blocks: for its start and end, then for its header, which is the first byte of the
+ * frame that holds the start (and it may be that byte that is damaged), and its two zero bytes. The two samples in it may be any. Beside 24, as beside
+ * every other code but 20, 21 and 22, `entry` is 0 and names no block.
  */
 
-/* Opens an image: tests its head and table, and gives what the head says. Bytes after the image are allowed. Refused by 15, 20, 21, 22. */
+/*
+ * Opens an image: tests its head and table, and gives what the head says, and the loop if there is one. Bytes after the image are allowed.
+ * Refused by 15, 20, 21, 22, 24.
+ */
 doilycairn_opening doilycairn_open(const uint8_t *image, size_t image_len);
 
 /*
  * Where the body of block `k` stands in the image, at image + offset, and what it is played from: doilycairn_play_bytes plays it with its bytes, its
- * nibbles, its context and the head's coefficients, and tests no table. Refused by 15, 20, 21, 22, 17.
+ * nibbles, its context and the head's coefficients, and tests no table. Refused by 15, 20, 21, 22, 24, 17.
  */
 doilycairn_body doilycairn_block_body(const uint8_t *image, size_t image_len, uint32_t k);
 
 /*
  * Plays block `k` from its own context. `out`: at least doilycairn_address_to_sample(nibbles) samples, for the block's nibbles; a block
- * has at most block / 8 * 14 samples. Refused by 15, 20, 21, 22, 17, 13, 14; the context is then zeros.
+ * has at most block / 8 * 14 samples. Refused by 15, 20, 21, 22, 24, 17, 13, 14; the context is then zeros.
  */
 doilycairn_playback doilycairn_play(const uint8_t *image, size_t image_len, uint32_t k, int16_t *out, size_t out_len);
 
 /*
  * Plays the whole clip: blocks 0 to K - 1, each from its own context, one after the other. The head and the table are tested once.
  * `out`: at least as many samples as the clip has (`total` of its head); later ones are kept. The context is the one after the last sample.
- * Refused by 15, 20, 21, 22, 13, 14; the context is then zeros.
+ * Refused by 15, 20, 21, 22, 24, 13, 14; the context is then zeros.
  */
 doilycairn_playback doilycairn_play_all(const uint8_t *image, size_t image_len, int16_t *out, size_t out_len);
 
@@ -302,13 +343,22 @@ doilycairn_playback doilycairn_play_all(const uint8_t *image, size_t image_len, 
  * To go on, call again with first + samples, as long as that is below the clip's `total`: a part cut in two is its parts in turn.
  * The head, every entry of the table and the first byte of every body are tested each time, so the time grows with K too. Of the blocks before
  * the first sample's own nothing else is read; of its own block, what comes before the sample is played and dropped.
- * Refused by 15, 20, 21, 22, 13, 19, with an empty output too; `samples` and `blocks` are then 0.
+ * Refused by 15, 20, 21, 22, 24, 13, 19, with an empty output too; `samples` and `blocks` are then 0.
  */
 doilycairn_part doilycairn_play_from(const uint8_t *image, size_t image_len, uint32_t first, int16_t *out, size_t out_len);
 
 /*
- * Whether two images have equally many samples and play the same ones. Rate and gain do not count, nor do coefficients, block size and the
- * bytes: compare the heads too where these matter. Refused by 15, 20, 21, 22, 13 of the first, then of the second.
+ * Plays the loop `times` times over, one turn after the other. Each turn begins from the context stored for the loop, and each later block from its
+ * own. Of an image made by starting, feeding and closing these are the samples that doilycairn_play_all plays from the loop's start to its end, over and
+ * over; into smaller outputs doilycairn_play_from plays the same ones there.
+ * `out`: at least times x (end - start) samples, counted in 64 bits; later ones are kept. An image without a loop, or `times` 0, gives none and is
+ * not refused for that. Refused by 15, 20, 21, 22, 24, 13, 14; `samples` is then 0.
+ */
+doilycairn_turns doilycairn_play_loop(const uint8_t *image, size_t image_len, uint32_t times, int16_t *out, size_t out_len);
+
+/*
+ * Whether two images have equally many samples and play the same ones. Rate and gain do not count, nor do coefficients, block size, the loop
+ * and the bytes: compare what doilycairn_open gives too where these matter. Refused by 15, 20, 21, 22, 24, 13 of the first, then of the second.
  * `entry` is of the first image if that one is refused, else of the second: with 20, 21, 22 it is of the first unless that one opens, as one
  * doilycairn_open tells.
  */
@@ -347,7 +397,14 @@ DOILYCAIRN_CHECK(sizeof(doilycairn_calculator) == 64);
 DOILYCAIRN_CHECK(offsetof(doilycairn_calculator, records) == 4);
 DOILYCAIRN_CHECK(offsetof(doilycairn_calculator, history) == 8);
 
-DOILYCAIRN_CHECK(sizeof(doilycairn_encoder) == 92);
+DOILYCAIRN_CHECK(sizeof(doilycairn_context) == 6);
+DOILYCAIRN_CHECK(offsetof(doilycairn_context, last_samples) == 2);
+
+DOILYCAIRN_CHECK(sizeof(doilycairn_loop) == 12);
+DOILYCAIRN_CHECK(offsetof(doilycairn_loop, end) == 4);
+DOILYCAIRN_CHECK(offsetof(doilycairn_loop, present) == 8);
+
+DOILYCAIRN_CHECK(sizeof(doilycairn_encoder) == 112);
 DOILYCAIRN_CHECK(offsetof(doilycairn_encoder, rate) == 4);
 DOILYCAIRN_CHECK(offsetof(doilycairn_encoder, block) == 8);
 DOILYCAIRN_CHECK(offsetof(doilycairn_encoder, gain) == 12);
@@ -357,9 +414,8 @@ DOILYCAIRN_CHECK(offsetof(doilycairn_encoder, history) == 52);
 DOILYCAIRN_CHECK(offsetof(doilycairn_encoder, frame) == 56);
 DOILYCAIRN_CHECK(offsetof(doilycairn_encoder, passes) == 84);
 DOILYCAIRN_CHECK(offsetof(doilycairn_encoder, closed) == 88);
-
-DOILYCAIRN_CHECK(sizeof(doilycairn_context) == 6);
-DOILYCAIRN_CHECK(offsetof(doilycairn_context, last_samples) == 2);
+DOILYCAIRN_CHECK(offsetof(doilycairn_encoder, loop) == 92);
+DOILYCAIRN_CHECK(offsetof(doilycairn_encoder, loop_context) == 104);
 
 DOILYCAIRN_CHECK(sizeof(doilycairn_head) == 52);
 DOILYCAIRN_CHECK(offsetof(doilycairn_head, rate) == 4);
@@ -380,12 +436,14 @@ DOILYCAIRN_CHECK(offsetof(doilycairn_frame, bytes) == 4);
 DOILYCAIRN_CHECK(offsetof(doilycairn_frame, passes) == 12);
 DOILYCAIRN_CHECK(offsetof(doilycairn_frame, history) == 16);
 
-DOILYCAIRN_CHECK(sizeof(doilycairn_encoding) == 96);
+DOILYCAIRN_CHECK(sizeof(doilycairn_encoding) == 116);
 DOILYCAIRN_CHECK(offsetof(doilycairn_encoding, encoder) == 4);
 
-DOILYCAIRN_CHECK(sizeof(doilycairn_opening) == 60);
+DOILYCAIRN_CHECK(sizeof(doilycairn_opening) == 80);
 DOILYCAIRN_CHECK(offsetof(doilycairn_opening, entry) == 4);
 DOILYCAIRN_CHECK(offsetof(doilycairn_opening, head) == 8);
+DOILYCAIRN_CHECK(offsetof(doilycairn_opening, loop) == 60);
+DOILYCAIRN_CHECK(offsetof(doilycairn_opening, loop_context) == 72);
 
 DOILYCAIRN_CHECK(sizeof(doilycairn_body) == 28);
 DOILYCAIRN_CHECK(offsetof(doilycairn_body, entry) == 4);
@@ -403,6 +461,10 @@ DOILYCAIRN_CHECK(sizeof(doilycairn_part) == 24);
 DOILYCAIRN_CHECK(offsetof(doilycairn_part, entry) == 4);
 DOILYCAIRN_CHECK(offsetof(doilycairn_part, samples) == 8);
 DOILYCAIRN_CHECK(offsetof(doilycairn_part, blocks) == 16);
+
+DOILYCAIRN_CHECK(sizeof(doilycairn_turns) == 16);
+DOILYCAIRN_CHECK(offsetof(doilycairn_turns, entry) == 4);
+DOILYCAIRN_CHECK(offsetof(doilycairn_turns, samples) == 8);
 
 DOILYCAIRN_CHECK(sizeof(doilycairn_comparison) == 12);
 DOILYCAIRN_CHECK(offsetof(doilycairn_comparison, entry) == 4);

@@ -36,6 +36,7 @@ pub mod library {
             gain: 0,
             coefficients: Coefficients(*coefficients),
             history: History::default(),
+            looped: None,
         };
         let encoder = EncoderState::start(&start, &mut image).unwrap();
         encoder.feed(clip, &mut image).unwrap().close(&mut image).unwrap();

@@ -173,8 +173,15 @@ fn main() -> Answer<()> {
     println!("  the coefficients are those of one piece");
 
     println!("Encoded, in blocks of {BLOCK_SIZE} bytes:");
-    let (total, history) = (clip.len() as u32, History::default());
-    let start = Start { total, rate: RATE, block_size: BLOCK_SIZE, gain: 0, coefficients, history };
+    let start = Start {
+        total: clip.len() as u32,
+        rate: RATE,
+        block_size: BLOCK_SIZE,
+        gain: 0,
+        coefficients,
+        history: History::default(),
+        looped: None,
+    };
     let bytes = encode(&clip, &start)?;
     ensure(bytes == encode_whole(&clip, &start)?, "the image is that of one piece")?;
     println!("  the image is that of one piece, byte for byte: {} bytes", bytes.len());

@@ -67,14 +67,15 @@ fn main() -> Result<(), Box<dyn Error>> {
         gain: 0,
         coefficients: coefficients(&mut random),
         history: History::default(),
+        looped: None,
     };
     let mut encoder = Encoder::start(&start)?;
     encoder.feed(&clip)?;
     encoder.close()?;
     let bytes = encoder.into_parts().1;
     let image = Image::open(&bytes)?;
-    let bodies = &bytes[56 + 16 * image.head().blocks as usize..];
-    std::fs::write(genh, container(&start.coefficients, start.rate, start.total, bodies))?;
+    let bodies: Vec<u8> = image.blocks().flat_map(|block| block.bytes).copied().collect();
+    std::fs::write(genh, container(&start.coefficients, start.rate, start.total, &bodies))?;
     let played: Vec<u8> = image.play()?.iter().flat_map(|sample| sample.to_le_bytes()).collect();
     std::fs::write(raw, played)?;
     Ok(())

@@ -14,8 +14,15 @@ pub fn peak(image: &Image, k: u32, count: u32) -> Result<u16, Refusal> {
 
 /// A ramp's meter.
 pub fn main() -> Result<(), Refusal> {
-    let (history, coefficients) = (History::default(), Coefficients([0; 16]));
-    let start = Start { total: 28, rate: 32_000, block_size: 8, gain: 0, coefficients, history };
+    let start = Start {
+        total: 28,
+        rate: 32_000,
+        block_size: 8,
+        gain: 0,
+        coefficients: Coefficients([0; 16]),
+        history: History::default(),
+        looped: None,
+    };
     let mut encoder = Encoder::start(&start)?;
     encoder.feed(&std::array::from_fn::<i16, 28, _>(|i| 100 * i as i16))?;
     encoder.close()?;

@@ -30,6 +30,7 @@ fn encode(clip: &[i16], block_size: u32) -> Result<Vec<u8>, Box<dyn Error>> {
         gain: 0,
         coefficients: measure.coefficients()?,
         history: History::default(),
+        looped: None,
     };
     let mut encoder = Encoder::start(&start)?;
     for piece in clip.chunks(1013) {

@@ -54,8 +54,15 @@ impl Editor {
 }
 
 fn encode(clip: &[i16], coefficients: Coefficients) -> Result<Vec<u8>, Refusal> {
-    let (total, history) = (clip.len() as u32, History::default());
-    let start = Start { total, rate: 32_000, block_size: 1024, gain: 0, coefficients, history };
+    let start = Start {
+        total: clip.len() as u32,
+        rate: 32_000,
+        block_size: 1024,
+        gain: 0,
+        coefficients,
+        history: History::default(),
+        looped: None,
+    };
     let mut encoder = Encoder::start(&start)?;
     encoder.feed(clip)?;
     encoder.close()?;

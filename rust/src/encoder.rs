@@ -1,18 +1,30 @@
 //! Encoding: from samples to an image.
 
-use crate::{Coefficients, History, Refusal, ffi};
+use crate::{Coefficients, FrameContext, History, Loop, LoopState, Refusal, ffi};
 
-/// The bytes of the image of a clip; `None` where starting it would be refused for its sample count or block size.
+/// The bytes of the image of a clip without a loop; `None` where starting it would be refused for its sample count or block size.
 ///
 /// ```
 /// assert_eq!(doilycairn::image_size(15, 8), Some(98));
 /// assert_eq!(doilycairn::image_size(15, 7), None);
 /// ```
 pub fn image_size(total: u32, block_size: u32) -> Option<usize> {
-    match ffi::image_size(total, block_size) {
-        0 => None,
-        size => Some(size as usize),
-    }
+    unless_zero(ffi::image_size(total, block_size))
+}
+
+/// The bytes of the image of a clip with a loop; `None` where starting it would be refused for its sample count or block size.
+///
+/// ```
+/// assert_eq!(doilycairn::loop_image_size(15, 8), Some(98 + 16));
+/// assert_eq!(doilycairn::loop_image_size(15, 7), None);
+/// ```
+pub fn loop_image_size(total: u32, block_size: u32) -> Option<usize> {
+    unless_zero(ffi::loop_image_size(total, block_size))
+}
+
+/// A size; 0 is none.
+fn unless_zero(size: u64) -> Option<usize> {
+    (size > 0).then_some(size as usize)
 }
 
 /// What a clip is started with.
@@ -30,12 +42,17 @@ pub struct Start {
     pub coefficients: Coefficients,
     /// The samples before the clip's first one.
     pub history: History,
+    /// The loop, if the clip has one.
+    pub looped: Option<Loop>,
 }
 
 impl Start {
-    /// The bytes of the clip's image, as [`image_size`] says.
+    /// The bytes of the clip's image, as [`image_size`] says, or [`loop_image_size`] with a loop.
     pub fn image_size(&self) -> Option<usize> {
-        image_size(self.total, self.block_size)
+        match self.looped {
+            None => image_size(self.total, self.block_size),
+            Some(_) => loop_image_size(self.total, self.block_size),
+        }
     }
 }
 
@@ -65,27 +82,34 @@ pub struct EncoderState {
     pub passes: u32,
     /// Whether the clip is closed.
     pub closed: bool,
+    /// The loop, if the clip has one.
+    pub looped: LoopState,
+    /// What the loop is played from; zeros until the frame that holds its start is encoded.
+    pub loop_context: FrameContext,
 }
 
 impl EncoderState {
-    /// Starts a clip: writes its image, with zeros for the mark, contexts and bodies. Bytes after the image are never touched.
+    /// Starts a clip: writes its image, with zeros for the mark, contexts, the loop's entry and bodies. Bytes after the image are never touched.
     pub fn start(start: &Start, image: &mut [u8]) -> Result<Self, Refusal> {
         Self::answer(ffi::start(start, image))
     }
 
-    /// Feeds the next piece: each frame that it fills is encoded to its place.
+    /// Feeds the next piece: each frame that it fills is encoded to its place. The one that holds the loop's start tells the loop's context.
     pub fn feed(self, piece: &[i16], image: &mut [u8]) -> Result<Self, Refusal> {
         Self::answer(ffi::feed(self, piece, image))
     }
 
-    /// Closes the clip: encodes a short last frame and writes the mark.
+    /// Closes the clip: encodes a short last frame, and writes the entry of the loop, if there is one, and the mark.
     pub fn close(self, image: &mut [u8]) -> Result<Self, Refusal> {
         Self::answer(ffi::close(self, image))
     }
 
-    /// The bytes of the clip's image.
+    /// The bytes of the clip's image, as [`image_size`] says, or [`loop_image_size`] with a loop.
     pub fn image_size(&self) -> Option<usize> {
-        image_size(self.total, self.block)
+        match self.looped.present {
+            false => image_size(self.total, self.block),
+            true => loop_image_size(self.total, self.block),
+        }
     }
 
     fn answer(encoding: ffi::Encoding) -> Result<Self, Refusal> {
@@ -107,6 +131,7 @@ impl EncoderState {
 ///     gain: 0,
 ///     coefficients: Coefficients::measure(&clip)?,
 ///     history: History::default(),
+///     looped: None,
 /// };
 /// let mut encoder = Encoder::start(&start)?;
 /// for piece in clip.chunks(77) {

@@ -4,7 +4,10 @@
 //! `layout` compares the two); a slice is passed as its pointer and its length, so the pointer is not null, aligned and has that many
 //! elements; a `&mut` slice overlaps nothing else; the library keeps no pointer, reads and writes only what it was lent and ends.
 
-use crate::{Block, Calculator, Coefficients, EncoderState, FrameContext, Head, History, Start};
+use crate::{
+    Block, Calculator, Coefficients, EncoderState, FrameContext, Head, History, Loop, LoopState,
+    Start,
+};
 
 #[cfg(not(target_arch = "x86_64"))]
 compile_error!("libdoilycairn.a is built for x86-64");
@@ -53,6 +56,8 @@ pub(crate) struct Opening {
     pub code: u32,
     pub entry: u32,
     pub head: Head,
+    pub looped: LoopState,
+    pub loop_context: FrameContext,
 }
 
 #[repr(C)]
@@ -86,6 +91,14 @@ pub(crate) struct Part {
 
 #[repr(C)]
 #[derive(Debug)]
+pub(crate) struct Turns {
+    pub code: u32,
+    pub entry: u32,
+    pub samples: u64,
+}
+
+#[repr(C)]
+#[derive(Debug)]
 pub(crate) struct Comparison {
     pub code: u32,
     pub entry: u32,
@@ -108,6 +121,7 @@ mod raw {
     unsafe extern "C" {
         pub safe fn doilycairn_store_size(samples: u32) -> u64;
         pub safe fn doilycairn_image_size(total: u32, block_size: u32) -> u64;
+        pub safe fn doilycairn_loop_image_size(total: u32, block_size: u32) -> u64;
         pub safe fn doilycairn_address_to_sample(address: u32) -> u64;
         pub safe fn doilycairn_sample_to_address(sample: u32) -> u64;
         pub safe fn doilycairn_new() -> Calculator;
@@ -135,6 +149,18 @@ mod raw {
             gain: u16,
             coefficients: &Coefficients,
             history: History,
+            image: *mut u8,
+            image_len: usize,
+        ) -> Encoding;
+        pub fn doilycairn_start_loop(
+            total: u32,
+            rate: u32,
+            block_size: u32,
+            gain: u16,
+            coefficients: &Coefficients,
+            history: History,
+            loop_start: u32,
+            loop_end: u32,
             image: *mut u8,
             image_len: usize,
         ) -> Encoding;
@@ -172,6 +198,13 @@ mod raw {
             out: *mut i16,
             out_len: usize,
         ) -> Part;
+        pub fn doilycairn_play_loop(
+            image: *const u8,
+            image_len: usize,
+            times: u32,
+            out: *mut i16,
+            out_len: usize,
+        ) -> Turns;
         pub fn doilycairn_same(
             first: *const u8,
             first_len: usize,
@@ -204,8 +237,9 @@ mod raw {
 
 pub(crate) use raw::{
     doilycairn_address_to_sample as address_to_sample, doilycairn_encode_frame as encode_frame,
-    doilycairn_image_size as image_size, doilycairn_new as new,
-    doilycairn_sample_to_address as sample_to_address, doilycairn_store_size as store_size,
+    doilycairn_image_size as image_size, doilycairn_loop_image_size as loop_image_size,
+    doilycairn_new as new, doilycairn_sample_to_address as sample_to_address,
+    doilycairn_store_size as store_size,
 };
 
 #[allow(unsafe_code)]
@@ -223,11 +257,34 @@ pub(crate) fn finish(calculator: Calculator, records: &mut [f64]) -> Finished {
 
 #[allow(unsafe_code)]
 pub(crate) fn start(start: &Start, image: &mut [u8]) -> Encoding {
-    let Start { total, rate, block_size, gain, ref coefficients, history } = *start;
+    if let Some(looped) = start.looped {
+        return start_loop(start, looped, image);
+    }
+    let Start { total, rate, block_size, gain, ref coefficients, history, .. } = *start;
     let (buffer, len) = (image.as_mut_ptr(), image.len());
     // SAFETY: `buffer` and `len` are one slice; the coefficients lie outside it.
     unsafe {
         raw::doilycairn_start(total, rate, block_size, gain, coefficients, history, buffer, len)
+    }
+}
+
+/// Starts a clip with this loop.
+#[allow(unsafe_code)]
+fn start_loop(start: &Start, looped: Loop, image: &mut [u8]) -> Encoding {
+    // SAFETY: the slice is passed with its own length; the coefficients lie outside it.
+    unsafe {
+        raw::doilycairn_start_loop(
+            start.total,
+            start.rate,
+            start.block_size,
+            start.gain,
+            &start.coefficients,
+            start.history,
+            looped.start,
+            looped.end,
+            image.as_mut_ptr(),
+            image.len(),
+        )
     }
 }
 
@@ -275,6 +332,13 @@ pub(crate) fn play_from(image: &[u8], first: u32, out: &mut [i16]) -> Part {
     let (bytes, samples) = (image.as_ptr(), out.as_mut_ptr());
     // SAFETY: both slices are passed with their own lengths; only `out` is written.
     unsafe { raw::doilycairn_play_from(bytes, image.len(), first, samples, out.len()) }
+}
+
+#[allow(unsafe_code)]
+pub(crate) fn play_loop(image: &[u8], times: u32, out: &mut [i16]) -> Turns {
+    let (bytes, samples) = (image.as_ptr(), out.as_mut_ptr());
+    // SAFETY: both slices are passed with their own lengths; only `out` is written.
+    unsafe { raw::doilycairn_play_loop(bytes, image.len(), times, samples, out.len()) }
 }
 
 #[allow(unsafe_code)]

@@ -1,7 +1,8 @@
 //! Reading an image: opening, its blocks, playing, sameness.
 
-use crate::{Block, Coefficients, FrameContext, Played, Refusal, Samples, ffi};
+use crate::{Block, Coefficients, FrameContext, LoopState, Played, Refusal, Samples, ffi};
 
+mod looped;
 mod part;
 
 pub use part::Part;
@@ -51,16 +52,18 @@ pub struct Head {
 pub struct Image<'a> {
     bytes: &'a [u8],
     head: Head,
+    looped: LoopState,
+    loop_context: FrameContext,
 }
 
 impl<'a> Image<'a> {
     /// Opens an image: tests its head and table. Bytes after the image are allowed.
     ///
-    /// Refused by [`BadHead`](Refusal::BadHead), then by the first bad entry of the table, with its block.
+    /// Refused by [`BadHead`](Refusal::BadHead), then by the first bad entry of a block, with its block, then by [`BadLoop`](Refusal::BadLoop).
     pub fn open(bytes: &'a [u8]) -> Result<Self, Refusal> {
-        let opening = ffi::open(bytes);
-        Refusal::check(opening.code, opening.entry)?;
-        Ok(Self { bytes, head: opening.head })
+        let ffi::Opening { code, entry, head, looped, loop_context } = ffi::open(bytes);
+        Refusal::check(code, entry)?;
+        Ok(Self { bytes, head, looped, loop_context })
     }
 
     /// What the head says.
@@ -111,7 +114,7 @@ impl<'a> Image<'a> {
         Ok(out)
     }
 
-    /// Whether the other image has equally many samples and plays the same ones. Rate and gain do not count.
+    /// Whether the other image has equally many samples and plays the same ones. Rate, gain and loop do not count.
     pub fn same(&self, other: &Image) -> Result<bool, Refusal> {
         same(self.bytes, other.bytes)
     }
@@ -139,7 +142,8 @@ impl<'a> Image<'a> {
     }
 }
 
-/// Whether two images have equally many samples and play the same ones, whatever their bytes. Rate, gain, coefficients and block size do not count.
+/// Whether two images have equally many samples and play the same ones, whatever their bytes. Rate, gain, coefficients, block size and loop do
+/// not count.
 ///
 /// A refusal is of the first image if that one is refused, else of the second. Where it names a block ([`Refusal::block`]), it is of the first
 /// unless that one opens.

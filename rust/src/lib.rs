@@ -1,7 +1,8 @@
 //! DSP ADPCM clips, the sound format of the GameCube and the Wii, from samples to blocks and back: safe calls of `libdoilycairn.a`.
 //!
 //! A clip is measured (for its sixteen coefficients), started, fed in pieces of any length and closed; what that leaves is an image,
-//! which opens, plays and compares. It does not matter how the clip is cut into pieces.
+//! which opens, plays and compares. It does not matter how the clip is cut into pieces. A clip may have a [`Loop`], which its image then plays
+//! any number of times over ([`Image::play_loop`]).
 //!
 //! ```
 //! use doilycairn::{Coefficients, Encoder, History, Image, Start};
@@ -14,6 +15,7 @@
 //!     gain: 0,
 //!     coefficients: Coefficients::measure(&clip)?,
 //!     history: History::default(),
+//!     looped: None,
 //! };
 //! let mut encoder = Encoder::start(&start)?;
 //! encoder.feed(&clip[..1234])?;
@@ -26,7 +28,7 @@
 //! ```
 //!
 //! Every call is a function of its arguments; there is no global state, and all types are `Send` and `Sync`. A refused call
-//! gives a [`Refusal`] and alters neither state nor buffer; where an entry of an image's table is bad, the refusal names its block. States
+//! gives a [`Refusal`] and alters neither state nor buffer; where a block's entry in an image's table is bad, the refusal names the block. States
 //! ([`Calculator`], [`EncoderState`]) are plain values: undo is keeping the older one, and going on with the same buffer. What the library's
 //! calls do is proved; this crate passes them slices with their lengths and turns codes into [`Refusal`]s.
 //!
@@ -56,6 +58,7 @@ mod encoder;
 mod ffi;
 mod frame;
 mod image;
+mod loops;
 mod measure;
 mod refusal;
 mod samples;
@@ -64,9 +67,10 @@ pub use block::{
     Block, FrameContext, Played, address_to_sample, join, play_bytes, sample_to_address,
 };
 pub use coefficients::Coefficients;
-pub use encoder::{Encoder, EncoderState, Start, image_size};
+pub use encoder::{Encoder, EncoderState, Start, image_size, loop_image_size};
 pub use frame::{EncodedFrame, History, encode_frame};
 pub use image::{Head, Image, Part, same};
+pub use loops::{Loop, LoopState};
 pub use measure::{Calculator, Measure, Store, store_size};
 pub use refusal::Refusal;
 pub use samples::Samples;

@@ -7,7 +7,7 @@ use std::fmt;
 ///
 /// What is wrong in an image's table is told by [`BadOffset`](Self::BadOffset), [`BadLength`](Self::BadLength) and
 /// [`BadHeader`](Self::BadHeader), with the number of the block whose entry is bad. Entries are tested in rising order, each for
-/// these three in that sequence, and the first bad one is named.
+/// these three in that sequence, and the first bad one is named. After those of the blocks comes the loop's, for [`BadLoop`](Self::BadLoop).
 ///
 /// ```
 /// use doilycairn::{Coefficients, Encoder, History, Image, Refusal, Start};
@@ -19,6 +19,7 @@ use std::fmt;
 ///     gain: 0,
 ///     coefficients: Coefficients([0; 16]),
 ///     history: History::default(),
+///     looped: None,
 /// };
 /// let mut encoder = Encoder::start(&start)?;
 /// encoder.feed(&[0; 15])?;
@@ -52,7 +53,7 @@ pub enum Refusal {
     BadBlockSize,
     /// 7, starting, one frame: |c0| + |c1| above [`MAX_PAIR_SUM`](crate::MAX_PAIR_SUM), 61,440, in a pair.
     CoefficientOutside,
-    /// 8, starting, feeding, closing: the buffer is shorter than the image.
+    /// 8, starting, feeding, closing: the buffer is shorter than the image, the loop's entry counted.
     ImageTooShort,
     /// 9, feeding, closing: the clip is closed.
     AlreadyClosed,
@@ -64,7 +65,7 @@ pub enum Refusal {
     LengthOutOfRange,
     /// 13, playing, comparing: a pair of coefficients is -32,768 twice.
     LowestPair,
-    /// 14, playing bytes, a block or all, joining: the output is too short.
+    /// 14, playing bytes, a block, all or the loop, joining: the output is too short.
     OutputTooShort,
     /// 15, an image: its first 56 bytes are not a clip's, or bytes are missing.
     BadHead,
@@ -89,12 +90,17 @@ pub enum Refusal {
         /// The block whose entry is bad, or whose body is.
         block: u32,
     },
+    /// 23, starting with a loop: its start is not below its end, or its end is above the count of samples.
+    LoopOutside,
+    /// 24, an image: its loop's start and end break the rule of 23, its predictor-and-scale is not the first byte of the frame that holds the
+    /// start, or its two zero bytes are not zero.
+    BadLoop,
 }
 
 impl Refusal {
     /// The number of every refusal, rising.
     pub const NUMBERS: &'static [u32] =
-        &[1, 2, 3, 4, 5, 6, 7, 8, 9, 10, 11, 12, 13, 14, 15, 17, 18, 19, 20, 21, 22];
+        &[1, 2, 3, 4, 5, 6, 7, 8, 9, 10, 11, 12, 13, 14, 15, 17, 18, 19, 20, 21, 22, 23, 24];
 
     /// Its number, the same as in C.
     ///
@@ -124,6 +130,8 @@ impl Refusal {
             Refusal::BadOffset { .. } => 20,
             Refusal::BadLength { .. } => 21,
             Refusal::BadHeader { .. } => 22,
+            Refusal::LoopOutside => 23,
+            Refusal::BadLoop => 24,
         }
     }
 
@@ -169,6 +177,8 @@ impl Refusal {
             20 => Refusal::BadOffset { block },
             21 => Refusal::BadLength { block },
             22 => Refusal::BadHeader { block },
+            23 => Refusal::LoopOutside,
+            24 => Refusal::BadLoop,
             _ => return None,
         })
     }
@@ -198,6 +208,12 @@ impl Refusal {
             Refusal::BadLength { .. } => "the entry's length or its zero bytes are wrong",
             Refusal::BadHeader { .. } => {
                 "the entry's predictor-and-scale is not the body's first byte"
+            }
+            Refusal::LoopOutside => {
+                "the loop's start is not below its end, or its end is above the sample count"
+            }
+            Refusal::BadLoop => {
+                "the loop's entry is wrong: its start or end, its header or its zero bytes"
             }
         }
     }

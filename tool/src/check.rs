@@ -6,13 +6,15 @@ use crate::console::{Console, Words};
 use crate::failure::{Failure, Status};
 use crate::files::{self, Job};
 use crate::findings::{Finding, findings};
+use crate::image_bytes;
 use crate::input::{ImageFile, NO_DSP, is_dsp};
 use crate::json::{Json, path_fields, refusal_fields};
+use crate::loops::{self, Looped};
 use crate::options::{JOBS, flag};
 use crate::paint::{Colour, Paint, Stream};
 use crate::seams::{self, Seam};
 use crate::text::{clip_length, count, counted};
-use doilycairn::{Head, Image, Refusal};
+use doilycairn::{Image, Refusal};
 use std::io::{self, Write};
 
 /// Findings that are told in words.
@@ -25,7 +27,8 @@ pub const COMMAND: Command = Command {
     summary: "whether an image is sound, and else what is wrong",
     about: "Opens and plays the image, or says by number and in words what is wrong, in which block, and which bytes look so. Of an \
         image that plays it also says at which edges of blocks a click may be heard: where a block's stored history is not what the \
-        block before it leaves.",
+        block before it leaves; and whether one may be heard where the loop begins anew: where its stored history is not what is played \
+        before its start.",
     options: &[flag("--strict", "exit status 1 where a click may be heard, too"), JOBS],
     notes: "Exit status 0: it opens and plays. 1: it does not, or with --strict it has a click.",
     run,
@@ -38,37 +41,61 @@ fn run(args: &Args, console: &Console) -> Result<Status, Failure> {
 fn one(args: &Args, job: &Job, console: &Console) -> Result<Status, Failure> {
     let file = ImageFile::read(job.input)?;
     match tested(&file.bytes) {
-        Ok((head, seams)) => sound(job, &file, &head, &seams, args.has("--strict"), console),
+        Ok(sound) => told(job, &file, &sound, args.has("--strict"), console),
         Err(refusal) => damaged(job, &file, refusal, console),
     }
 }
 
+/// An image that opens and plays, and where it may click.
+struct Sound<'a> {
+    image: Image<'a>,
+    seams: Vec<Seam>,
+    looped: Option<Looped>,
+}
+
+/// Opens and plays.
+fn tested(bytes: &[u8]) -> Result<Sound<'_>, Refusal> {
+    let image = Image::open(bytes)?;
+    Ok(Sound { image, seams: seams::seams(&image)?, looped: Looped::of(&image) })
+}
+
+impl Sound<'_> {
+    /// What is said of clicks.
+    fn clicks(&self) -> impl Iterator<Item = String> {
+        let blocks = seams::words(&self.seams, self.image.head().blocks);
+        blocks.into_iter().chain(self.looped.and_then(|looped| looped.click()))
+    }
+}
+
 /// Says that it opens and plays, and where it may click.
-fn sound(
+fn told(
     job: &Job,
     file: &ImageFile,
-    head: &Head,
-    seams: &[Seam],
+    sound: &Sound,
     strict: bool,
     console: &Console,
 ) -> Result<Status, Failure> {
-    let size = doilycairn::image_size(head.total, head.block).unwrap_or(file.bytes.len());
-    let after = file.after(size);
+    let head = sound.image.head();
+    let after = file.after(image_bytes::size(&sound.image));
     let mut fields = path_fields("input", "input_hex", job.input);
     fields.push(("sound", Json::Bool(true)));
     fields.extend(refusal_fields(None));
     fields.extend([
         ("bytes_after", Json::Whole(after as i64)),
-        ("clicks", Json::list(seams.iter().map(Seam::json))),
+        ("loop", sound.looped.map_or(Json::Null, |looped| looped.json(head.rate))),
+        ("clicks", Json::list(sound.seams.iter().map(Seam::json))),
     ]);
-    let status = if strict && !seams.is_empty() { Status::No } else { Status::Done };
+    let no = strict && sound.clicks().next().is_some();
+    let status = if no { Status::No } else { Status::Done };
     console.answer(status, fields, Words::Status, |out| {
         let paint = Paint::of(Stream::Out);
         let clip = clip_length(head.total, head.rate);
         let blocks = counted(head.blocks, "block", "blocks");
         let good = paint.text(Colour::Good, "opens and plays");
-        writeln!(out, "{}: {good}: {clip} in {blocks}", file.name)?;
-        if let Some(words) = seams::words(seams, head.blocks) {
+        let points = sound.looped.map(|looped| format!("; loop {}", loops::words(looped.points)));
+        let points = points.unwrap_or_default();
+        writeln!(out, "{}: {good}: {clip} in {blocks}{points}", file.name)?;
+        for words in sound.clicks() {
             writeln!(out, "  {}: {words}", paint.text(Colour::Warning, "clicks"))?;
         }
         match after {
@@ -103,12 +130,6 @@ fn damaged(
     })
 }
 
-/// Opens and plays: the head, and the seams that are off.
-fn tested(bytes: &[u8]) -> Result<(Head, Vec<Seam>), Refusal> {
-    let image = Image::open(bytes)?;
-    Ok((*image.head(), seams::seams(&image)?))
-}
-
 /// What looks wrong in the head or the table, or the pair that cannot be played.
 fn all_findings(bytes: &[u8], refusal: Refusal) -> Box<dyn Iterator<Item = Finding> + '_> {
     if refusal != Refusal::LowestPair {
@@ -133,18 +154,17 @@ fn finding_json<'a>(finding: Finding) -> Json<'a> {
 
 /// The library's verdict; where an entry is bad, in the words of the first finding.
 fn verdict(refusal: Refusal, first: Option<Finding>) -> String {
-    match (refusal.block(), first) {
-        (Some(block), Some(first)) => {
-            format!("block {block}: {} (refusal {})", first.words, refusal.number())
-        }
-        _ => refusal.to_string(),
+    let said = first.and_then(|first| first.entry().map(|entry| (entry, first.words)));
+    match said {
+        Some((entry, words)) => format!("{entry}: {words} (refusal {})", refusal.number()),
+        None => refusal.to_string(),
     }
 }
 
 /// What was found; only the byte, where the verdict has the words.
 fn tell(mut found: impl Iterator<Item = Finding>, out: &mut dyn Write) -> io::Result<()> {
     for (i, finding) in found.by_ref().take(TOLD).enumerate() {
-        match (i, finding.refusal.block()) {
+        match (i, finding.entry()) {
             (0, Some(_)) => writeln!(out, "  at byte {}", count(finding.byte as u64))?,
             _ => writeln!(out, "  {finding}")?,
         }

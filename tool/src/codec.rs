@@ -2,9 +2,10 @@
 
 use crate::console::Console;
 use crate::failure::Failure;
+use crate::loops::Span;
 use crate::memory;
 use crate::progress::Progress;
-use crate::text::count;
+use crate::text::{count, counted};
 use doilycairn::{Coefficients, Encoder, History, MAX_PAIR_SUM, Measure, Refusal, Start};
 
 /// Samples of a piece.
@@ -22,6 +23,7 @@ pub struct Wanted {
     /// None to measure them.
     pub coefficients: Option<Coefficients>,
     pub history: History,
+    pub looped: Option<Span>,
 }
 
 /// Encodes a clip.
@@ -34,20 +36,21 @@ pub fn encode(
     let total = u32::try_from(clip.len()).unwrap_or(u32::MAX);
     let Wanted { rate, block_size, gain, history, .. } = *wanted;
     let coefficients = wanted.coefficients.unwrap_or_default();
-    let mut start = Start { total, rate, block_size, gain, coefficients, history };
+    let looped = wanted.looped.map(Span::points);
+    let mut start = Start { total, rate, block_size, gain, coefficients, history, looped };
     if wanted.coefficients.is_none() {
         // What would be refused after measuring is refused before it.
-        started(name, &start)?;
+        started(name, &start, wanted)?;
         start.coefficients = measure(name, clip, console)?;
     }
-    let mut encoder = started(name, &start)?;
-    feed(&mut encoder, clip, console).map_err(|refusal| refused(name, refusal, &start))?;
+    let mut encoder = started(name, &start, wanted)?;
+    feed(&mut encoder, clip, console).map_err(|refusal| refused(name, refusal, &start, wanted))?;
     Ok(encoder)
 }
 
-fn started(name: &str, start: &Start) -> Result<Encoder, Failure> {
+fn started(name: &str, start: &Start, wanted: &Wanted) -> Result<Encoder, Failure> {
     let image = memory::zeros(start.image_size().unwrap_or(0))?;
-    Encoder::start_in(start, image).map_err(|refusal| refused(name, refusal, start))
+    Encoder::start_in(start, image).map_err(|refusal| refused(name, refusal, start, wanted))
 }
 
 fn measure(name: &str, clip: &[i16], console: &Console) -> Result<Coefficients, Failure> {
@@ -73,11 +76,15 @@ fn feed(encoder: &mut Encoder, clip: &[i16], console: &Console) -> Result<(), Re
 }
 
 /// A refusal, with what was asked for.
-fn refused(name: &str, refusal: Refusal, start: &Start) -> Failure {
+fn refused(name: &str, refusal: Refusal, start: &Start, wanted: &Wanted) -> Failure {
     let failure = Failure::refused(name, refusal);
-    match refusal {
-        Refusal::BadSampleCount => failure.with(format!("; it has {}", count(start.total))),
-        Refusal::CoefficientOutside => failure.with(outside(&start.coefficients)),
+    match (refusal, wanted.looped) {
+        (Refusal::BadSampleCount, _) => failure.with(format!("; it has {}", count(start.total))),
+        (Refusal::CoefficientOutside, _) => failure.with(outside(&start.coefficients)),
+        (Refusal::LoopOutside, Some(span)) => {
+            let has = counted(start.total, "sample", "samples");
+            failure.with(format!("; it is {}, and the clip has {has}", span.words()))
+        }
         _ => failure,
     }
 }

@@ -14,7 +14,7 @@ pub const COMMAND: Command = Command {
     operands: &["A.dspc", "B.dspc"],
     many: Many::No,
     summary: "whether two images sound the same",
-    about: "Compares what two images play: as many samples, and the same ones. Block sizes, gain and rate may differ.",
+    about: "Compares what two images play: as many samples, and the same ones. Block sizes, gain, rate and loop may differ.",
     options: &[],
     notes: "Exit status 0: the same. 1: different.",
     run,
@@ -36,6 +36,9 @@ fn run(args: &Args, console: &Console) -> Result<Status, Failure> {
     };
     if first.head().rate != second.head().rate {
         console.note("the rates differ; sameness is that of the samples".into());
+    }
+    if first.looped() != second.looped() {
+        console.note("the loops differ; sameness is that of the samples".into());
     }
     let mut fields = path_fields("first", "first_hex", a);
     fields.extend(path_fields("second", "second_hex", b));

@@ -1,5 +1,7 @@
 //! `encode`: from samples to an image.
 
+mod looped;
+
 use crate::args::Args;
 use crate::codec::{self, Wanted};
 use crate::command::{Command, Many};
@@ -10,11 +12,13 @@ use crate::files::{self, Job};
 use crate::framing::{self, Framed};
 use crate::input;
 use crate::json::{Fields, Json, path_fields};
+use crate::loops;
 use crate::options::{FORCE, IGNORE_LENGTH, INTO, JOBS, RAW, file, flag, value};
 use crate::output::{Output, What};
 use crate::settings;
 use crate::text::{clip_length, count, counted};
-use doilycairn::{Encoder, EncoderState, Image};
+use doilycairn::{Encoder, EncoderState, Image, Refusal};
+use looped::{Found, Wish};
 use std::ffi::{OsStr, OsString};
 use std::path::Path;
 
@@ -51,27 +55,42 @@ pub const COMMAND: Command = Command {
             "holds the last sample for up to 13 more, so that a clip can follow: whole frames (14 samples)",
         ),
         flag("--cut-to-frame", "leaves out up to 13 samples at the end, so that a clip can follow"),
+        value(
+            "--loop",
+            "START,END",
+            "the clip has a loop, from sample START up to END, without END; both may be times: 12.5s or 1:02.5",
+        ),
+        flag(
+            "--wav-loop",
+            "the clip has the loop of the WAV file: the first of its smpl chunk that is played forwards; without one it is refused, or with \
+             --into encoded without a loop, and a note says so",
+        ),
         flag("--verify", "plays the image before it is written and tests each sample's distance"),
         RAW,
         value("--rate", "HZ", "with --raw: samples a second"),
         IGNORE_LENGTH,
         FORCE,
     ],
-    notes: "A clip has 1 to 14,680,064 samples. Encoding the longest takes less than 64 MB of memory.",
+    notes: "A clip has 1 to 14,680,064 samples. Encoding the longest takes less than 64 MB of memory.\n\n\
+        A loop has one sample at least and ends with the clip at the latest. Its samples have the numbers that they have in IN, with \
+        --pad-to-frame and --after, too. In a smpl chunk the second number is the loop's last sample; END is the one after it.",
     run,
 };
 
 fn run(args: &Args, console: &Console) -> Result<Status, Failure> {
     let standard = |name: &&str| args.value(name).is_some_and(|value| value == "-");
+    let wish = Wish::of(args)?;
     match ["--coefficients", "--after"].into_iter().find(standard) {
         Some(name) if args.has("--into") => {
             Err(Failure::usage(format!("{name}: standard input cannot serve many files")))
         }
-        _ => files::with_output(args, console, "dspc", |job, console| one(args, job, console)),
+        _ => {
+            files::with_output(args, console, "dspc", |job, console| one(args, wish, job, console))
+        }
     }
 }
 
-fn one(args: &Args, job: &Job, console: &Console) -> Result<Status, Failure> {
+fn one(args: &Args, wish: Wish, job: &Job, console: &Console) -> Result<Status, Failure> {
     let (input, output) = (job.input, job.output.as_deref().unwrap_or_default());
     let given = ["--coefficients", "--after"].into_iter().filter_map(|name| args.value(name));
     let inputs: Vec<OsString> = [input].into_iter().chain(given).map(Into::into).collect();
@@ -89,9 +108,11 @@ fn one(args: &Args, job: &Job, console: &Console) -> Result<Status, Failure> {
             format!("rate {}, and the clip before it has {}", count(clip.rate), count(rate));
         return Err(Failure::input(&name, words));
     }
+    let found = wish.found(&name, &clip, args.has("--into"), console)?;
+    wanted.looped = found.span;
     let framed = framing::apply(framing, &name, &mut clip.samples)?;
     let encoder = codec::encode(&name, &clip.samples, &wanted, console)
-        .map_err(|failure| settings::blamed(args, failure))?;
+        .map_err(|failure| blamed(args, &framed, failure))?;
     let distances = match args.has("--verify") {
         true => Some(verified(&name, &encoder, &clip.samples)?),
         false => None,
@@ -101,7 +122,15 @@ fn one(args: &Args, job: &Job, console: &Console) -> Result<Status, Failure> {
     fields.extend(path_fields("output", "output_hex", output));
     fields.extend(state_fields(&encoder, &wanted));
     fields.extend(framed.fields());
-    told(&place.name, &encoder, &framed, distances.as_ref(), fields, console)
+    told(&place.name, &encoder, &found, &framed, distances.as_ref(), fields, console)
+}
+
+/// A refusal with what it comes from: the file of the coefficients, or the samples that were left out.
+fn blamed(args: &Args, framed: &Framed, failure: Failure) -> Failure {
+    match failure.refusal {
+        Some(Refusal::LoopOutside) => failure.with(framed.words()),
+        _ => settings::blamed(args, failure),
+    }
 }
 
 /// Two files of `encode *.wav` may both have been meant as inputs.
@@ -118,6 +147,7 @@ fn many_meant(job: &Job, failure: Failure) -> Failure {
 fn told(
     place: &str,
     encoder: &Encoder,
+    found: &Found,
     framed: &Framed,
     distances: Option<&Distances>,
     mut fields: Fields,
@@ -130,8 +160,9 @@ fn told(
             .map(|d| format!("; verified: the largest distance is {}", count(d.largest().0)));
         writeln!(
             out,
-            "{place}: {}{}{}",
+            "{place}: {}{}{}{}",
             summary(encoder),
+            found.words(),
             framed.words(),
             largest.unwrap_or_default()
         )
@@ -183,6 +214,7 @@ pub fn state_fields(encoder: &Encoder, wanted: &Wanted) -> Fields<'static> {
         ("blocks", Json::Whole(blocks.into())),
         ("bytes", Json::Whole(encoder.image().len() as i64)),
         ("gain", Json::Whole(state.gain.into())),
+        ("loop", loops::json(state.looped.looped(), state.rate)),
         ("history", Json::numbers([wanted.history.newest, wanted.history.older])),
         ("end_history", Json::numbers([state.history.newest, state.history.older])),
         ("coefficients", Json::numbers(state.coefficients.0)),
@@ -205,6 +237,7 @@ mod tests {
             gain: 0,
             coefficients: None,
             history: History::default(),
+            looped: None,
         };
         let encoder = codec::encode("x", &[5; 100], &wanted, &console).unwrap();
         assert!(verified("x", &encoder, &[5; 100]).is_ok());

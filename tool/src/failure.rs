@@ -26,7 +26,7 @@ pub const STATUSES: [&str; 6] = [
     "done; the answer is yes",
     "the answer is no: the clips differ (same), the image is not sound or, with --strict, has a click (check), a sample is beyond its bound (encode --verify)",
     "the command line is wrong",
-    "an input is not what the command takes: no WAV file of that kind, no coefficients, clips that do not fit together",
+    "an input is not what the command takes: no WAV file of that kind, no coefficients, no loop, clips that do not fit together",
     "the library refuses, by the number that the message names (`doilycairn help refusals` lists them)",
     "reading or writing failed, or memory is short",
 ];

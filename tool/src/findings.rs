@@ -1,14 +1,13 @@
 //! What looks wrong in an image that does not open: a help for people, worked out beside the library, which alone decides.
 
+mod looped;
 #[cfg(test)]
 mod tests;
 
+use crate::image_bytes::{ENTRY, HEAD};
 use crate::text::{count, counted};
-use doilycairn::{BLOCK_SIZES, MAX_SAMPLES, Refusal, image_size};
+use doilycairn::{BLOCK_SIZES, MAX_SAMPLES, Refusal, image_size, loop_image_size};
 use std::fmt;
-
-const HEAD: usize = 56;
-const ENTRY: usize = 16;
 
 /// Something that looks wrong.
 #[derive(Debug, PartialEq, Eq)]
@@ -21,34 +20,58 @@ pub struct Finding {
 }
 
 impl Finding {
-    /// Its byte and its words, where the block is told already.
+    /// Its byte and its words, where the block or the loop is told already.
     pub fn at_byte(&self) -> String {
         format!("byte {}: {}", count(self.byte as u64), self.words)
+    }
+
+    /// Whose entry it is in: a block's, or the loop's; none where it is in the head.
+    pub fn entry(&self) -> Option<String> {
+        match self.refusal {
+            Refusal::BadLoop => Some("loop".into()),
+            refusal => refusal.block().map(|block| format!("block {block}")),
+        }
     }
 }
 
 impl fmt::Display for Finding {
     fn fmt(&self, f: &mut fmt::Formatter) -> fmt::Result {
-        match self.refusal.block() {
-            Some(block) => {
+        match self.entry() {
+            Some(entry) => {
                 let byte = count(self.byte as u64);
-                write!(f, "byte {byte}, block {block}: {}", self.words)
+                write!(f, "byte {byte}, {entry}: {}", self.words)
             }
             None => f.write_str(&self.at_byte()),
         }
     }
 }
 
-/// All that looks wrong: in the head, or else in the table of blocks. They stand in the sequence in which the library tests, so
-/// that the first calls for the refusal that it gives. They are made as they are asked for: a long table may have millions.
+/// All that looks wrong: in the head, or else in the table of blocks and in the loop's entry. They stand in the sequence in which
+/// the library tests, so that the first calls for the refusal that it gives. They are made as they are asked for: a long table may
+/// have millions.
 pub fn findings(bytes: &[u8]) -> impl Iterator<Item = Finding> {
     let in_head = head_findings(bytes);
-    let blocks = if in_head.is_empty() { be32(bytes, 52) as usize } else { 0 };
-    in_head.into_iter().chain((0..blocks).flat_map(|k| entry_findings(bytes, k)))
+    let (blocks, loops) = match in_head.is_empty() {
+        true => (be32(bytes, 52) as usize, loops(bytes)),
+        false => (0, 0),
+    };
+    let in_entries = (0..blocks).flat_map(|k| entry_findings(bytes, k));
+    let of_loop = (0..loops).flat_map(|_| looped::findings(bytes));
+    in_head.into_iter().chain(in_entries).chain(of_loop)
 }
 
 fn be32(bytes: &[u8], at: usize) -> u32 {
     u32::from_be_bytes([bytes[at], bytes[at + 1], bytes[at + 2], bytes[at + 3]])
+}
+
+/// The count of loops, of which an image has none or one.
+fn loops(bytes: &[u8]) -> usize {
+    u16::from_be_bytes([bytes[50], bytes[51]]).into()
+}
+
+/// Where the bodies begin, of a head that is as it should be.
+fn bodies_at(bytes: &[u8]) -> usize {
+    HEAD + ENTRY * (be32(bytes, 52) as usize + loops(bytes))
 }
 
 fn head_findings(bytes: &[u8]) -> Vec<Finding> {
@@ -77,11 +100,12 @@ fn head_findings(bytes: &[u8]) -> Vec<Finding> {
             format!("blocks of {} bytes; they have 8 to 65,536, a multiple of 8", count(block)),
         );
     }
-    if bytes[50..52] != [0, 0] {
-        add(50, format!("two bytes that are zero are {:02x} {:02x}", bytes[50], bytes[51]));
+    let loops = loops(bytes);
+    if loops > 1 {
+        add(50, format!("{} loops; an image has 0 or 1", count(loops as u64)));
     }
-    if let Some(size) = image_size(total, block).filter(|_| block % 8 == 0) {
-        found.extend(sizes(bytes.len(), blocks, total, block, size));
+    if block % 8 == 0 {
+        found.extend(sizes(bytes.len(), blocks, total, block, loops == 1));
     }
     found
 }
@@ -98,9 +122,13 @@ fn mark(mark: &[u8; 4]) -> Option<String> {
     Some(format!("the mark is {a:02x} {b:02x} {c:02x} {d:02x} and not 44 53 50 43 (DSPC): {what}"))
 }
 
-/// The count of blocks and the length of the file, against what samples and block size ask for.
-fn sizes(len: usize, blocks: u32, total: u32, block: u32, size: usize) -> Vec<Finding> {
-    let mut found = vec![];
+/// The count of blocks and the length of the file, against what samples, block size and loop ask for.
+fn sizes(len: usize, blocks: u32, total: u32, block: u32, looped: bool) -> Vec<Finding> {
+    let (size, more) = match looped {
+        false => (image_size(total, block), ""),
+        true => (loop_image_size(total, block), " and a loop (bytes 50 and 51)"),
+    };
+    let (Some(size), mut found) = (size, vec![]) else { return vec![] };
     let mut add = |byte, words| found.push(Finding { refusal: Refusal::BadHead, byte, words });
     let clip = format!("{} samples in blocks of {} bytes", count(total), count(block));
     let wanted = (8 * total.div_ceil(14)).div_ceil(block);
@@ -111,7 +139,10 @@ fn sizes(len: usize, blocks: u32, total: u32, block: u32, size: usize) -> Vec<Fi
         let missing = counted((size - len) as u64, "byte is", "bytes are");
         add(
             len,
-            format!("the file ends; {clip} take {} bytes: {missing} missing", count(size as u64)),
+            format!(
+                "the file ends; {clip}{more} take {} bytes: {missing} missing",
+                count(size as u64)
+            ),
         );
     }
     found
@@ -119,35 +150,42 @@ fn sizes(len: usize, blocks: u32, total: u32, block: u32, size: usize) -> Vec<Fi
 
 /// What is wrong with the entry of block `k`, of a head that is as it should be.
 fn entry_findings(bytes: &[u8], k: usize) -> Vec<Finding> {
-    let [total, block, blocks] = [4, 12, 52].map(|at| be32(bytes, at) as usize);
+    let [total, block] = [4, 12].map(|at| be32(bytes, at) as usize);
     let frames = total.div_ceil(14).saturating_sub(k * block / 8).min(block / 8);
     let samples = (total - 14 * k * (block / 8)).min(14 * frames);
-    let offset = HEAD + ENTRY * blocks + block * k;
-    entry(bytes, k, offset, samples + 2 * frames)
+    entry(bytes, k, bodies_at(bytes) + block * k, samples + 2 * frames)
 }
 
 /// What is wrong with an entry that should have this offset and this length, by rising refusal.
 fn entry(bytes: &[u8], k: usize, offset: usize, nibbles: usize) -> Vec<Finding> {
     let (at, block) = (HEAD + ENTRY * k, k as u32);
     let tests = [
-        (Refusal::BadOffset { block }, at, number("offset", be32(bytes, at), offset, "")),
+        (
+            Refusal::BadOffset { block },
+            at,
+            number("offset", be32(bytes, at), offset, looped::otherwise(bytes, k, offset)),
+        ),
         (
             Refusal::BadLength { block },
             at + 4,
             number("length", be32(bytes, at + 4), nibbles, " nibbles"),
         ),
         (Refusal::BadLength { block }, at + 14, zero_bytes(&bytes[at + 14..at + 16])),
-        (Refusal::BadHeader { block }, at + 8, header(&bytes[at + 8..at + 10], offset, bytes)),
+        (Refusal::BadHeader { block }, at + 8, header(bytes, at + 8, "its body", offset)),
     ];
-    let finding = |(refusal, byte, words): (_, _, Option<String>)| {
-        words.map(|words| Finding { refusal, byte, words })
-    };
-    tests.into_iter().filter_map(finding).collect()
+    tests.into_iter().filter_map(found).collect()
 }
 
-/// What is wrong with an entry's number, in this unit.
-fn number(name: &str, has: u32, wanted: usize, unit: &str) -> Option<String> {
-    let words = || format!("its {name} is {} and not {}{unit}", count(has), count(wanted as u64));
+/// A test of a field, by its refusal and its first byte.
+type Test = (Refusal, usize, Option<String>);
+
+fn found((refusal, byte, words): Test) -> Option<Finding> {
+    words.map(|words| Finding { refusal, byte, words })
+}
+
+/// What is wrong with an entry's number, with what is to be said after it.
+fn number(name: &str, has: u32, wanted: usize, more: &str) -> Option<String> {
+    let words = || format!("its {name} is {} and not {}{more}", count(has), count(wanted as u64));
     (has as usize != wanted).then(words)
 }
 
@@ -157,14 +195,14 @@ fn zero_bytes(has: &[u8]) -> Option<String> {
         .then(|| format!("its zero bytes are {:02x} {:02x} and not 00 00", has[0], has[1]))
 }
 
-/// What is wrong with an entry's header, of a body at this offset.
-fn header(has: &[u8], offset: usize, bytes: &[u8]) -> Option<String> {
-    let first = bytes[offset];
+/// What is wrong with an entry's header at this byte, which is that of a frame at this offset.
+fn header(bytes: &[u8], at: usize, frame: &str, offset: usize) -> Option<String> {
+    let (high, low, first) = (bytes[at], bytes[at + 1], bytes[offset]);
     let words = || {
-        let (high, low, place) = (has[0], has[1], count(offset as u64));
+        let place = count(offset as u64);
         format!(
-            "its header is {high:02x} {low:02x} and its body at byte {place} begins with {first:02x}"
+            "its header is {high:02x} {low:02x} and {frame} at byte {place} begins with {first:02x}"
         )
     };
-    (has != [0, first]).then(words)
+    ([high, low] != [0, first]).then(words)
 }

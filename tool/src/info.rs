@@ -6,8 +6,10 @@ use crate::console::{Console, Words};
 use crate::distance::Distances;
 use crate::failure::{Failure, Status};
 use crate::files::{self, Job};
+use crate::image_bytes;
 use crate::input::{self, ImageFile};
 use crate::json::{Fields, Json, path_fields};
+use crate::loops::Looped;
 use crate::options::{FORCE, IGNORE_LENGTH, JOBS, file, flag};
 use crate::output::{Output, What};
 use crate::picture;
@@ -15,7 +17,7 @@ use crate::seams::{self, Seam};
 use crate::survey::Survey;
 use crate::tables;
 use crate::text::count;
-use doilycairn::{FrameContext, Image, image_size};
+use doilycairn::{FrameContext, Image};
 use std::ffi::{OsStr, OsString};
 
 pub const COMMAND: Command = Command {
@@ -23,7 +25,8 @@ pub const COMMAND: Command = Command {
     operands: &["IN.dspc"],
     many: Many::Inputs,
     summary: "what an image holds, and how near it is to a WAV file",
-    about: "Shows head, blocks, coefficients, how many frames use each predictor and exponent, and at which edges of blocks a click may be heard.",
+    about: "Shows head, blocks, loop, coefficients, how many frames use each predictor and exponent, and where a click may be heard: at \
+        edges of blocks, or where the loop begins anew.",
     options: &[
         flag("--blocks", "lists the blocks with their contexts"),
         file(
@@ -52,6 +55,7 @@ pub struct Known<'a> {
     pub survey: Survey,
     /// The context after the last sample; none where the image does not play.
     pub end: Option<FrameContext>,
+    pub looped: Option<Looped>,
     /// Edges of blocks where a click may be heard.
     pub seams: Vec<Seam>,
     pub distances: Option<Distances>,
@@ -97,14 +101,14 @@ fn known<'a>(
     distances: Option<Distances>,
     blocks: bool,
 ) -> Known<'a> {
-    let head = image.head();
-    let size = image_size(head.total, head.block).unwrap_or(file.bytes.len());
+    let size = image_bytes::size(&image);
     Known {
         name: file.name.clone(),
         size,
         after: file.after(size),
         survey: Survey::of(&image),
         end: end(&image),
+        looped: Looped::of(&image),
         seams: seams::seams(&image).unwrap_or_default(),
         image,
         distances,
@@ -159,6 +163,7 @@ impl Known<'_> {
             ("bytes", Json::Whole(self.size as i64)),
             ("bytes_after", Json::Whole(self.after as i64)),
             ("gain", Json::Whole(head.gain.into())),
+            ("loop", self.looped.map_or(Json::Null, |looped| looped.json(head.rate))),
             ("history", Json::numbers(self.start())),
             ("end_history", end),
             ("coefficients", Json::numbers(head.coefficients.0)),
@@ -175,7 +180,7 @@ impl Known<'_> {
 
     /// The blocks with their contexts.
     fn contexts(&self) -> Json<'_> {
-        let body = 56 + 16 * u64::from(self.image.head().blocks);
+        let body = image_bytes::bodies_at(&self.image) as u64;
         let block_size = u64::from(self.image.head().block);
         Json::list(self.image.blocks().enumerate().map(move |(k, block)| {
             Json::Object(vec![

@@ -13,7 +13,7 @@ use std::fs::File;
 use std::io::{self, Read};
 use std::path::Path;
 
-/// No image is longer (its limit is 25,165,880 bytes); what follows is not kept.
+/// No image is longer (its limit is 25,165,896 bytes); what follows is not kept.
 const MOST_BYTES: u64 = 1 << 25;
 
 /// How messages name an input.
@@ -108,9 +108,11 @@ pub fn clip(
         true => wav::read_raw(&mut reader, ignore_length).map(|samples| Clip {
             samples,
             rate: raw_rate.unwrap_or(0),
+            sampler: None,
             notes: vec![],
         }),
-        false => wav::read(&mut reader, ignore_length, known.is_some()),
+        // A pipe is read to its end only for a loop that may stand there.
+        false => wav::read(&mut reader, ignore_length, known.is_some() || args.has("--wav-loop")),
     };
     let clip = clip.map_err(|wrong| unread(path, wrong))?;
     for note in &clip.notes {

@@ -10,8 +10,9 @@ use crate::image_bytes;
 use crate::info;
 use crate::input::{ImageFile, one_standard_input};
 use crate::json::{Fields, Json, path_fields};
+use crate::loops;
 use crate::memory;
-use crate::options::{FORCE, flag, value};
+use crate::options::{DROP_LOOP, FORCE, flag, value};
 use crate::output::{Output, What};
 use crate::settings;
 use crate::splice;
@@ -27,7 +28,8 @@ pub const COMMAND: Command = Command {
         Without --reencode nothing is lost: the frames stay what they are. That needs equal rates, coefficients and block sizes, and an A of \
         whole frames (14 samples); and either A fills its last block, or B was encoded to follow A:\n  \
         doilycairn encode --pad-to-frame A.wav A.dspc\n  \
-        doilycairn encode --after A.dspc B.wav B.dspc",
+        doilycairn encode --after A.dspc B.wav B.dspc\n\n\
+        OUT has no loop. Where A or B has one they are not joined without --drop-loop.",
     options: &[
         value("--gain", "NUMBER", "the gain, where the two differ"),
         flag("--reencode", "plays both and encodes them as one clip, measured afresh"),
@@ -36,6 +38,7 @@ pub const COMMAND: Command = Command {
             "BYTES",
             "with --reencode: bytes of a block, 8 to 65,536; that of A if not given",
         ),
+        DROP_LOOP,
         FORCE,
     ],
     notes: "",
@@ -77,6 +80,9 @@ fn run(args: &Args, console: &Console) -> Result<Status, Failure> {
     let files = [ImageFile::read(a)?, ImageFile::read(b)?];
     let parts = [Part::open(&files[0])?, Part::open(&files[1])?];
     fits(&parts)?;
+    if !args.has("--drop-loop") {
+        without_loops(&parts)?;
+    }
     let mut fields = path_fields("first", "first_hex", a);
     fields.extend(path_fields("second", "second_hex", b));
     fields.extend(path_fields("output", "output_hex", output));
@@ -108,6 +114,17 @@ fn fits([first, second]: &[Part; 2]) -> Result<(), Failure> {
     }
 }
 
+/// Where the loop of a joined clip would be is for the caller to say.
+fn without_loops(parts: &[Part; 2]) -> Result<(), Failure> {
+    let looped = parts.iter().find_map(|part| part.image.looped().map(|points| (part, points)));
+    let Some((part, points)) = looped else { return Ok(()) };
+    let words = loops::words(points);
+    Err(Failure::input(
+        part.name,
+        format!("it has a loop, {words}, and a joined image has none: --drop-loop leaves it out"),
+    ))
+}
+
 type Joined = (Vec<u8>, String, Fields<'static>);
 
 /// Joined without loss.
@@ -134,6 +151,7 @@ fn spliced(parts: &[Part; 2], gain: Option<u16>) -> Result<Joined, Failure> {
         ("blocks", Json::Whole(head.blocks.into())),
         ("bytes", Json::Whole(bytes.len() as i64)),
         ("gain", Json::Whole(head.gain.into())),
+        ("loop", loops::json(image.looped(), head.rate)),
     ];
     Ok((bytes, words, fields))
 }
@@ -159,6 +177,7 @@ fn encoded_again(
         gain: gain.unwrap_or(head.gain),
         coefficients: None,
         history: History { newest: start[0], older: start[1] },
+        looped: None,
     };
     let encoder = codec::encode("the joined clip", &clip, &wanted, console)?;
     let (words, fields) = (summary(&encoder), state_fields(&encoder, &wanted));

@@ -75,6 +75,8 @@ pub const FORCE: Opt = flag(
     "writes over an input, a recording, a file of another kind, or one that is marked read-only",
 );
 
+pub const DROP_LOOP: Opt = flag("--drop-loop", "leaves loops out; OUT has none");
+
 pub const RAW: Opt = flag("--raw", "IN has no head: 16-bit little-endian samples");
 
 pub const IGNORE_LENGTH: Opt = flag(

@@ -1,5 +1,5 @@
-//! A picture of an image, as SVG: the waveform, the exponent and the predictor of each frame, and the edges of the blocks, so that
-//! a click is seen where it would be heard.
+//! A picture of an image, as SVG: the waveform, the exponent and the predictor of each frame, the edges of the blocks and the loop, so
+//! that a click is seen where it would be heard.
 //!
 //! An image of any length takes memory for one block and for what each column of the picture shows.
 
@@ -7,6 +7,7 @@ mod frames;
 mod jumps;
 mod layout;
 mod legend;
+mod looped;
 mod marks;
 mod panels;
 mod path;

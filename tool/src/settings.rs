@@ -34,6 +34,7 @@ pub fn of(args: &Args) -> Result<Wanted, Failure> {
         gain: gain as u16,
         coefficients: None,
         history: args.value("--history").map(history).transpose()?.unwrap_or_default(),
+        looped: None,
     })
 }
 
@@ -93,6 +94,12 @@ fn after(
             "{}: {samples} samples: its last frame is not full, and `join` will not put a clip after it without --reencode; \
              --pad-to-frame or --cut-to-frame makes one that can be followed",
             file.name
+        ));
+    }
+    if image.looped().is_some() {
+        let name = &file.name;
+        console.note(format!(
+            "{name}: it has a loop, and `join` will not put a clip after it without --drop-loop"
         ));
     }
     let [newest, older] = info::end(&image).unwrap_or_default().last_samples;

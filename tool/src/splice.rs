@@ -17,7 +17,7 @@ pub fn join(parts: &[Part; 2], gain: Option<u16>) -> Result<Vec<u8>, Failure> {
     let head = first.image.head();
     let contexts = contexts(first, second, shift).map_err(|r| Failure::refused(second.name, r))?;
     let total = head.total + second.image.head().total;
-    Ok(image_bytes::image(&Head { total, gain, ..*head }, &contexts, &bodies, nibbles))
+    Ok(image_bytes::image(&Head { total, gain, ..*head }, &contexts, None, &bodies, nibbles))
 }
 
 /// The bodies and their length in nibbles, as the library joins them; it refuses coefficients that differ.

@@ -1,7 +1,9 @@
 //! What is known of an image, in tables for people.
 
 use crate::distance::{Distances, bound};
+use crate::image_bytes;
 use crate::info::Known;
+use crate::loops;
 use crate::seams;
 use crate::text::{count, counted, duration};
 use std::io::{self, Write};
@@ -28,7 +30,8 @@ fn head(known: &Known, out: Out) -> io::Result<()> {
     let [newest, older] = known.start();
     writeln!(out, "{}", known.name)?;
     let (samples, rate) = (count(head.total), count(head.rate));
-    writeln!(out, "  samples    {samples} at {rate} Hz ({})", duration(head.total, head.rate))?;
+    let long = duration(head.total.into(), head.rate);
+    writeln!(out, "  samples    {samples} at {rate} Hz ({long})")?;
     writeln!(out, "  frames     {}", count(known.survey.frames))?;
     writeln!(out, "  blocks     {} of up to {} bytes", count(head.blocks), count(head.block))?;
     writeln!(out, "  image      {} bytes, {ratio:.2} to 1", count(known.size as u64))?;
@@ -37,6 +40,11 @@ fn head(known: &Known, out: Out) -> io::Result<()> {
         writeln!(out, "  after it   {after} that do not belong to it")?;
     }
     writeln!(out, "  gain       {}", count(head.gain))?;
+    if let Some(looped) = known.looped {
+        writeln!(out, "  loop       {}", loops::long_words(looped.points, head.rate))?;
+        let [newest, older] = looped.context.last_samples;
+        writeln!(out, "             each turn begins after {newest},{older} (newest, older)")?;
+    }
     writeln!(out, "  history    {newest},{older} before the first sample (newest, older)")?;
     match known.end.map(|end| end.last_samples) {
         Some([newest, older]) => writeln!(out, "  ends with  {newest},{older}")?,
@@ -44,10 +52,11 @@ fn head(known: &Known, out: Out) -> io::Result<()> {
             writeln!(out, "  does not play: a pair of coefficients is -32,768 twice (refusal 13)")?;
         }
     }
-    match seams::words(&known.seams, head.blocks) {
-        Some(words) => writeln!(out, "  clicks     {words}"),
-        None => Ok(()),
+    let clicks = seams::words(&known.seams, head.blocks);
+    for words in clicks.into_iter().chain(known.looped.and_then(|looped| looped.click())) {
+        writeln!(out, "  clicks     {words}")?;
     }
+    Ok(())
 }
 
 fn pairs(known: &Known, out: Out) -> io::Result<()> {
@@ -98,9 +107,7 @@ fn against(distances: &Distances, out: Out) -> io::Result<()> {
 }
 
 fn blocks(known: &Known, out: Out) -> io::Result<()> {
-    let head = known.image.head();
-    let mut offset = 56 + 16 * head.blocks as usize;
-    let mut sample = 0;
+    let (mut offset, mut sample) = (image_bytes::bodies_at(&known.image), 0);
     writeln!(
         out,
         "\n      block      offset  nibbles  from sample  samples  predictor  exponent   newest    older"

@@ -23,8 +23,8 @@ pub fn counted(number: impl Into<i128>, one: &str, many: &str) -> String {
 }
 
 /// How long so many samples play: seconds, or minutes and seconds.
-pub fn duration(samples: u32, rate: u32) -> String {
-    let seconds = f64::from(samples) / f64::from(rate.max(1));
+pub fn duration(samples: u64, rate: u32) -> String {
+    let seconds = samples as f64 / f64::from(rate.max(1));
     match seconds {
         0.0..0.9995 => format!("{:.1} ms", 1000.0 * seconds),
         0.0..59.9995 => format!("{seconds:.3} s"),
@@ -38,7 +38,7 @@ pub fn duration(samples: u32, rate: u32) -> String {
 /// A count of samples, their rate and how long they play.
 pub fn clip_length(samples: u32, rate: u32) -> String {
     let counted = counted(samples, "sample", "samples");
-    format!("{counted} at {} Hz ({})", count(rate), duration(samples, rate))
+    format!("{counted} at {} Hz ({})", count(rate), duration(samples.into(), rate))
 }
 
 /// A path as a message shows it: control characters escaped, bytes that are not UTF-8 replaced.
@@ -72,7 +72,7 @@ mod tests {
             assert_eq!(duration(samples, 8000), text);
         }
         assert_eq!(duration(14_680_064, 48_000), "5:05.8 min");
-        assert_eq!(duration(u32::MAX, 1), "71,582,788:15.0 min");
+        assert_eq!(duration(u32::MAX.into(), 1), "71,582,788:15.0 min");
         assert_eq!(clip_length(1, 8000), "1 sample at 8,000 Hz (0.1 ms)");
     }
 

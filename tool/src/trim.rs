@@ -1,5 +1,6 @@
 //! `trim`: a part of an image, its frames as they are where that can be.
 
+mod looped;
 mod part;
 
 use crate::args::Args;
@@ -11,8 +12,9 @@ use crate::failure::{Failure, Status};
 use crate::image_bytes::{self, context_at};
 use crate::input::{self, ImageFile};
 use crate::json::{Fields, Json, path_fields};
+use crate::loops::{self, Looped};
 use crate::memory;
-use crate::options::{FORCE, IGNORE_LENGTH, file, flag, value};
+use crate::options::{DROP_LOOP, FORCE, IGNORE_LENGTH, file, flag, value};
 use crate::output::{Output, What};
 use crate::seams::{self, Seam};
 use crate::text::{clip_length, count, counted};
@@ -27,7 +29,8 @@ pub const COMMAND: Command = Command {
     summary: "an image of a part of another",
     about: "Writes an image of the samples from A up to B, without B.\n\n\
         Where A is a multiple of 14 every frame stays as it is, byte for byte, and so does every sample, wherever B is. Else all \
-        of them are encoded again, with the coefficients of IN: from what IN plays, or from the recording.",
+        of them are encoded again, with the coefficients of IN: from what IN plays, or from the recording.\n\n\
+        A loop of IN stays, around the same samples, where the part has all of it. Else it is left out, and a note says so.",
     options: &[
         value(
             "--from",
@@ -42,6 +45,7 @@ pub const COMMAND: Command = Command {
         ),
         flag("--raw", "REC.wav has no head: 16-bit little-endian samples"),
         IGNORE_LENGTH,
+        DROP_LOOP,
         FORCE,
     ],
     notes: "",
@@ -59,12 +63,12 @@ fn run(args: &Args, console: &Console) -> Result<Status, Failure> {
     let seams = seams::seams(&image).map_err(|refusal| file.refused(refusal))?;
     let part = Part::of(args, &file.name, image.head())?;
     let recording = given.map(|path| recording(path, args, &image, console)).transpose()?;
-    let obstacle = obstacle(&part, &seams, image.head());
-    let (bytes, encoded) = match obstacle {
-        None => (kept(&file, &image, &part)?, None),
+    let looped = looped::stays(args, &file, &image, &part, console);
+    let (bytes, encoded) = match obstacle(&part, &seams, looped.as_ref(), image.head()) {
+        None => (kept(&file, &image, &part, looped.as_ref())?, None),
         Some(why) => {
             console.note(format!("{why}, so every frame is encoded again"));
-            again(&file, &image, &part, recording.as_deref(), console)?
+            again(&file, &image, &part, looped.as_ref(), recording.as_deref(), console)?
         }
     };
     if encoded.is_none() && recording.is_some() {
@@ -102,15 +106,19 @@ fn told(
         ("gain", gain.into()),
     ];
     fields.extend(numbers.map(|(name, number)| (name, Json::Whole(number))));
+    fields.push(("loop", loops::json(image.looped(), rate)));
+    let points = image.looped().map(|points| format!("; loop {}", loops::words(points)));
+    let points = points.unwrap_or_default();
     console.answer(Status::Done, fields, Words::Summary, |out| {
         let frames = counted(frames, "frame", "frames");
         let clip = clip_length(total, rate);
         let blocks = format!("{} of {} bytes", counted(blocks, "block", "blocks"), count(block));
         match encoded {
-            None => writeln!(out, "{place}: {clip} in {blocks}: {frames}, as they were"),
-            Some(from) => {
-                writeln!(out, "{place}: {clip} in {blocks}: {frames} encoded again from {from}")
-            }
+            None => writeln!(out, "{place}: {clip} in {blocks}: {frames}, as they were{points}"),
+            Some(from) => writeln!(
+                out,
+                "{place}: {clip} in {blocks}: {frames} encoded again from {from}{points}"
+            ),
         }
     })
 }
@@ -134,7 +142,7 @@ fn recording(
 }
 
 /// Why frames cannot stay as they are.
-fn obstacle(part: &Part, seams: &[Seam], head: &Head) -> Option<String> {
+fn obstacle(part: &Part, seams: &[Seam], looped: Option<&Looped>, head: &Head) -> Option<String> {
     let (from, off) = (part.from, part.from % 14);
     if off != 0 {
         let (below, above) = (count(from - off), count(from - off + 14));
@@ -145,23 +153,30 @@ fn obstacle(part: &Part, seams: &[Seam], head: &Head) -> Option<String> {
     }
     let moves = from / 14 % (head.block / 8) != 0;
     let within = |seam: &&Seam| moves && seam.sample > from && seam.sample < part.to;
-    seams.iter().find(within).map(|seam| {
+    let seam = seams.iter().find(within).map(|seam| {
         format!(
             "block {} does not go on from the block before it, and would be within a block",
             count(seam.block)
         )
-    })
+    });
+    seam.or_else(|| looped.filter(|_| moves).and_then(looped::obstacle))
 }
 
 /// The part's frames, as they are; the last one may be cut.
-fn kept(file: &ImageFile, image: &Image, part: &Part) -> Result<Vec<u8>, Failure> {
+fn kept(
+    file: &ImageFile,
+    image: &Image,
+    part: &Part,
+    looped: Option<&Looped>,
+) -> Result<Vec<u8>, Failure> {
     let head = Head { total: part.to - part.from, ..*image.head() };
     let (first, frames) = (part.from as usize / 14, head.total.div_ceil(14));
     let nibbles = u64::from(head.total + 2 * frames);
     let bodies =
         &image_bytes::bodies(image, &file.bytes)[8 * first..][..nibbles.div_ceil(2) as usize];
     let contexts = contexts(image, first, frames as usize).map_err(|r| file.refused(r))?;
-    let bytes = image_bytes::image(&head, &contexts, bodies, nibbles);
+    let turn = looped.map(|looped| (looped.points, looped.context));
+    let bytes = image_bytes::image(&head, &contexts, turn, bodies, nibbles);
     let refused = |refusal| Failure::refused("the trimmed image", refusal);
     let trimmed = Image::open(&bytes).map_err(refused)?;
     let wanted = image.samples().map_err(refused)?;
@@ -184,6 +199,7 @@ fn again(
     file: &ImageFile,
     image: &Image,
     part: &Part,
+    looped: Option<&Looped>,
     recording: Option<&[i16]>,
     console: &Console,
 ) -> Result<(Vec<u8>, Option<String>), Failure> {
@@ -202,6 +218,7 @@ fn again(
         gain: head.gain,
         coefficients: Some(head.coefficients),
         history: History { newest, older },
+        looped: looped.map(|looped| looped.points.into()),
     };
     let clip = recording.map_or(&rest[..], |recording| &recording[from..from + len]);
     let encoder = codec::encode(&file.name, clip, &wanted, console)?;

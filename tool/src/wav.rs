@@ -1,22 +1,27 @@
 //! WAV: one channel of 16-bit PCM.
 
+mod beside;
 mod container;
-mod dropped;
 mod format;
+mod sampler;
 mod samples;
 mod write;
 
+use beside::Beside;
 use samples::Length;
 use std::io::{self, Read};
 
+pub use sampler::Sampler;
 pub use samples::read_raw;
-pub use write::{write_head, write_samples};
+pub use write::{MOST_SAMPLES, write_head, write_samples};
 
 /// A clip's samples and their rate.
 #[derive(Debug)]
 pub struct Clip {
     pub samples: Vec<i16>,
     pub rate: u32,
+    /// The loops of a WAV file, where it says something of loops.
+    pub sampler: Option<Sampler>,
     /// What was left out.
     pub notes: Vec<String>,
 }
@@ -42,10 +47,10 @@ fn words<T>(text: impl Into<String>) -> Result<T, Wrong> {
     Err(Wrong::Words(text.into()))
 }
 
-/// Reads a WAV file in pieces: up to the end of its samples, or, where it is a file of bytes, up to its end, to tell what is left out.
+/// Reads a WAV file in pieces: up to the end of its samples, or, where that is asked for, up to its own, to tell what is beside them.
 pub fn read(reader: &mut dyn Read, ignore_length: bool, to_end: bool) -> Result<Clip, Wrong> {
     let riff = container::container(reader)?;
-    let (mut rate, mut samples, mut notes) = (None, None, vec![]);
+    let (mut rate, mut samples, mut beside) = (None, None, Beside::default());
     loop {
         let mut chunk = [0; 8];
         if fill(reader, &mut chunk)? < 8 {
@@ -62,11 +67,14 @@ pub fn read(reader: &mut dyn Read, ignore_length: bool, to_end: bool) -> Result<
                 samples = Some(samples::data(reader, length)?);
                 skip(reader, u64::from(size & 1))?;
             }
-            id => notes.extend(dropped::chunk(reader, id, size)?),
+            id => beside.chunk(reader, id, size)?,
         }
         if let (Some(rate), Some(samples)) = (rate, &mut samples) {
-            notes.extend(if to_end { dropped::after(reader) } else { vec![] });
-            return Ok(Clip { samples: std::mem::take(samples), rate, notes });
+            if to_end {
+                beside.after(reader);
+            }
+            let Beside { sampler, notes } = beside;
+            return Ok(Clip { samples: std::mem::take(samples), rate, sampler, notes });
         }
     }
 }

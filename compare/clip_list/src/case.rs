@@ -1,6 +1,5 @@
 //! Calls on a clip, as lines of the list and of the answers.
 
-use crate::codes::image_size;
 use crate::machine::Machine;
 use crate::state::{Start, State, bytes, hexadecimal};
 use oracle::list::Listed;
@@ -42,7 +41,7 @@ pub struct Case(pub Vec<Step>);
 impl Case {
     /// A clip from start to close, on a buffer that is longer by `spare` bytes. The bytes are written at its close.
     pub fn clip(start: &Start, pieces: &[&[i16]], spare: usize) -> Self {
-        let room = image_size(start.total, start.block()) as usize + spare;
+        let room = start.image_size() as usize + spare;
         let mut steps = vec![Step::New, Step::Start { start: start.clone(), room, shown: false }];
         let feed = |piece: &&[i16]| Step::Feed { piece: piece.to_vec(), room, shown: false };
         steps.extend(pieces.iter().map(feed));
@@ -86,12 +85,23 @@ fn lines(step: &Step) -> String {
     let lent = step.lent().unwrap_or_default();
     match step {
         Step::New => line('n', lent, 0, &[]),
-        Step::Put(state) => line('p', lent, state.closed.into(), &state.record()),
+        Step::Put(state) => {
+            line('p', lent, state.closed.into(), &state.record()) + &loop_line(state)
+        }
         Step::Start { start, .. } => {
-            line('s', lent, 0, &State { block: start.size, ..start.state() }.record())
+            let state = State { block: start.size, ..start.state() };
+            loop_line(&state) + &line('s', lent, state.looped.present.into(), &state.record())
         }
         Step::Feed { piece, .. } => piece_lines(piece, lent),
         Step::Close { .. } => line('c', lent, 0, &[]),
+    }
+}
+
+/// The line that puts a state's loop; none where there is nothing to put.
+fn loop_line(state: &State) -> String {
+    match state.has_loop() {
+        true => line('l', (0, false), state.looped.present.into(), &state.loop_record()),
+        false => String::new(),
     }
 }
 

@@ -2,6 +2,7 @@
 
 use crate::case::{Case, Step};
 use crate::codes::image_size;
+use crate::loops::loops;
 use crate::machine::Machine;
 use crate::older_banks::older_banks;
 use crate::refusals::{refused_calls, refused_starts, refused_states};
@@ -34,6 +35,7 @@ pub fn cases() -> Vec<Case> {
         on_used_buffers(&mut random),
         from_any_state(&mut random),
         older_banks(&mut Random::new(2)),
+        loops(&mut Random::new(3)),
     ];
     lists.concat()
 }
@@ -47,6 +49,7 @@ fn worked() -> Vec<Case> {
         gain: 0,
         coefficients: [0; 16],
         history: [0; 2],
+        looped: None,
     };
     let one = [0, 30].map(|spare| Case::clip(&start(1, 15), &[&[9]], spare));
     let sizes = [(1, 8), (14, 8), (15, 8), (15, 16)];
@@ -64,6 +67,7 @@ pub fn start(random: &mut Random, total: usize, size: usize) -> Start {
         gain: random.bits() as u16,
         coefficients: random.coefficients(),
         history: [random.sample(), random.sample()],
+        looped: None,
     }
 }
 
@@ -171,7 +175,7 @@ fn begun(random: &mut Random) -> Vec<Case> {
 }
 
 /// Has the bytes written.
-fn show(step: &mut Step) {
+pub fn show(step: &mut Step) {
     if let Step::Start { shown, .. } | Step::Feed { shown, .. } | Step::Close { shown, .. } = step {
         *shown = true;
     }

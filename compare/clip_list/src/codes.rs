@@ -1,5 +1,6 @@
 //! The documents' numbers of refusals, read plainly; 0 where a call is accepted.
 
+use crate::looped::Loop;
 use crate::state::{Start, State};
 use oracle::pairs::are_within_limit;
 
@@ -11,10 +12,24 @@ fn frames(total: u32) -> u64 {
     u64::from(total).div_ceil(14)
 }
 
-/// "Image size S = 56 + 16K + T".
+/// "Image size S = 56 + 16K + T", of a clip without a loop.
 pub fn image_size(total: u32, block: u32) -> u64 {
     let last = u64::from(total) - 14 * (frames(total) - 1);
     56 + 16 * block_count(total, block) + 8 * (frames(total) - 1) + 1 + last.div_ceil(2)
+}
+
+impl Start {
+    /// S: with a loop "S grows by 16".
+    pub fn image_size(&self) -> u64 {
+        image_size(self.total, self.block()) + self.looped.map_or(0, |_| 16)
+    }
+}
+
+impl State {
+    /// The same of a state.
+    pub fn image_size(&self) -> u64 {
+        image_size(self.total, self.block) + self.looped.looped().map_or(0, |_| 16)
+    }
 }
 
 /// "Blocks K = ⌈8F/B⌉".
@@ -24,6 +39,11 @@ pub fn block_count(total: u32, block: u32) -> u64 {
 
 fn total_is_bad(total: u32) -> bool {
     total == 0 || total > MOST_SAMPLES
+}
+
+/// Code 23's rule, of a loop where there is one.
+fn loop_is_bad(looped: Option<Loop>, total: u32) -> bool {
+    looped.is_some_and(|looped| !looped.is_within(total))
 }
 
 fn size_is_bad(size: u32) -> bool {
@@ -40,6 +60,7 @@ fn state_is_bad(state: &State) -> bool {
         || block % 8 != 0
         || rate == 0
         || !are_within_limit(&state.coefficients)
+        || loop_is_bad(state.looped.looped(), total)
         || closed && fed < total
         || u64::from(state.passes) > 104 * encoded
 }
@@ -55,7 +76,9 @@ pub fn start_code(start: &Start, room: usize) -> u8 {
         6
     } else if !are_within_limit(&start.coefficients) {
         7
-    } else if (room as u64) < image_size(total, start.block()) {
+    } else if loop_is_bad(start.looped, total) {
+        23
+    } else if (room as u64) < start.image_size() {
         8
     } else {
         0
@@ -66,7 +89,7 @@ pub fn start_code(start: &Start, room: usize) -> u8 {
 fn going_code(state: &State, room: usize) -> u8 {
     if state_is_bad(state) {
         1
-    } else if (room as u64) < image_size(state.total, state.block) {
+    } else if (room as u64) < state.image_size() {
         8
     } else if state.closed {
         9

@@ -2,7 +2,7 @@
 
 use crate::case::{Case, Step};
 use crate::cases::{HISTORIES, after, start, with_tail};
-use crate::codes::image_size;
+use crate::random_loops::{broken_loop, with_loop_by_hand, with_random_loop};
 use crate::state::{Start, State};
 use oracle::measure;
 use oracle::pairs::largest_measured;
@@ -13,7 +13,8 @@ pub fn random_clip(random: &mut Random) -> Case {
     let samples = random_samples(random);
     let start = random_start(random, &samples);
     let start = with_larger_coefficients(random, start);
-    let room = image_size(start.total, start.block()) as usize + random.below_one(&[1, 4, 100]);
+    let start = with_random_loop(random, start);
+    let room = start.image_size() as usize + random.below_one(&[1, 4, 100]);
     let mut steps = vec![Step::New];
     if random.below(8) == 0 {
         steps.push(refused_start(random, &start, room));
@@ -104,7 +105,7 @@ fn cut<'s>(random: &mut Random, mut samples: &'s [i16]) -> Vec<&'s [i16]> {
 fn refused_start(random: &mut Random, good: &Start, room: usize) -> Step {
     let (mut start, mut room) = (good.clone(), room);
     for _ in 0..1 + random.below(3) {
-        match random.below(6) {
+        match random.below(8) {
             0 => start.total = [0, 14_680_065 + random.below(9) as u32][random.below(2)],
             1 => start.rate = 0,
             2 => {
@@ -113,7 +114,8 @@ fn refused_start(random: &mut Random, good: &Start, room: usize) -> Step {
             }
             3 => start.coefficients = random.with_pair_beyond(start.coefficients),
             4 => start.total = 14_680_064,
-            _ => room = random.below(image_size(good.total, good.block()) as usize),
+            5 | 6 => start.looped = Some(broken_loop(random, good.total)),
+            _ => room = random.below(good.image_size() as usize),
         }
     }
     Step::Start { start, room, shown: false }
@@ -132,12 +134,13 @@ fn refused_call(random: &mut Random, left: usize, closed: bool, room: usize) -> 
     Step::Close { room: if could_close { short } else { some }, shown }
 }
 
-/// Puts a state that no run gives: a stale tail, another history, or one that is refused, which is put right after a call.
+/// Puts a state that no run gives: a stale tail, another history, another loop, or one that is refused, which is put right after a call.
 fn alter(random: &mut Random, steps: &mut Vec<Step>, room: usize) {
     let state = after(steps);
-    match random.below(4) {
+    match random.below(6) {
         0 | 1 => steps.push(Step::Put(with_tail(random, state))),
-        2 => {
+        2 | 3 => steps.push(Step::Put(with_loop_by_hand(random, state))),
+        4 => {
             let history = [random.sample(), random.sample()];
             steps.push(Step::Put(State { history, ..with_tail(random, state) }));
         }
@@ -156,13 +159,14 @@ fn alter(random: &mut Random, steps: &mut Vec<Step>, room: usize) {
 /// A state that is refused.
 fn bad(random: &mut Random, state: &State) -> State {
     let mut bad = state.clone();
-    match random.below(8) {
+    match random.below(10) {
         0 => bad.fed = bad.total + 1 + random.below(9) as u32,
         1 => bad.total = [0, 14_680_065][random.below(2)],
         2 => bad.block = [0, 4, 65_544, bad.block + 1 + random.below(7) as u32][random.below(4)],
         3 => bad.rate = 0,
         4 | 5 => bad.coefficients = random.with_pair_beyond(bad.coefficients),
         6 if bad.fed < bad.total => bad.closed = true,
+        7 | 8 => bad.looped = Some(broken_loop(random, bad.total)).into(),
         _ => bad.passes = 104 * (bad.fed / 14) + 1,
     }
     bad

@@ -1,8 +1,9 @@
 //! What the Rust's encoder makes of the pieces fed since a start.
 
-use crate::image::{MARK, encode_from, image_of, split, write_blocks};
+use crate::image::{encode_from, image_of, split, write_blocks, write_end};
+use crate::loop_entry::context_at;
 use crate::state::{Start, State};
-use oracle::{Block, History, SAMPLES_PER_FRAME, encode_frame};
+use oracle::{Block, FrameContext, History, SAMPLES_PER_FRAME, encode_frame};
 
 /// The state and the buffer at a start or where either was put, and the pieces fed since.
 #[derive(Default)]
@@ -36,21 +37,41 @@ impl Run {
         let (full, rest) = samples.split_at(samples.len() - unfinished);
         let (encoded, _) = split(&pieces, full.len());
         let (blocks, history) = encode_from(&self.from, fed / SAMPLES_PER_FRAME, &encoded);
-        let image = self.image(&blocks, closed.then_some(&pieces));
         let is_empty = full.is_empty() && !closed;
         let mut frame = if is_empty { self.from.frame } else { [0; SAMPLES_PER_FRAME] };
         frame[..rest.len()].copy_from_slice(rest);
         let fed = (fed + samples.len() - begun) as u32;
+        let loop_context = self.loop_context(&blocks);
+        let from = self.from.clone();
+        let state = State { fed, history, frame, closed, loop_context, ..from };
+        let image = self.image(&blocks, &state, closed.then_some(&pieces));
         let passes = self.from.passes + self.passes(full, history);
-        (State { fed, history, passes, frame, closed, ..self.from.clone() }, image)
+        (State { passes, ..state }, image)
     }
 
-    /// The buffer with blocks at their places, and the mark where the clip is closed with these pieces.
-    fn image(&self, blocks: &[(usize, Block)], closed: Option<&Vec<&[i16]>>) -> Vec<u8> {
+    /// The context at the loop's start: told by these blocks where one of them has its frame, else as it was.
+    fn loop_context(&self, blocks: &[(usize, Block)]) -> FrameContext {
+        let blocks: Vec<_> = blocks.iter().map(|(_, block)| block).collect();
+        let first = self.from.fed as usize / SAMPLES_PER_FRAME;
+        let frames: usize = blocks.iter().map(|block| block.len.div_ceil(16)).sum();
+        let start = self.from.looped.looped().map(|looped| looped.start as usize);
+        let is_here = |s: &usize| (first..first + frames).contains(&(s / SAMPLES_PER_FRAME));
+        start.filter(is_here).map_or(self.from.loop_context, |start| {
+            context_at(&blocks, self.from.history, start - SAMPLES_PER_FRAME * first)
+        })
+    }
+
+    /// The buffer with blocks at their places, and what closing adds where the clip is closed with these pieces.
+    fn image(
+        &self,
+        blocks: &[(usize, Block)],
+        now: &State,
+        closed: Option<&Vec<&[i16]>>,
+    ) -> Vec<u8> {
         let mut image = self.before.clone();
         write_blocks(&mut image, &self.from, blocks);
         if let Some(pieces) = closed {
-            image[..4].copy_from_slice(&MARK);
+            write_end(&mut image, now);
             if let Some(start) = &self.start {
                 let whole = image_of(start, pieces);
                 assert_eq!(image[..whole.len()], whole);

@@ -1,6 +1,8 @@
 //! What a clip is started with, and the encoding state.
 
-use oracle::{Coefficients, History, SAMPLES_PER_FRAME};
+use crate::loop_entry::context_bytes;
+use crate::looped::{Loop, LoopState};
+use oracle::{Coefficients, FrameContext, History, SAMPLES_PER_FRAME};
 
 /// What a clip is started with.
 #[derive(Debug, Clone, PartialEq)]
@@ -12,6 +14,7 @@ pub struct Start {
     pub gain: u16,
     pub coefficients: Coefficients,
     pub history: History,
+    pub looped: Option<Loop>,
 }
 
 /// The encoding state.
@@ -27,6 +30,9 @@ pub struct State {
     pub passes: u32,
     pub frame: [i16; SAMPLES_PER_FRAME],
     pub closed: bool,
+    pub looped: LoopState,
+    /// The context at the loop's start once its frame is encoded, else zeros.
+    pub loop_context: FrameContext,
 }
 
 impl Start {
@@ -44,6 +50,7 @@ impl Start {
             gain: self.gain,
             coefficients: self.coefficients,
             history: self.history,
+            looped: self.looped.into(),
             ..State::default()
         }
     }
@@ -66,14 +73,38 @@ impl State {
         record
     }
 
+    /// Whether one of the numbers of the loop and its context is not zero.
+    pub fn has_loop(&self) -> bool {
+        self.looped != LoopState::default() || self.loop_context != FrameContext::default()
+    }
+
+    /// The record of the loop and its context, from the start on.
+    pub fn loop_record(&self) -> Vec<u8> {
+        let ends = [self.looped.start, self.looped.end].map(u32::to_be_bytes);
+        [ends.concat(), context_bytes(self.loop_context)].concat()
+    }
+
+    /// The words of the loop and its context; none where all their numbers are zero.
+    fn loop_words(&self) -> String {
+        let LoopState { start, end, present } = self.looped;
+        let FrameContext { predictor_and_scale: header, last_samples } = self.loop_context;
+        let history = hexadecimal(&bytes(&last_samples));
+        match self.has_loop() {
+            true => {
+                format!(" {start:08x} {end:08x} {:02x} {header:04x} {history}", u8::from(present))
+            }
+            false => String::new(),
+        }
+    }
+
     /// The words of an answer.
     pub fn words(&self) -> String {
         let Self { total, rate, block, gain, fed, passes, .. } = self;
         let [coefficients, history, frame] = [&self.coefficients[..], &self.history, &self.frame]
             .map(|numbers| hexadecimal(&bytes(numbers)));
-        let closed = u8::from(self.closed);
+        let (closed, looped) = (u8::from(self.closed), self.loop_words());
         format!(
-            "{total:08x} {rate:08x} {block:08x} {gain:04x} {coefficients} {history} {fed:08x} {passes:08x} {frame} {closed:02x}"
+            "{total:08x} {rate:08x} {block:08x} {gain:04x} {coefficients} {history} {fed:08x} {passes:08x} {frame} {closed:02x}{looped}"
         )
     }
 }

@@ -33,7 +33,7 @@ fn bytes_after_the_image_are_kept() {
         for step in &case.0 {
             let image = machine.image.clone();
             if machine.take(step) == 0 && step.lent().is_some() {
-                let size = image_size(machine.state.total, machine.state.block) as usize;
+                let size = machine.state.image_size() as usize;
                 assert_eq!(machine.image[size..], image[size..]);
             }
         }
@@ -84,7 +84,7 @@ fn a_closed_image_is_that_of_the_samples_in_one_piece() {
     let mut count = 0;
     for Closed { start, pieces, buffer } in clips().iter().flat_map(closed) {
         let whole = image_of(&start, &[&pieces.concat()]);
-        assert_eq!(whole.len() as u64, image_size(start.total, start.block()));
+        assert_eq!(whole.len() as u64, start.image_size());
         assert_eq!(buffer[..whole.len()], whole);
         count += 1;
     }

@@ -1,8 +1,10 @@
 //! Calls on images, and their answers as documents 01 and 02 read images and the Rust plays blocks.
 
 use crate::located::Run;
+use crate::looped::{LoopEntry, Turns};
 use crate::reader::{Played, Refused, open, same};
-use clip_list::{bytes, hexadecimal};
+use clip_list::{Loop, bytes, hexadecimal};
+use oracle::FrameContext;
 
 /// A call; all but the last two are made on the first image.
 #[derive(Debug, Clone, Copy, PartialEq)]
@@ -24,6 +26,11 @@ pub enum Call {
         first: u32,
         room: usize,
     },
+    /// Plays the loop some times over.
+    PlayLoop {
+        times: u32,
+        room: usize,
+    },
     Same,
     /// Compares the second image with the first.
     Reversed,
@@ -37,18 +44,20 @@ impl Call {
             Self::Play { .. } => 'p',
             Self::PlayAll { .. } => 'a',
             Self::PlayFrom { .. } => 'm',
+            Self::PlayLoop { .. } => 't',
             Self::Same => 's',
             Self::Reversed => 'r',
         }
     }
 
-    /// The number of the block or of the first sample, and the output's length; zero where there is none.
+    /// The number of the block, of the first sample or of times, and the output's length; zero where there is none.
     pub fn numbers(self) -> (u32, usize) {
         match self {
             Self::Body { k } => (k, 0),
             Self::Play { k, room } => (k, room),
             Self::PlayAll { room } => (0, room),
             Self::PlayFrom { first, room } => (first, room),
+            Self::PlayLoop { times, room } => (times, room),
             _ => (0, 0),
         }
     }
@@ -67,6 +76,9 @@ impl Call {
             Self::PlayFrom { first: sample, room } => {
                 run(room, open(first).and_then(|image| image.play_from(sample, room)))
             }
+            Self::PlayLoop { times, room } => {
+                turns(room, open(first).and_then(|image| image.play_loop(times, room)))
+            }
             Self::Same => compared(first, second),
             Self::Reversed => compared(second, first),
         }
@@ -82,15 +94,30 @@ fn begun<T>(answer: &Result<T, Refused>) -> String {
 fn opened(image: &[u8]) -> String {
     let opened = open(image);
     let begun = begun(&opened);
-    let ([total, rate, block], coefficients, gain, blocks) = match opened {
+    let ([total, rate, block], coefficients, gain, blocks, looped) = match opened {
         Ok(head) => {
             let numbers = [head.total, head.rate, head.block];
-            (numbers, head.coefficients, head.gain, head.entries.len())
+            let looped = head.looped.map_or(String::new(), loop_words);
+            (numbers, head.coefficients, head.gain, head.entries.len(), looped)
         }
-        Err(_) => ([0; 3], [0; 16], 0, 0),
+        Err(_) => ([0; 3], [0; 16], 0, 0, String::new()),
     };
     let coefficients = hexadecimal(&bytes(&coefficients));
-    format!("{begun} {total:08x} {rate:08x} {block:08x} {coefficients} {gain:04x} {blocks:08x}")
+    format!(
+        "{begun} {total:08x} {rate:08x} {block:08x} {coefficients} {gain:04x} {blocks:08x}{looped}"
+    )
+}
+
+/// The words of a loop, with a space before them.
+fn loop_words(entry: LoopEntry) -> String {
+    let Loop { start, end } = entry.looped;
+    format!(" {start:08x} {end:08x} {}", context_words(entry.context))
+}
+
+/// A header, and two samples.
+fn context_words(context: FrameContext) -> String {
+    let history = hexadecimal(&bytes(&context.last_samples));
+    format!("{:04x} {history}", context.predictor_and_scale)
 }
 
 fn body(image: &[u8], k: usize) -> String {
@@ -111,15 +138,20 @@ fn output(room: usize, samples: &[i16]) -> String {
 fn played(room: usize, played: Played) -> String {
     let begun = begun(&played);
     let (samples, context) = played.unwrap_or_default();
-    let (count, header) = (samples.len(), context.predictor_and_scale);
-    let history = hexadecimal(&bytes(&context.last_samples));
-    format!("{begun} {count:08x} {header:04x} {history} {}", output(room, &samples))
+    let (count, context) = (samples.len(), context_words(context));
+    format!("{begun} {count:08x} {context} {}", output(room, &samples))
 }
 
 fn run(room: usize, run: Run) -> String {
     let begun = begun(&run);
     let (samples, blocks) = run.unwrap_or_default();
     format!("{begun} {:08x} {blocks:08x} {}", samples.len(), output(room, &samples))
+}
+
+fn turns(room: usize, turns: Turns) -> String {
+    let begun = begun(&turns);
+    let samples = turns.unwrap_or_default();
+    format!("{begun} {:08x} {}", samples.len(), output(room, &samples))
 }
 
 fn compared(first: &[u8], second: &[u8]) -> String {

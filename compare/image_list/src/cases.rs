@@ -4,6 +4,7 @@ use crate::call::Call;
 use crate::case::Case;
 use crate::contents::contents;
 use crate::damage::block_count;
+use crate::loops::loops;
 use crate::made::{Clip, any_image, clip_image};
 use crate::reader::long;
 use crate::refusals::refusals;
@@ -30,13 +31,21 @@ pub fn cases() -> Vec<Case> {
     let mut random = Random::new(2);
     cases.extend(runs(&mut random));
     cases.extend(refused_runs(&mut random));
+    cases.extend(loops(&mut Random::new(3)));
     cases
 }
 
 /// Document 01's image.
 fn worked() -> Case {
-    let start =
-        Start { total: 1, rate: 32_000, size: 15, gain: 0, coefficients: [0; 16], history: [0; 2] };
+    let start = Start {
+        total: 1,
+        rate: 32_000,
+        size: 15,
+        gain: 0,
+        coefficients: [0; 16],
+        history: [0; 2],
+        looped: None,
+    };
     let mut case = Writer::new(&image_of(&start, &[&[9]]));
     case.open().block(0, 1).block(1, 1).all(1).both_ways();
     case.finish()

@@ -1,6 +1,7 @@
 //! Damaged images.
 
 use crate::fault::{FAULTS, change};
+use crate::loop_damage::damage_loop;
 use crate::reader::long;
 use oracle::random::Random;
 
@@ -20,9 +21,19 @@ pub fn block_count(image: &[u8]) -> usize {
     long(image, 52) as usize
 }
 
-/// The bytes of head and table.
-pub fn table(image: &[u8]) -> usize {
+/// Whether an image says that it has a loop.
+pub fn has_loop(image: &[u8]) -> bool {
+    image[50..52] == [0, 1]
+}
+
+/// Where the entry of a loop stands.
+pub fn loop_place(image: &[u8]) -> usize {
     HEAD + ENTRY * block_count(image)
+}
+
+/// The bytes of head and table, the entry of a loop counted.
+pub fn table(image: &[u8]) -> usize {
+    loop_place(image) + if has_loop(image) { ENTRY } else { 0 }
 }
 
 /// Where the body of a block begins, as K and B say.
@@ -45,7 +56,7 @@ pub fn with_nibble(random: &mut Random, image: &[u8]) -> Vec<u8> {
 pub fn damaged(random: &mut Random, image: &[u8]) -> Vec<u8> {
     let mut damaged = image.to_vec();
     let table = table(image);
-    match random.below(10) {
+    match random.below(13) {
         0 => put(&mut damaged, random.below(table), random.bits() as u8),
         1 => damaged[random.below(table)] ^= 1 << random.below(8),
         2 => put(&mut damaged, random.below(image.len()), random.bits() as u8),
@@ -55,9 +66,23 @@ pub fn damaged(random: &mut Random, image: &[u8]) -> Vec<u8> {
         6 => entry(random, &mut damaged),
         7 => faults(random, &mut damaged, 1),
         8 => faults(random, &mut damaged, 2),
+        9 | 10 => damage_loop(random, &mut damaged),
+        11 => {
+            one_more(random, &mut damaged);
+            damage_loop(random, &mut damaged);
+        }
         _ => (0..3).for_each(|_| field(random, &mut damaged)),
     }
     damaged
+}
+
+/// A damage beside one of the loop's.
+fn one_more(random: &mut Random, image: &mut [u8]) {
+    match random.below(4) {
+        0 => image[MARK_END] ^= change(random),
+        1 => lowest_pair(random, image),
+        _ => faults(random, image, 1),
+    }
 }
 
 fn put(image: &mut [u8], place: usize, value: u8) {

@@ -2,16 +2,17 @@
 //!
 //! There are two images. A line of a list has 56 bytes: a letter, a record of 27 bytes in hexadecimal digits, and the line's end.
 //! `b`, `f` and `g` put bytes into both images, the first or the second: 0 their place (two bytes), 2 how many, 3 the bytes. The
-//! others are calls: 0 and 2 the lengths of the two images that are lent (two bytes each), 4 the number of the block or of the first
-//! sample (four bytes), 8 the output's length (two bytes). `o` opens the first image, `k` finds the body of a block of it, `p` plays
-//! that block, `a` plays all blocks, `m` plays from that sample on, `s` compares the first image with the second, `r` the second with
-//! the first.
+//! others are calls: 0 and 2 the lengths of the two images that are lent (two bytes each), 4 the number of the block, of the first
+//! sample or of times (four bytes), 8 the output's length (two bytes). `o` opens the first image, `k` finds the body of a block of it,
+//! `p` plays that block, `a` plays all blocks, `m` plays from that sample on, `t` plays the loop that many times, `s` compares the first
+//! image with the second, `r` the second with the first.
 //!
 //! A line answers each call: 00 or the refusal's number; with 20, 21 and 22 the block whose entry is bad, else 0; then N, rate, B,
-//! coefficients, gain and K, zeros where opening is refused; the body, if there is one; the count, the context (`m`: the blocks that
-//! were touched, in eight digits) and the whole output, which holds 5A in each byte at first; or 1 where the images are the same and
-//! else 0. Images are made of the Rust's blocks, and what is played is the Rust's answer; how an image is read, and the numbers of the
-//! refusals, are document 01's with changes 1/13 and 4/13 of document 02.
+//! coefficients, gain and K, zeros where opening is refused, and where the image opens and has a loop its start, its end (eight digits
+//! each) and its context; the body, if there is one; the count, the context (`m`: the blocks that were touched, in eight digits; `t`:
+//! neither) and the whole output, which holds 5A in each byte at first; or 1 where the images are the same and else 0. Images are made
+//! of the Rust's blocks, and what is played is the Rust's answer; how an image is read, and the numbers of the refusals, are document
+//! 01's with changes 1/13, 4/13 and 5/13 of document 02.
 
 mod call;
 mod case;
@@ -20,6 +21,9 @@ mod contents;
 mod damage;
 mod fault;
 mod located;
+mod loop_damage;
+mod looped;
+mod loops;
 mod made;
 mod random;
 pub mod reader;
@@ -33,9 +37,12 @@ pub use call::Call;
 pub use case::{Case, Machine, Step, To};
 pub use cases::cases;
 pub use damage::{
-    ENTRY, HEAD, LOWEST, MARK_END, PAIRS, block_count, body, damaged, table, with_nibble,
+    ENTRY, HEAD, LOWEST, MARK_END, PAIRS, block_count, body, damaged, has_loop, loop_place, table,
+    with_nibble,
 };
 pub use fault::{FAULTS, Fault, change};
 pub use located::{Located, Run};
-pub use made::{any_image, clip_image, put_any_bytes, put_any_histories};
-pub use random::{random_images, random_run};
+pub use loop_damage::{damage_loop, loop_frame, put_ends};
+pub use looped::{LoopEntry, Turns};
+pub use made::{any_image, clip_image, looped_or_not, put_any_bytes, put_any_histories};
+pub use random::{random_images, random_run, random_turns};

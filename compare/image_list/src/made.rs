@@ -1,9 +1,10 @@
 //! Images: of clips, and of any bytes.
 
-use crate::damage::{ENTRY, HEAD, block_count, table};
+use crate::damage::{ENTRY, HEAD, block_count, has_loop, loop_place, table};
 use crate::fault::change;
+use crate::loop_damage::loop_frame;
 use crate::reader::long;
-use clip_list::{Start, bytes, image_of, random_start};
+use clip_list::{Loop, Start, bytes, image_of, random_start, with_random_loop};
 use oracle::random::Random;
 
 /// What a clip is started with, and its samples.
@@ -31,9 +32,15 @@ impl Clip {
         image_of(&Start { size, ..self.start.clone() }, &[&self.samples])
     }
 
-    /// The image of the first samples.
+    /// The image with another loop, or with none.
+    pub fn image_with(&self, looped: Option<Loop>) -> Vec<u8> {
+        image_of(&Start { looped, ..self.start.clone() }, &[&self.samples])
+    }
+
+    /// The image of the first samples, with the loop where it is one of them.
     pub fn image_of_first(&self, total: usize) -> Vec<u8> {
-        let start = Start { total: total as u32, ..self.start.clone() };
+        let looped = self.start.looped.filter(|looped| looped.is_within(total as u32));
+        let start = Start { total: total as u32, looped, ..self.start.clone() };
         image_of(&start, &[&self.samples[..total]])
     }
 }
@@ -41,6 +48,13 @@ impl Clip {
 /// The image of a clip.
 pub fn clip_image(random: &mut Random, total: usize, size: u32) -> Vec<u8> {
     Clip::new(random, total, size).image()
+}
+
+/// The image of a clip, half of the time with a loop.
+pub fn looped_or_not(random: &mut Random, total: usize, size: u32) -> Vec<u8> {
+    let clip = Clip::new(random, total, size);
+    let start = with_random_loop(random, clip.start);
+    image_of(&start, &[&clip.samples])
 }
 
 /// An image that opens, with any coefficients but two of -32,768 in a pair, any bodies and any histories.
@@ -63,12 +77,15 @@ pub fn put_any_bytes(random: &mut Random, image: &mut [u8]) {
         let place = HEAD + ENTRY * k;
         image[place + 9] = image[long(image, place) as usize];
     }
+    if has_loop(image) {
+        image[loop_place(image) + 9] = image[loop_frame(image)];
+    }
     put_any_histories(random, image);
 }
 
-/// Puts any histories into the entries, others than the blocks before leave.
+/// Puts any histories into the entries, others than the blocks before leave, and into the entry of a loop.
 pub fn put_any_histories(random: &mut Random, image: &mut [u8]) {
-    for k in 0..block_count(image) {
+    for k in 0..block_count(image) + usize::from(has_loop(image)) {
         let place = HEAD + ENTRY * k + 10;
         let history = bytes(&[random.sample(), random.sample()]);
         image[place..place + 4].copy_from_slice(&history);

@@ -2,21 +2,22 @@
 
 use crate::call::Call;
 use crate::case::{Case, MOST_ROOM};
-use crate::damage::{block_count, damaged, with_nibble};
-use crate::made::{Clip, any_image};
+use crate::damage::{block_count, damaged, has_loop, loop_place, with_nibble};
+use crate::made::{Clip, put_any_bytes};
 use crate::reader::long;
 use crate::writer::Writer;
-use clip_list::{random_samples, random_start};
+use clip_list::{random_loop, random_samples, random_start, with_random_loop};
 use oracle::random::Random;
 
 /// A random image that is opened, read, damaged and compared.
 pub fn random_images(random: &mut Random) -> Case {
     let samples = random_samples(random);
-    let clip = Clip { start: random_start(random, &samples), samples };
-    let image = match random.below(4) {
-        0 => any_image(random, clip.samples.len(), clip.start.size),
-        _ => clip.image(),
-    };
+    let start = random_start(random, &samples);
+    let clip = Clip { start: with_random_loop(random, start), samples };
+    let mut image = clip.image();
+    if random.below(4) == 0 {
+        put_any_bytes(random, &mut image);
+    }
     let after = random.below_one(&[1, 1, 40]);
     let image = [&image[..], &random_bytes(random, after)].concat();
     let mut case = Writer::new(&image);
@@ -25,12 +26,14 @@ pub fn random_images(random: &mut Random) -> Case {
     for _ in 0..3 {
         read(random, &mut case, &image);
         run(&mut of_runs, &mut case, &image);
+        turns(random, &mut case, &image);
     }
     for _ in 0..4 {
         let other = altered(random, &clip, &image);
         case.first(&other);
         read(random, &mut case, &image);
         run(&mut of_runs, &mut case, &image);
+        turns(random, &mut case, &image);
         case.open().both_ways();
         if random.below(4) == 0 {
             case.second(&altered(random, &clip, &image)).both_ways().second(&image);
@@ -49,12 +52,16 @@ fn random_bytes(random: &mut Random, len: usize) -> Vec<u8> {
     (0..len).map(|_| random.bits() as u8).collect()
 }
 
-/// The image damaged, with a nibble changed, or at another block size.
+/// The image damaged, with a nibble changed, at another block size, or with another loop.
 fn altered(random: &mut Random, clip: &Clip, image: &[u8]) -> Vec<u8> {
-    match random.below(8) {
+    match random.below(9) {
         0 => clip.image_at(8 + random.below(200) as u32),
         1 => clip.image_of_first(1 + random.below(clip.samples.len())),
         2 => with_nibble(random, image),
+        3 => {
+            let other = random_loop(random, clip.start.total, clip.start.block());
+            clip.image_with([None, Some(other)][random.below(2)])
+        }
         _ => damaged(random, image),
     }
 }
@@ -76,6 +83,32 @@ fn read(random: &mut Random, case: &mut Writer, image: &[u8]) {
         let total = (long(image, 4) as usize).saturating_add_signed(random.within(2) as isize);
         case.all(total.min(MOST_ROOM));
     }
+}
+
+/// Plays the loop up to three times, or more often than there is room for.
+fn turns(random: &mut Random, case: &mut Writer, image: &[u8]) {
+    let (times, room) = random_turns(random, image);
+    case.turns(times, room.min(MOST_ROOM));
+}
+
+/// How many times an image's loop is played, and with which room; some are one sample short.
+pub fn random_turns(random: &mut Random, image: &[u8]) -> (u32, usize) {
+    let times = match random.below(16) {
+        0 => [random.bits() as u32, u32::MAX, 1 << 31, 0x1_0000][random.below(4)],
+        1 | 2 => 0,
+        _ => 1 + random.below(3) as u32,
+    };
+    let samples = match has_loop(image) {
+        true => long(image, loop_place(image) + 4) - long(image, loop_place(image)),
+        false => random.below(3) as u32,
+    };
+    let needed = u64::from(times) * u64::from(samples);
+    let most = needed.min(4 * u64::from(long(image, 4))) as usize;
+    let room = match random.below(4) {
+        0 => most.saturating_sub(1 + random.below_one(&[1, 20])),
+        _ => most + random.below_one(&[1, 1, 20]),
+    };
+    (times, room)
 }
 
 /// Plays a run or two.

@@ -1,5 +1,6 @@
-//! Document 01's image, read plainly, its table as change 4/13 of document 02 tests it; its blocks are played by the Rust.
+//! Document 01's image, read plainly, its table as changes 4/13 and 5/13 of document 02 test it; its blocks are played by the Rust.
 
+use crate::looped::{LoopEntry, loop_entry};
 use block_list::has_lowest_pair;
 use clip_list::{block_count, image_size};
 use oracle::{Coefficients, FrameContext, address_to_sample, decode};
@@ -12,6 +13,7 @@ pub struct Opened<'i> {
     pub gain: u16,
     pub coefficients: Coefficients,
     pub entries: Vec<Entry>,
+    pub looped: Option<LoopEntry>,
     bytes: &'i [u8],
 }
 
@@ -38,7 +40,8 @@ pub struct Entry {
     pub context: FrameContext,
 }
 
-fn word(bytes: &[u8], place: usize) -> u16 {
+/// The number of two bytes at a place.
+pub(crate) fn word(bytes: &[u8], place: usize) -> u16 {
     u16::from_be_bytes([bytes[place], bytes[place + 1]])
 }
 
@@ -47,32 +50,42 @@ pub fn long(bytes: &[u8], place: usize) -> u32 {
     u32::from(word(bytes, place)) * 65_536 + u32::from(word(bytes, place + 2))
 }
 
-/// The sizes of section 2.
+/// The context of six bytes at a place.
+pub(crate) fn context(bytes: &[u8], place: usize) -> FrameContext {
+    let [header, newest, older] = [0, 2, 4].map(|part| word(bytes, place + part));
+    FrameContext { predictor_and_scale: header, last_samples: [newest as i16, older as i16] }
+}
+
+/// The sizes of section 2, and how many entries follow those of the blocks.
 struct Sizes {
     frames: usize,
     last: usize,
     blocks: usize,
+    loops: usize,
     whole: usize,
 }
 
-fn sizes(total: u32, block: u32) -> Sizes {
+fn sizes(total: u32, block: u32, loops: u16) -> Sizes {
     let frames = (total as usize).div_ceil(14);
     let last = total as usize - 14 * (frames - 1);
-    let [blocks, whole] = [block_count(total, block), image_size(total, block)];
-    Sizes { frames, last, blocks: blocks as usize, whole: whole as usize }
+    let [blocks, whole] =
+        [block_count(total, block), image_size(total, block)].map(|size| size as usize);
+    let loops = usize::from(loops);
+    Sizes { frames, last, blocks, loops, whole: whole + 16 * loops }
 }
 
-/// Opens an image, or gives code 15, or 20, 21 or 22 with the first block whose entry is bad: "entries in rising order".
+/// Opens an image, or gives code 15, or 20, 21 or 22 with the first block whose entry is bad: "entries in rising order"; or 24, "after 22".
 pub fn open(bytes: &[u8]) -> Result<Opened<'_>, Refused> {
     if bytes.len() < 56 || bytes[..4] != [0x44, 0x53, 0x50, 0x43] {
         return Err(Refused::by(15));
     }
     let (total, rate, block) = (long(bytes, 4), long(bytes, 8), long(bytes, 12));
     let is_block = (8..=65_536).contains(&block) && block % 8 == 0;
-    if total == 0 || total > 14_680_064 || rate == 0 || !is_block || word(bytes, 50) != 0 {
+    let loops = word(bytes, 50);
+    if total == 0 || total > 14_680_064 || rate == 0 || !is_block || loops > 1 {
         return Err(Refused::by(15));
     }
-    let sizes = sizes(total, block);
+    let sizes = sizes(total, block, loops);
     if long(bytes, 52) as usize != sizes.blocks || bytes.len() < sizes.whole {
         return Err(Refused::by(15));
     }
@@ -81,14 +94,18 @@ pub fn open(bytes: &[u8]) -> Result<Opened<'_>, Refused> {
     for k in 0..sizes.blocks {
         entries.push(entry(bytes, &sizes, block as usize, k)?);
     }
-    Ok(Opened { total, rate, block, gain: word(bytes, 48), coefficients, entries, bytes })
+    let looped = match loops {
+        0 => None,
+        _ => Some(loop_entry(bytes, 56 + 16 * sizes.blocks, total)?),
+    };
+    Ok(Opened { total, rate, block, gain: word(bytes, 48), coefficients, entries, looped, bytes })
 }
 
 /// The entry of a block: "20 for an offset, 21 for a length or zero bytes, 22 for a predictor-and-scale", "in that sequence".
 fn entry(bytes: &[u8], sizes: &Sizes, block: usize, k: usize) -> Result<Entry, Refused> {
     let bad = |code| Err(Refused { code, block: k as u32 });
     let place = 56 + 16 * k;
-    let offset = 56 + 16 * sizes.blocks + block * k;
+    let offset = 56 + 16 * (sizes.blocks + sizes.loops) + block * k;
     if long(bytes, place) as usize != offset {
         return bad(20);
     }
@@ -98,12 +115,11 @@ fn entry(bytes: &[u8], sizes: &Sizes, block: usize, k: usize) -> Result<Entry, R
     if long(bytes, place + 4) as usize != nibbles || word(bytes, place + 14) != 0 {
         return bad(21);
     }
-    let predictor_and_scale = word(bytes, place + 8);
-    if predictor_and_scale != u16::from(bytes[offset]) {
+    let context = context(bytes, place + 8);
+    if context.predictor_and_scale != u16::from(bytes[offset]) {
         return bad(22);
     }
-    let last_samples = [word(bytes, place + 10) as i16, word(bytes, place + 12) as i16];
-    Ok(Entry { offset, nibbles, context: FrameContext { predictor_and_scale, last_samples } })
+    Ok(Entry { offset, nibbles, context })
 }
 
 /// The samples that are played, and the context after them.

@@ -25,7 +25,8 @@ fn worked_samples() -> Case {
     let mut coefficients = [0; 16];
     coefficients[0] = 2048;
     let history = [1000, 990];
-    let start = Start { total: 20, rate: 32_000, size: 8, gain: 0, coefficients, history };
+    let start =
+        Start { total: 20, rate: 32_000, size: 8, gain: 0, coefficients, history, looped: None };
     let ramp: Vec<i16> = (0..20).map(|i| 1000 + 6 * i).collect();
     let mut case = Writer::new(&image_of(&start, &[&ramp]));
     case.all(20).from(5, 12).from(0, 20).from(14, 6).from(19, 3);

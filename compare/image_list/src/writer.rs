@@ -65,6 +65,11 @@ impl Writer {
         self.call(Call::PlayFrom { first, room })
     }
 
+    /// Plays the loop some times over with a room.
+    pub fn turns(&mut self, times: u32, room: usize) -> &mut Self {
+        self.call(Call::PlayLoop { times, room })
+    }
+
     /// Compares both ways.
     pub fn both_ways(&mut self) -> &mut Self {
         self.call(Call::Same).call(Call::Reversed)

@@ -21,7 +21,7 @@ fn number(line: &str, place: usize, digits: usize) -> usize {
     usize::from_str_radix(&line[place..place + digits], 16).unwrap()
 }
 
-/// The call of a letter, with the number of a block or of a sample.
+/// The call of a letter, with the number of a block, of a sample or of times.
 fn call_of(letter: &str, k: u32, room: usize) -> Call {
     match letter {
         "o" => Call::Open,
@@ -29,6 +29,7 @@ fn call_of(letter: &str, k: u32, room: usize) -> Call {
         "p" => Call::Play { k, room },
         "a" => Call::PlayAll { room },
         "m" => Call::PlayFrom { first: k, room },
+        "t" => Call::PlayLoop { times: k, room },
         "s" => Call::Same,
         "r" => Call::Reversed,
         _ => panic!("{letter}"),
@@ -97,7 +98,11 @@ fn each_call_has_an_answer() {
         for (call, _, answer) in calls {
             let words: Vec<_> = answer.split(' ').map(str::len).collect();
             match call {
-                Call::Open => assert_eq!(words, [2, 8, 8, 8, 8, 64, 4, 8], "{answer}"),
+                Call::Open => {
+                    let (head, looped) = words.split_at(8);
+                    assert_eq!(head, [2, 8, 8, 8, 8, 64, 4, 8], "{answer}");
+                    assert!([&[][..], &[8, 8, 4, 8]].contains(&looped), "{answer}");
+                }
                 Call::Body { .. } => {
                     assert_eq!((words[0], words[1], words.len()), (2, 8, 3), "{answer}");
                 }
@@ -106,6 +111,9 @@ fn each_call_has_an_answer() {
                 }
                 Call::PlayFrom { room, .. } => {
                     assert_eq!(words, [2, 8, 8, 8, 4 * room], "{answer}");
+                }
+                Call::PlayLoop { room, .. } => {
+                    assert_eq!(words, [2, 8, 8, 4 * room], "{answer}");
                 }
                 Call::Same | Call::Reversed => assert_eq!(words, [2, 8, 8], "{answer}"),
             }
@@ -123,14 +131,16 @@ fn kinds(cases: &[Case]) -> Vec<String> {
 }
 
 /// All kinds that there are.
-const KINDS: &str = "o00 o0f o14 o15 o16 k00 k0f k11 k14 k15 k16 p00 p0d p0e p0f p11 p14 p15 p16 \
-    a00 a0d a0e a0f a14 a15 a16 m00 m0d m0f m13 m14 m15 m16 s0 s1 s0d s0f s14 s15 s16 r0 r1 r0d r0f r14 r15 r16";
+const KINDS: &str = "o00 o0f o14 o15 o16 o18 k00 k0f k11 k14 k15 k16 k18 p00 p0d p0e p0f p11 p14 p15 p16 p18 \
+    a00 a0d a0e a0f a14 a15 a16 a18 m00 m0d m0f m13 m14 m15 m16 m18 t00 t0d t0e t0f t14 t15 t16 t18 \
+    s0 s1 s0d s0f s14 s15 s16 s18 r0 r1 r0d r0f r14 r15 r16 r18";
 
 #[test]
 fn every_call_has_every_answer() {
     for (kinds, least) in [(kinds(&cases()), 5), (kinds(&random_cases(2000)), 20)] {
         for kind in KINDS.split(' ') {
             let count = kinds.iter().filter(|other| *other == kind).count();
+            let least = if least < 20 && kind.starts_with('t') { 1 } else { least };
             assert!(count >= least, "{kind}: {count}");
         }
         assert!(kinds.iter().all(|kind| KINDS.split(' ').any(|known| known == kind)));
@@ -147,9 +157,9 @@ fn bad_entries(cases: &[Case]) -> Vec<(char, u8, usize)> {
 
 #[test]
 fn every_call_names_the_first_block_and_later_ones() {
-    for cases in [cases(), random_cases(2000)] {
+    for (cases, letters) in [(cases(), "okpamsr"), (random_cases(2000), "okpamtsr")] {
         let seen = bad_entries(&cases);
-        for letter in "okpamsr".chars() {
+        for letter in letters.chars() {
             for code in 20..=22 {
                 let blocks = seen.iter().filter(|bad| (bad.0, bad.1) == (letter, code));
                 let later = blocks.clone().filter(|bad| bad.2 > 0).count();
@@ -183,6 +193,9 @@ fn two_images_are_refused_in_every_order() {
         let mut seen = pairs.iter().filter(|pair| pair.map(code) == codes);
         assert!(seen.any(|pair| is_told(*pair)), "{codes:?}");
     }
+    for codes in [0, 13, 15, 20, 22].map(|other| [[24, other], [other, 24]]).concat() {
+        assert!(pairs.iter().any(|pair| pair.map(code) == codes), "{codes:?}");
+    }
 }
 
 #[test]
@@ -207,6 +220,16 @@ fn each_byte_of_a_head_and_a_table_is_altered_alone() {
         count += u32::from((0..table).all(|place| altered.contains(&vec![place])));
     }
     assert_eq!(count, 3);
+}
+
+#[test]
+fn half_of_the_random_images_have_a_loop() {
+    let cases = random_cases(2000);
+    let opened = cases.iter().flat_map(answered).filter(|(call, ..)| *call == Call::Open);
+    let looped = |(_, _, answer): (_, _, String)| answer.split(' ').count() == 12;
+    let (with, without): (Vec<_>, Vec<_>) =
+        opened.filter(|(_, _, answer)| answer.starts_with("00")).map(looped).partition(|has| *has);
+    assert!((without.len() * 3 / 4..without.len()).contains(&with.len()), "{}", with.len());
 }
 
 #[test]

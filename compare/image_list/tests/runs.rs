@@ -49,7 +49,8 @@ fn ramp() -> Vec<u8> {
     let mut coefficients = [0; 16];
     coefficients[0] = 2048;
     let history = [1000, 990];
-    let start = Start { total: 20, rate: 32_000, size: 8, gain: 0, coefficients, history };
+    let start =
+        Start { total: 20, rate: 32_000, size: 8, gain: 0, coefficients, history, looped: None };
     let ramp: Vec<i16> = (0..20).map(|i| 1000 + 6 * i).collect();
     image_of(&start, &[&ramp])
 }

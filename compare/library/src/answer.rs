@@ -1,6 +1,7 @@
 //! Answers that can be compared, and altered to see that a comparison can fail.
 
-use crate::ffi::{Body, Comparison, Opening, Part, Playback};
+use crate::c_encoding::Encoding;
+use crate::ffi::{Body, Comparison, Opening, Part, Playback, Turns};
 use clip_list::State;
 use image_list::reader::Refused;
 use oracle::FrameContext;
@@ -152,7 +153,48 @@ macro_rules! answers_of_c {
     };
 }
 
-answers_of_c!(Opening Body Playback Comparison);
+answers_of_c!(Body Playback Comparison);
+
+/// Where there is a loop, its context alone is altered.
+impl Answer for Opening {
+    fn alter(&mut self) {
+        match self.code {
+            0 if self.looped.present == 1 => self.loop_context.last_samples.alter(),
+            20..=22 => self.entry ^= 1,
+            _ => self.code ^= 1,
+        }
+    }
+
+    fn refused(&self) -> Option<Refused> {
+        refused_by(self.code, self.entry)
+    }
+}
+
+/// Where a loop is played, the count of its samples alone is altered.
+impl Answer for Turns {
+    fn alter(&mut self) {
+        match self.code {
+            0 => self.samples ^= 1,
+            20..=22 => self.entry ^= 1,
+            _ => self.code ^= 1,
+        }
+    }
+
+    fn refused(&self) -> Option<Refused> {
+        refused_by(self.code, self.entry)
+    }
+}
+
+/// Of a state its loop's context alone is altered.
+impl Answer for Encoding {
+    fn alter(&mut self) {
+        self.encoder.loop_context.last_samples.alter();
+    }
+
+    fn refused(&self) -> Option<Refused> {
+        refused_by(self.code, 0)
+    }
+}
 
 /// Where a run is played, the count of its blocks alone is altered.
 impl Answer for Part {

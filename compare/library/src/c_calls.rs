@@ -1,10 +1,10 @@
 //! Each call that reads an image, through C and as documents 01 and 02 say, every field of its answer and the whole output.
 
-use crate::ffi::{self, Body, Comparison, Context, Head, Opening, Part, Playback};
+use crate::ffi::{self, Body, Comparison, Context, Head, Loop, Opening, Part, Playback, Turns};
 use crate::reading::pattern;
 use crate::tally::Tally;
 use image_list::reader::{Opened, Played, Refused, same};
-use image_list::{Located, Run};
+use image_list::{Located, LoopEntry, Run};
 use oracle::FrameContext;
 
 /// An image as it is read, whether it opens or not.
@@ -20,7 +20,7 @@ pub fn shown(image: &[u8]) -> &[u8] {
     &image[..image.len().min(1000)]
 }
 
-fn context(context: FrameContext) -> Context {
+pub fn context(context: FrameContext) -> Context {
     let FrameContext { predictor_and_scale, last_samples } = context;
     Context { predictor_and_scale, last_samples }
 }
@@ -30,11 +30,20 @@ fn head(opened: &Opened) -> Head {
     Head { total, rate, block, gain, coefficients, blocks: opened.entries.len() as u32 }
 }
 
+/// The loop that an entry says, and its context.
+fn looped(entry: LoopEntry) -> (Loop, Context) {
+    let clip_list::Loop { start, end } = entry.looped;
+    (Loop { start, end, present: 1 }, context(entry.context))
+}
+
 /// Opens an image.
 pub fn compare_open(image: &[u8], read: &Read, tally: &mut Tally) {
     let (code, entry) = begun(read);
     let head = read.as_ref().map(head).unwrap_or_default();
-    tally.compare("open", &shown(image), ffi::open(image), Opening { code, entry, head });
+    let looped = read.as_ref().ok().and_then(|opened| opened.looped).map(looped);
+    let (looped, loop_context) = looped.unwrap_or_default();
+    let right = Opening { code, entry, head, looped, loop_context };
+    tally.compare("open", &shown(image), ffi::open(image), right);
 }
 
 /// Finds the body of block `k`.
@@ -106,6 +115,20 @@ pub fn compare_play_from(image: &[u8], right: &Run, first: u32, room: usize, tal
     let right = Part { code, entry, samples: samples.len() as u64, blocks };
     tally.compare("play_from", &(shown(image), first, room), library, right);
     tally.compare("play_from's output", &(shown(image), first, room), out, right_out);
+}
+
+/// Plays the loop some times over with a room.
+pub fn compare_play_loop(image: &[u8], read: &Read, times: u32, room: usize, tally: &mut Tally) {
+    let mut out = pattern(room);
+    let library = ffi::play_loop(image, times, &mut out);
+    let right = opened(read).and_then(|opened| opened.play_loop(times, room));
+    let (code, entry) = begun(&right);
+    let samples = right.unwrap_or_default();
+    let mut right_out = pattern(room);
+    right_out[..samples.len()].copy_from_slice(&samples);
+    let right = Turns { code, entry, samples: samples.len() as u64 };
+    tally.compare("play_loop", &(shown(image), times, room), library, right);
+    tally.compare("play_loop's output", &(shown(image), times, room), out, right_out);
 }
 
 /// Compares two images.

@@ -1,6 +1,6 @@
 //! From the library's types to the Rust's, and back.
 
-use clip_list::{Start, State};
+use clip_list::{Loop, LoopState, Start, State};
 use doilycairn::{Coefficients, EncoderState, Refusal};
 use image_list::reader::Refused;
 use oracle::{FrameContext, History};
@@ -33,6 +33,26 @@ pub fn library_context(context: FrameContext) -> doilycairn::FrameContext {
     doilycairn::FrameContext { predictor_and_scale, last_samples }
 }
 
+pub fn looped(looped: doilycairn::Loop) -> Loop {
+    let doilycairn::Loop { start, end } = looped;
+    Loop { start, end }
+}
+
+fn library_loop(looped: Loop) -> doilycairn::Loop {
+    let Loop { start, end } = looped;
+    doilycairn::Loop { start, end }
+}
+
+fn loop_state(looped: doilycairn::LoopState) -> LoopState {
+    let doilycairn::LoopState { start, end, present } = looped;
+    LoopState { start, end, present }
+}
+
+fn library_loop_state(looped: LoopState) -> doilycairn::LoopState {
+    let LoopState { start, end, present } = looped;
+    doilycairn::LoopState { start, end, present }
+}
+
 pub fn library_start(start: &Start) -> doilycairn::Start {
     doilycairn::Start {
         total: start.total,
@@ -41,6 +61,7 @@ pub fn library_start(start: &Start) -> doilycairn::Start {
         gain: start.gain,
         coefficients: Coefficients(start.coefficients),
         history: library_history(start.history),
+        looped: start.looped.map(library_loop),
     }
 }
 
@@ -56,6 +77,8 @@ pub fn state(state: &EncoderState) -> State {
         passes: state.passes,
         frame: state.frame,
         closed: state.closed,
+        looped: loop_state(state.looped),
+        loop_context: context(state.loop_context),
     }
 }
 
@@ -71,5 +94,7 @@ pub fn library_state(state: &State) -> EncoderState {
         frame: state.frame,
         passes: state.passes,
         closed: state.closed,
+        looped: library_loop_state(state.looped),
+        loop_context: library_context(state.loop_context),
     }
 }

@@ -2,11 +2,14 @@
 
 use crate::c_calls::{
     Read, compare_body, compare_open, compare_play, compare_play_all, compare_play_from,
-    compare_same, located, right_run,
+    compare_play_loop, compare_same, located, right_run,
 };
 use crate::tally::Tally;
 use image_list::reader;
-use image_list::{FAULTS, HEAD, LOWEST, MARK_END, PAIRS, block_count, body, change, table};
+use image_list::{
+    FAULTS, HEAD, LOWEST, MARK_END, PAIRS, block_count, body, change, has_loop, loop_frame,
+    loop_place, random_turns, table,
+};
 use oracle::address_to_sample;
 use oracle::random::Random;
 
@@ -18,10 +21,14 @@ fn alter(image: &mut [u8], changes: &Changes) {
     changes.iter().for_each(|(place, change)| image[*place] ^= change);
 }
 
-/// The bytes of head and table, and each body's first byte.
+/// The bytes of head and table, each body's first byte, and that of the frame that holds the loop's start.
 fn tested_places(image: &[u8]) -> Vec<usize> {
     let bodies = (0..block_count(image)).map(|k| body(image, k));
-    (0..table(image)).chain(bodies).collect()
+    let mut places: Vec<_> = (0..table(image)).chain(bodies).collect();
+    if has_loop(image) && !places.contains(&loop_frame(image)) {
+        places.push(loop_frame(image));
+    }
+    places
 }
 
 /// An image whose bytes are altered, and as it was.
@@ -109,6 +116,8 @@ impl<'a> Damaging<'a> {
         let first = k.saturating_mul(samples_of_a_block(self.whole));
         let run = right_run(&located(&read), first, one);
         compare_play_from(image, &run, first, one, self.tally);
+        let (times, room) = random_turns(self.random, self.whole);
+        compare_play_loop(image, &read, times, room.max(1), self.tally);
         compare_same(image, self.whole, self.tally);
         compare_same(self.whole, image, self.tally);
     }
@@ -140,21 +149,31 @@ fn room(random: &mut Random, needed: usize) -> usize {
     (needed + random.below(3)).max(2) - 1
 }
 
-/// No damage; one for which 15 or 13 refuses; each fault of each entry, alone and with one of these two.
+/// No damage; one for which 15 or 13 refuses; each fault of each entry and of the loop's, alone and with one of these two.
 fn damages(random: &mut Random, image: &[u8]) -> Vec<Vec<(usize, u8)>> {
     let head = [MARK_END, 50, HEAD - 1][random.below(3)];
     let head = vec![(head, change(random))];
     let lowest: Vec<_> = (PAIRS..).zip(LOWEST).map(|(i, byte)| (i, image[i] ^ byte)).collect();
     let mut damages = vec![vec![], head.clone(), lowest.clone()];
-    for k in 0..block_count(image) {
-        for fault in FAULTS {
-            let bad = (fault.place(random, image, k), change(random));
-            damages.push(vec![bad]);
-            if random.below(6) == 0 {
-                let with = [&head, &lowest][random.below(2)];
-                damages.push([&with[..], &[bad]].concat());
-            }
+    for bad in faults(random, image) {
+        damages.push(vec![bad]);
+        if random.below(6) == 0 {
+            let with = [&head, &lowest][random.below(2)];
+            damages.push([&with[..], &[bad]].concat());
         }
     }
     damages
+}
+
+/// Each fault of each entry, and of the loop's its start, end, header and zero bytes.
+fn faults(random: &mut Random, image: &[u8]) -> Vec<(usize, u8)> {
+    let mut faults = vec![];
+    for k in 0..block_count(image) {
+        faults.extend(FAULTS.map(|fault| (fault.place(random, image, k), change(random))));
+    }
+    if has_loop(image) {
+        let entry = loop_place(image);
+        faults.extend([0, 4, 9, 14, 15].map(|part| (entry + part, change(random))));
+    }
+    faults
 }

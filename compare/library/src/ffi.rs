@@ -1,5 +1,7 @@
 //! The calls of include/doilycairn.h that read an image, as a C program makes them: on bytes that open and on others.
 
+use std::mem::offset_of;
+
 /// `doilycairn_context`.
 #[repr(C)]
 #[derive(Debug, Clone, Copy, Default, PartialEq)]
@@ -20,6 +22,15 @@ pub struct Head {
     pub blocks: u32,
 }
 
+/// `doilycairn_loop`; its `bool` as a byte, so that any byte can be compared.
+#[repr(C)]
+#[derive(Debug, Clone, Copy, Default, PartialEq)]
+pub struct Loop {
+    pub start: u32,
+    pub end: u32,
+    pub present: u8,
+}
+
 /// `doilycairn_opening`.
 #[repr(C)]
 #[derive(Debug, Clone, Copy, Default, PartialEq)]
@@ -27,6 +38,8 @@ pub struct Opening {
     pub code: u32,
     pub entry: u32,
     pub head: Head,
+    pub looped: Loop,
+    pub loop_context: Context,
 }
 
 /// `doilycairn_body`.
@@ -61,6 +74,15 @@ pub struct Part {
     pub blocks: u32,
 }
 
+/// `doilycairn_turns`.
+#[repr(C)]
+#[derive(Debug, Clone, Copy, Default, PartialEq)]
+pub struct Turns {
+    pub code: u32,
+    pub entry: u32,
+    pub samples: u64,
+}
+
 /// `doilycairn_comparison`; its `bool` as a byte, so that any byte can be compared.
 #[repr(C)]
 #[derive(Debug, Clone, Copy, Default, PartialEq)]
@@ -71,8 +93,10 @@ pub struct Comparison {
 }
 
 const _: () = assert!(size_of::<Context>() == 6 && size_of::<Head>() == 52);
-const _: () = assert!(size_of::<Opening>() == 60 && size_of::<Body>() == 28);
-const _: () = assert!(size_of::<Playback>() == 24 && size_of::<Part>() == 24);
+const _: () = assert!(size_of::<Loop>() == 12 && size_of::<Opening>() == 80);
+const _: () = assert!(offset_of!(Opening, looped) == 60 && offset_of!(Opening, loop_context) == 72);
+const _: () = assert!(size_of::<Body>() == 28 && size_of::<Playback>() == 24);
+const _: () = assert!(size_of::<Part>() == 24 && size_of::<Turns>() == 16);
 const _: () = assert!(size_of::<Comparison>() == 12);
 
 mod raw {
@@ -102,6 +126,13 @@ mod raw {
             out: *mut i16,
             out_len: usize,
         ) -> Part;
+        pub fn doilycairn_play_loop(
+            image: *const u8,
+            image_len: usize,
+            times: u32,
+            out: *mut i16,
+            out_len: usize,
+        ) -> Turns;
         pub fn doilycairn_same(
             first: *const u8,
             first_len: usize,
@@ -137,6 +168,12 @@ pub fn play_from(image: &[u8], first: u32, out: &mut [i16]) -> Part {
     let (bytes, samples) = (image.as_ptr(), out.as_mut_ptr());
     // SAFETY: both slices are passed with their own lengths; only `out` is written.
     unsafe { raw::doilycairn_play_from(bytes, image.len(), first, samples, out.len()) }
+}
+
+pub fn play_loop(image: &[u8], times: u32, out: &mut [i16]) -> Turns {
+    let (bytes, samples) = (image.as_ptr(), out.as_mut_ptr());
+    // SAFETY: both slices are passed with their own lengths; only `out` is written.
+    unsafe { raw::doilycairn_play_loop(bytes, image.len(), times, samples, out.len()) }
 }
 
 pub fn same(first: &[u8], second: &[u8]) -> Comparison {

@@ -63,6 +63,7 @@ fn encode_short(case: &Case) -> Result<(Vec<u8>, u32, History), doilycairn::Refu
         gain: 0,
         coefficients: case.coefficients,
         history: case.history,
+        looped: None,
     };
     let mut encoder = Encoder::start(&library_start(&start))?;
     encoder.feed(&case.samples[..case.count])?;

@@ -1,12 +1,13 @@
 //! Drives libdoilycairn.a and the unchanged Rust on the same inputs and compares every result.
 //!
 //! What is encoded, played, joined, converted and measured is the Rust's answer; refusals' numbers, states and how an image is made
-//! and read are document 01's, the limit of a pair of coefficients, the block of a bad entry and the run from a sample on document
-//! 02's, read plainly.
+//! and read are document 01's, the limit of a pair of coefficients, the block of a bad entry, the run from a sample on and loops
+//! document 02's, read plainly.
 
 mod answer;
 mod blocks;
 mod c_calls;
+mod c_encoding;
 mod calls;
 mod clips;
 mod contents;
@@ -18,6 +19,9 @@ mod ffi;
 mod frame_count;
 mod frames;
 mod long;
+mod loop_damages;
+mod loop_steps;
+mod loops;
 mod measuring;
 mod parts;
 mod reading;
@@ -26,6 +30,7 @@ mod sameness;
 mod states;
 mod stores;
 mod tally;
+mod turns;
 
 pub use frame_count::FrameCount;
 pub use tally::Tally;
@@ -43,7 +48,7 @@ pub struct Part {
 pub const LONG: Part = Part { name: "long", fixed: |_| {}, random: long::random };
 
 /// All other parts.
-pub const PARTS: [Part; 8] = [
+pub const PARTS: [Part; 9] = [
     Part { name: "frames", fixed: frames::fixed, random: frames::random },
     Part { name: "blocks", fixed: blocks::fixed, random: blocks::random },
     Part { name: "stores", fixed: |_| {}, random: stores::random },
@@ -51,6 +56,7 @@ pub const PARTS: [Part; 8] = [
     Part { name: "calls", fixed: calls::fixed, random: calls::random },
     Part { name: "clips", fixed: |_| {}, random: clips::random },
     Part { name: "parts", fixed: parts::fixed, random: parts::random },
+    Part { name: "loops", fixed: loops::fixed, random: loops::random },
     Part { name: "contents", fixed: contents::fixed, random: contents::random },
 ];
 

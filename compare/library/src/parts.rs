@@ -5,7 +5,7 @@ use crate::encoding::size;
 use crate::runs::Runs;
 use crate::tally::Tally;
 use image_list::{
-    LOWEST, PAIRS, any_image, clip_image, damaged, put_any_bytes, put_any_histories, random_run,
+    LOWEST, PAIRS, damaged, looped_or_not, put_any_bytes, put_any_histories, random_run,
 };
 use oracle::random::Random;
 
@@ -38,7 +38,7 @@ fn every_run(random: &mut Random, image: &[u8], total: usize, tally: &mut Tally)
 
 /// Runs of 1,048,576 blocks of any bytes.
 fn longest_table(random: &mut Random, tally: &mut Tally) {
-    let mut image = longest();
+    let mut image = longest(None);
     put_any_bytes(random, &mut image);
     let mut runs = Runs::new(&image, tally);
     for first in [0, 13, 917_503, MOST / 2, MOST - 200, MOST - 1, MOST, u32::MAX] {
@@ -69,14 +69,13 @@ fn run(random: &mut Random, image: &[u8], runs: &mut Runs) {
 
 const KINDS: usize = 3;
 
-/// An image of a clip, of any bytes, or of a clip with any histories in its entries.
+/// An image of a clip, of any bytes, or of a clip with any histories in its entries; half of the time with a loop.
 fn image_of_kind(random: &mut Random, kind: usize, total: usize, size: u32) -> Vec<u8> {
-    if kind == 1 {
-        return any_image(random, total, size);
-    }
-    let mut image = clip_image(random, total, size);
-    if kind == 2 {
-        put_any_histories(random, &mut image);
+    let mut image = looped_or_not(random, total, size);
+    match kind {
+        1 => put_any_bytes(random, &mut image),
+        2 => put_any_histories(random, &mut image),
+        _ => {}
     }
     image
 }

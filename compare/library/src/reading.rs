@@ -2,6 +2,7 @@
 
 use crate::convert::{context, refused};
 use crate::tally::Tally;
+use crate::turns::{compare_told, compare_turns, samples_of_loop};
 use doilycairn::{Head, Image, Played, Refusal};
 use image_list::reader::{self, Refused};
 use oracle::random::Random;
@@ -25,6 +26,9 @@ pub fn compare_open(bytes: &[u8], tally: &mut Tally) {
     let library: Headed = Image::open(bytes).map(|image| head(image.head())).map_err(refused);
     let right = reader::open(bytes).map(|opened| right_head(&opened));
     tally.compare("open", &bytes, library, right);
+    if let (Ok(image), Ok(opened)) = (Image::open(bytes), reader::open(bytes)) {
+        compare_told(bytes, &image, &opened, tally);
+    }
 }
 
 /// Finds and plays a block of an image that opens, with any room.
@@ -81,7 +85,7 @@ fn compare_body(image: &Image, bytes: &[u8], opened: &reader::Opened, k: usize, 
     tally.compare("block", &(bytes, k), library, right);
 }
 
-/// Plays all blocks of an image by one call, with too little room and with room to spare, and one after the other.
+/// Plays all blocks of an image by one call, with too little room and with room to spare, and one after the other; and its loop twice.
 pub fn compare_play(bytes: &[u8], tally: &mut Tally) {
     let (Ok(image), Ok(opened)) = (Image::open(bytes), reader::open(bytes)) else { return };
     let total = opened.total as usize;
@@ -94,6 +98,8 @@ pub fn compare_play(bytes: &[u8], tally: &mut Tally) {
     tally.compare("play", &bytes, image.play().map_err(refused), right.clone());
     let in_turn = image.samples().map(Iterator::collect).map_err(refused);
     tally.compare("samples", &bytes, in_turn, right);
+    let needed = 2 * samples_of_loop(&opened);
+    compare_turns(bytes, &Ok(opened), 2, needed + 1, tally);
 }
 
 /// Compares two images.

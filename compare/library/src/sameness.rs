@@ -4,11 +4,11 @@ use crate::convert::number;
 use crate::encoding::size;
 use crate::reading::compare_same;
 use crate::tally::Tally;
-use clip_list::{Start, image_of};
+use clip_list::{Start, image_of, with_random_loop};
 use image_list::with_nibble;
 use oracle::random::Random;
 
-/// The image with itself, at another block size, with one nibble changed, and with a sample less.
+/// The image with itself, at another block size, with another loop, with one nibble changed, and with a sample less.
 pub fn compare_sameness(
     random: &mut Random,
     start: &Start,
@@ -21,13 +21,15 @@ pub fn compare_sameness(
         tally.compare("same as known", &(first, second), library, Ok(right));
     };
     sure(image, image, true);
-    let other = image_of(&Start { size: size(random), ..start.clone() }, &[samples]);
+    let other = Start { size: size(random), ..start.clone() };
+    let other = image_of(&with_random_loop(random, other), &[samples]);
     sure(image, &other, true);
     if let [less @ .., _] = samples
         && !less.is_empty()
     {
         let total = less.len() as u32;
-        sure(image, &image_of(&Start { total, ..start.clone() }, &[less]), false);
+        let looped = start.looped.filter(|looped| looped.is_within(total));
+        sure(image, &image_of(&Start { total, looped, ..start.clone() }, &[less]), false);
     }
     compare_same(image, &other, tally);
     let changed = with_nibble(random, image);

@@ -2,13 +2,13 @@
 
 use crate::calls::compare;
 use crate::tally::Tally;
-use clip_list::{Case, State, Step, image_size};
+use clip_list::{Case, State, Step, broken_loop, with_loop_by_hand};
 use oracle::random::Random;
 
 /// A random state, one in three of which is refused, two pieces and a close.
 pub fn random(random: &mut Random, tally: &mut Tally) {
     let good = state(random);
-    let room = image_size(good.total, good.block) as usize + random.below(9);
+    let room = good.image_size() as usize + random.below(9);
     let left = (good.total - good.fed) as usize;
     let piece = random.below(left + 2).min(random.below_one(&[30, 400]));
     let rest = [left.saturating_sub(piece), random.below(20)][random.below(4) / 3];
@@ -21,13 +21,13 @@ pub fn random(random: &mut Random, tally: &mut Tally) {
     compare(&Case(steps), tally);
 }
 
-/// A state that is accepted.
+/// A state that is accepted, mostly with a loop or a context that no run gave.
 fn state(random: &mut Random) -> State {
     let total = 1 + random.below_one(&[3, 30, 60, 400]) as u32;
     let closed = random.below(16) == 0;
     let fed = if closed { total } else { random.below(total as usize + 1) as u32 };
     let encoded = if closed { total.div_ceil(14) } else { fed / 14 };
-    State {
+    let state = State {
         total,
         rate: 1 + random.bits() as u32 / 2,
         block: 8 * (1 + random.below_one(&[1, 4, 20, 8192]) as u32),
@@ -42,14 +42,16 @@ fn state(random: &mut Random) -> State {
         passes: random.below(104 * encoded as usize + 1) as u32,
         frame: std::array::from_fn(|_| random.sample()),
         closed,
-    }
+        ..State::default()
+    };
+    if random.below(3) == 0 { state } else { with_loop_by_hand(random, state) }
 }
 
 /// A state with one field that may be anything, near its limits more often.
 fn spoiled(random: &mut Random, good: &State) -> State {
     let mut state = good.clone();
     let any = [random.bits() as u32, random.below(20) as u32][random.below(2)];
-    match random.below(7) {
+    match random.below(8) {
         0 => state.fed = [any, state.total + 1][random.below(2)],
         1 => state.total = [0, state.fed.saturating_sub(1), 14_680_065, u32::MAX][random.below(4)],
         2 => state.block = [0, 7, 12, 65_537, 65_544, u32::MAX][random.below(6)],
@@ -59,6 +61,7 @@ fn spoiled(random: &mut Random, good: &State) -> State {
         }
         4 => state.coefficients = random.with_pair_beyond(state.coefficients),
         5 => state.closed = true,
+        6 => state.looped = Some(broken_loop(random, state.total)).into(),
         _ => state.passes = [104 * state.total.div_ceil(14) + 1, u32::MAX][random.below(2)],
     }
     state

@@ -17,7 +17,7 @@ pub struct Tally {
     /// How often each comparison was made.
     pub compared: BTreeMap<&'static str, u64>,
     /// How often each refusal was seen, by its number.
-    pub refused: [u64; 23],
+    pub refused: [u64; 25],
     /// How often each comparison saw 20, 21 and 22, and whether of a later block than the first.
     pub bad_entries: BTreeMap<(&'static str, u8, bool), u64>,
     /// The frames that the Rust encoded, in the parts that count them.
@@ -33,7 +33,7 @@ impl Tally {
             cases: 0,
             differences: 0,
             compared: BTreeMap::new(),
-            refused: [0; 23],
+            refused: [0; 25],
             bad_entries: BTreeMap::new(),
             frames: FrameCount::default(),
             wrong,

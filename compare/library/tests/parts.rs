@@ -3,10 +3,11 @@
 use library::{FrameCount, LONG, PARTS, Part, run};
 use std::process::Command;
 
-/// The count of cases; a case of `contents` damages its image in thousands of ways, a case of `parts` has fourteen runs.
+/// The count of cases; a case of `contents` damages its image in thousands of ways, one of `loops` in hundreds, a case of `parts` has fourteen runs.
 fn count(part: &Part, most: u64) -> u64 {
     match part.name {
         "contents" => most / 25,
+        "loops" => most / 4,
         "parts" => most / 2,
         _ => most,
     }
@@ -14,7 +15,7 @@ fn count(part: &Part, most: u64) -> u64 {
 
 #[test]
 fn nothing_differs() {
-    let mut refused = [0; 23];
+    let mut refused = [0; 25];
     for part in &PARTS {
         let count = count(part, 400);
         let tally = run(part, count, 1, None);
@@ -63,7 +64,7 @@ fn each_altered_answer_through_c_is_found() {
 #[test]
 fn each_call_names_the_first_block_and_later_ones() {
     let seen = run(part("contents"), 4, 4, None).bad_entries;
-    for what in ["open", "block_body", "play", "play_all", "play_from", "same"] {
+    for what in ["open", "block_body", "play", "play_all", "play_from", "play_loop", "same"] {
         for code in 20..=22 {
             for later in [false, true] {
                 assert!(seen[&(what, code, later)] >= 100, "{what}, {code}: {seen:?}");
@@ -76,9 +77,17 @@ fn each_call_names_the_first_block_and_later_ones() {
 fn runs_are_refused_for_every_reason() {
     let refused = run(part("parts"), 400, 5, None).refused;
     for (code, count) in refused.into_iter().enumerate().skip(1) {
-        let expected = [13, 15, 19, 20, 21, 22].contains(&code);
+        let expected = [13, 15, 19, 20, 21, 22, 24].contains(&code);
         assert_eq!(count >= 50, expected, "{code}: {count}");
         assert!(expected || count == 0, "{code}: {count}");
+    }
+}
+
+#[test]
+fn loops_are_refused_for_every_reason() {
+    let refused = run(part("loops"), 200, 7, None).refused;
+    for code in [1, 7, 8, 9, 10, 11, 13, 14, 15, 20, 22, 23, 24] {
+        assert!(refused[code] >= 5, "{code}: {refused:?}");
     }
 }
 
@@ -105,6 +114,7 @@ fn the_program_says_whether_anything_differs() {
     assert_eq!(status(&["20", "3", "frames", "wrong=encode_frame"]), Some(1));
     assert_eq!(status(&["20", "3", "clips", "wrong=image"]), Some(1));
     assert_eq!(status(&["20", "3", "parts", "wrong=in two"]), Some(1));
+    assert_eq!(status(&["20", "3", "loops", "wrong=play_loop's output"]), Some(1));
     assert_eq!(status(&["20", "3", "blocks", "wrong=image"]), Some(2));
     for words in [&["20"][..], &["20", "x"], &["20", "3", "others"]] {
         assert_eq!(status(words), Some(2));

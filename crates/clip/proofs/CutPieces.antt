@@ -14,7 +14,7 @@ use Rattle.whole.specs.Outcome.{Outcome, accepted, refused, effect}
 use Rattle.clip.specs.declared.Encoder.{Encoder}
 use Rattle.layout.specs.Sizes.{imageSize}
 use Rattle.whole.specs.Frames.{most}
-use Rattle.clip.specs.Encoding.{encoderShape, Left, left, store, moved, noFrame, push, feedAll, countsOk, valid, feedAnswer, feed}
+use Rattle.clip.specs.Encoding.{encoderShape, Left, left, store, loopContext, moved, noFrame, push, feedAll, countsOk, valid, feedAnswer, feed}
 use Rattle.layout.specs.Limits.{numbersOk}
 use Rattle.clip.specs.inner.Asked.{Going}
 use Rattle.clip.proofs.ByOutcome.{CallEffect, feedBy}
@@ -43,8 +43,9 @@ push-kept s x = go (eqb (s .encoder .fed % 14) 13)
 
     go : (t : Bool)
         → Kept 1 s (cond t
-        (left (moved e (e .fed + 1) (historyAfter (e .history) (c .samples) 14) noFrame (e .passes + c .passes) (e .closed)) (store (encoderShape e) (e .fed / 14) (c .bytes) (e .history) (s .bytes)))
-        (left (moved e (e .fed + 1) (e .history) f (e .passes) (e .closed)) (s .bytes)))
+        (left (moved e (e .fed + 1) (historyAfter (e .history) (c .samples) 14) noFrame (e .passes + c .passes) (e .closed) (loopContext (e .looped) (e .fed / 14) (e .history) c (e .context)))
+        (store (encoderShape e) (e .fed / 14) (c .bytes) (e .history) (s .bytes)))
+        (left (moved e (e .fed + 1) (e .history) f (e .passes) (e .closed) (e .context)) (s .bytes)))
     go true = record { closed = refl; rate = refl; total = refl; fed = refl }
     go false = record { closed = refl; rate = refl; total = refl; fed = refl }
 
@@ -82,6 +83,7 @@ going-accepts e m len some o g =
       eq-eqb (e .block % 8) 0 (l .eights),
       ne-eqb (e .rate) 0 some,
       g .within,
+      g .looping,
       o,
       le-leb (e .passes) (104 * (e .fed / 14)) (g .count),
       le-ltb len (imageSize (encoderShape e)) (g .size),
@@ -111,12 +113,12 @@ module _ (e : Encoder) (a b : List ℤ) (l : List ℕ) where
       let o = feed-open e (length (a ++ b)) (length l) w in
       let n = length-append a b in
       let r = g .rest in
-      let first : Going e 0 (length a) (length l) = record { limits = g .limits; within = g .within; rest = omega arith; count = g .count; size = g .size } in
+      let first : Going e 0 (length a) (length l) = record { limits = g .limits; within = g .within; looping = g .looping; rest = omega arith; count = g .count; size = g .size } in
       let p = piece-going a (left e l) 0 (length (a ++ b)) (omega arith) g in
       let k = piece-kept a (left e l) in
       let q = p .0 .rest in
       let second : Going (half .encoder) 0 (length b) (length (half .bytes)) =
-      record { limits = p .0 .limits; within = p .0 .within; rest = omega arith; count = p .0 .count; size = omega (arith, p .0 .size, p .1) } in (
+      record { limits = p .0 .limits; within = p .0 .within; looping = p .0 .looping; rest = omega arith; count = p .0 .count; size = omega (arith, p .0 .size, p .1) } in (
         going-accepts e (length a) (length l) (o .1) (o .0) first,
         going-accepts (half .encoder) (length b) (length (half .bytes)) (λ z. o .1 (sym (k .rate) ∙ z)) (k .closed ∙ o .0) second,
       )
@@ -141,7 +143,7 @@ module _ (e : Encoder) (a b : List ℤ) (l : List ℕ) where
       let f = k .fed in
       let t = k .total in
       let n = length-append a b in
-      let both : Going e 0 (length (a ++ b)) (length l) = record { limits = g .limits; within = g .within; rest = omega arith; count = g .count; size = g .size } in
+      let both : Going e 0 (length (a ++ b)) (length l) = record { limits = g .limits; within = g .within; looping = g .looping; rest = omega arith; count = g .count; size = g .size } in
       answered e (a ++ b) l ∙ going-accepts e (length (a ++ b)) (length l) (o .1) (o .0) both
 
   -- Feeding a piece cut in two is feeding its parts in turn.

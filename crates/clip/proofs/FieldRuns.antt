@@ -1,5 +1,6 @@
 -- Runs of fields, one after the other.
 use mathlib.Core.Path.{_≡_, refl, sym, ap, ap₂, _∙_}
+use mathlib.Core.Bool.{Bool, true, false, cond}
 use mathlib.Core.List.{List, [], _∷_, _++_, append-assoc}
 use Prim.Native.Nat.{ℕ, zero, suc, _+_, _*_, _≤_, _<_, _^_}
 use native.Mathlib.Omega.{arith}
@@ -12,10 +13,12 @@ use mir.Facts.{toZ-ofZ}
 use mir.Syntax.{w16}
 use mir.Val.{ofZ, toZ, SFits}
 use Rattle.whole.proofs.Stores.{sets-append, sets-then}
+use Rattle.layout.specs.declared.Loop.{Loop}
+use Rattle.block.specs.declared.FrameContext.{FrameContext}
 use Rattle.layout.specs.Fields.{be16, be32, sample16}
-use Rattle.clip.specs.Image.{startShape, coefficientBytes, headBytes}
+use Rattle.clip.specs.Image.{startShape, coefficientBytes, headBytes, contextBytes, loopBytes}
 use Rattle.clip.specs.declared.starting.Start.{Start}
-use Rattle.layout.specs.Sizes.{blockCount}
+use Rattle.layout.specs.Sizes.{loopCount, blockCount}
 use Rattle.whole.specs.Frames.{frameCount}
 
 -- three runs one after the other
@@ -65,6 +68,15 @@ pub head-length : (first : List ℕ) (g : Start) → length first ≡ 4 → leng
 unfolding headBytes coefficientBytes blockCount frameCount
 head-length first g p q =
     let cs = g .coefficients in
-    let t : List ℕ = be16 (g .gain) ++ (0 ∷ 0 ∷ be32 (blockCount (startShape g))) in
+    let t : List ℕ = be16 (g .gain) ++ (be16 (loopCount (g .looped)) ++ be32 (blockCount (startShape g))) in
     let r : List ℕ = be32 (g .total) ++ (be32 (g .rate) ++ (be32 (g .block) ++ (coefficientBytes cs ++ t))) in
     omega (arith, length-append first r, length-append (coefficientBytes cs) t, coefficient-length cs)
+
+-- the entry that a loop adds has 16 bytes
+pub loop-length : (p : Loop) (c : FrameContext) → length (loopBytes p c) ≡ 16 * loopCount p
+unfolding loopBytes
+loop-length p c = go (p .present)
+  where
+    go : (t : Bool) → length (cond t (be32 (p .start) ++ (be32 (p .end) ++ (contextBytes (c .«predictor_and_scale») (c .«last_samples») ++ (0 ∷ 0 ∷ [])))) []) ≡ 16 * cond t 1 0
+    go true = refl
+    go false = refl

@@ -2,7 +2,7 @@
 use mathlib.Core.Path.{_≡_, refl, sym, ap, ap₂, _∙_, fun-ext}
 use mathlib.Core.Logic.{_≢_, _⊎_, ⊎-elim}
 use mathlib.Core.List.{List, _++_, append-assoc, append-nil}
-use mathlib.Core.Bool.{Bool, true, false, cond}
+use mathlib.Core.Bool.{Bool, true, false, cond, _&&_}
 use Prim.Native.Nat.{ℕ, suc, _+_, _-_, _*_, _/_, _%_, _≤_, _<_}
 use native.Mathlib.Nat.{div-add-mod', mul-mod-left, mul-div-cancel}
 use native.Mathlib.Omega.{arith}
@@ -11,20 +11,22 @@ use lib.Dec.{ltb, eqb}
 use lib.IntN.{ℤ}
 use lib.ListN.{length, take, replicate, getD, length-append, length-replicate}
 use lib.Seq.{sets, take-append-le, take-append-add, take-all, length-take-le}
-use Rattle.whole.proofs.Stores.{sets-right-at, sets-left, fill, fill-set}
+use Rattle.whole.proofs.Stores.{sets-part, sets-right-at, sets-left, fill, fill-set}
 use Rattle.frame.specs.Frame.{coefficientsOk}
-use Rattle.layout.specs.Sizes.{blockCount, bodyBytes, imageSize, lastSamples}
+use Rattle.layout.specs.Sizes.{loopCount, blockCount, bodyBytes, imageSize, lastSamples, entryPlace}
 use Rattle.whole.specs.Frames.{frameCount}
 use Rattle.layout.specs.Fields.{mark, noMark}
 use Rattle.clip.specs.Image.{startShape, headBytes, contextBytes, noContext, tableBytes, coefficientBytes}
 use Rattle.layout.specs.Sizes.{framePlace, contextPlace}
-use Rattle.clip.specs.Encoding.{store}
-use Rattle.layout.specs.Limits.{Limits}
+use Rattle.clip.specs.Encoding.{store, contextWithin, loopContext}
+use Rattle.layout.specs.Limits.{Limits, loopOk}
 use Rattle.layout.specs.declared.Shape.{Shape}
+use Rattle.block.specs.declared.FrameContext.{FrameContext}
+use Rattle.block.specs.Context.{newContext}
 use Rattle.clip.specs.declared.starting.Start.{Start}
-use Rattle.clip.specs.Runs.{historyAt, encodedAt, bodies, contextAt, framesDone, imageAfter}
+use Rattle.clip.specs.Runs.{historyAt, encodedAt, bodies, contextAt, loopContextAt, framesDone, loopEntry, imageAfter}
 use Rattle.layout.proofs.SizeLaws.{first-block}
-use Rattle.clip.proofs.FieldRuns.{head-length}
+use Rattle.clip.proofs.FieldRuns.{head-length, loop-length}
 use Rattle.clip.proofs.Storing.{first-byte}
 use Rattle.clip.proofs.Tables.{table-length, table-set}
 use Rattle.clip.proofs.LaterSamples.{bodies-stable, context-stable, encoded-length, bodies-length, context-length}
@@ -35,27 +37,32 @@ pub record Fine (g : Start) : Type 0 where
   pub some : g .rate ≢ 0
   pub sixteen : length (g .coefficients) ≡ 16
   pub within : coefficientsOk (g .coefficients) ≡ true
+  pub looping : loopOk (g .looped) (g .total) ≡ true
 
 abbrev pub headed : Start → List ℕ → List ℕ
 headed g first = headBytes first g
 
-abbrev pub listed : Start → List ℤ → ℕ → List ℕ
-listed g xs k = tableBytes (contextAt g xs k) (startShape g) 0 (blockCount (startShape g))
+-- the contents, and the entry that a loop adds
+abbrev pub listed : Start → List ℕ → List ℤ → ℕ → List ℕ
+listed g last xs k = tableBytes (contextAt g xs k) (startShape g) 0 (blockCount (startShape g)) ++ last
 
 abbrev pub filled : Start → List ℤ → ℕ → List ℕ
 filled g xs k = take (bodyBytes (g .total)) (bodies g xs k ++ replicate (bodyBytes (g .total)) 0)
 
-unfoldable pub built : Start → List ℕ → List ℤ → ℕ → List ℕ
-built g first xs k = headed g first ++ (listed g xs k ++ filled g xs k)
+unfoldable pub built : Start → List ℕ → List ℕ → List ℤ → ℕ → List ℕ
+built g first last xs k = headed g first ++ (listed g last xs k ++ filled g xs k)
 
-pub image-built : (g : Start) (xs : List ℤ) (c : Bool) → imageAfter g xs c ≡ built g (cond c mark noMark) xs (framesDone g xs c)
+pub image-built : (g : Start) (xs : List ℤ) (c : Bool) → imageAfter g xs c ≡ built g (cond c mark noMark) (loopEntry g xs c) xs (framesDone g xs c)
 unfolding imageAfter built contextAt bodies encodedAt historyAt
-image-built g xs c = refl
+image-built g xs c =
+    let k = framesDone g xs c in
+    ap (λ (l : List ℕ). headed g (cond c mark noMark) ++ l)
+    (sym (append-assoc (tableBytes (contextAt g xs k) (startShape g) 0 (blockCount (startShape g))) (loopEntry g xs c) (filled g xs k)))
 
-pub built-stable : (g : Start) (first : List ℕ) (xs ys : List ℤ) (k : ℕ) → 14 * k ≤ length xs → built g first (xs ++ ys) k ≡ built g first xs k
+pub built-stable : (g : Start) (first last : List ℕ) (xs ys : List ℤ) (k : ℕ) → 14 * k ≤ length xs → built g first last (xs ++ ys) k ≡ built g first last xs k
 unfolding built
-built-stable g first xs ys k h =
-    ap₂ (λ (f : ℕ → List ℕ) (b : List ℕ). headed g first ++ (tableBytes f (startShape g) 0 (blockCount (startShape g)) ++ take (bodyBytes (g .total)) (b ++ replicate (bodyBytes (g .total)) 0)))
+built-stable g first last xs ys k h =
+    ap₂ (λ (f : ℕ → List ℕ) (b : List ℕ). headed g first ++ ((tableBytes f (startShape g) 0 (blockCount (startShape g)) ++ last) ++ take (bodyBytes (g .total)) (b ++ replicate (bodyBytes (g .total)) 0)))
     (fun-ext (λ j. context-stable g xs ys k j h))
     (bodies-stable g xs ys k h)
 
@@ -63,24 +70,59 @@ pub filled-length : (g : Start) (xs : List ℤ) (k : ℕ) → length (filled g x
 filled-length g xs k =
     length-take-le (bodyBytes (g .total)) (bodies g xs k ++ replicate (bodyBytes (g .total)) 0) (simp (length-append, length-replicate) (omega arith))
 
-pub listed-length : (g : Start) (xs : List ℤ) (k : ℕ) → length (listed g xs k) ≡ 16 * (blockCount (startShape g) + startShape g .extra)
-listed-length g xs k =
-    let n = table-length (contextAt g xs k) (context-length g xs k) (startShape g) 0 (blockCount (startShape g)) in
-    omega arith
+-- the bytes of the entry that a loop adds
+abbrev pub Last : Start → List ℕ → Type 0
+Last g last = length last ≡ 16 * loopCount (g .looped)
+
+pub entry-last : (g : Start) (xs : List ℤ) (c : Bool) → Last g (loopEntry g xs c)
+unfolding loopEntry
+entry-last g xs true = loop-length (g .looped) (loopContextAt g xs (framesDone g xs true))
+entry-last g xs false = length-replicate (16 * loopCount (g .looped)) 0
+
+pub contents-length : (g : Start) (xs : List ℤ) (k : ℕ) → length (tableBytes (contextAt g xs k) (startShape g) 0 (blockCount (startShape g))) ≡ 16 * blockCount (startShape g)
+contents-length g xs k = table-length (contextAt g xs k) (context-length g xs k) (startShape g) 0 (blockCount (startShape g))
+
+pub listed-length : (g : Start) (last : List ℕ) → Last g last → (xs : List ℤ) (k : ℕ) → length (listed g last xs k) ≡ 16 * (blockCount (startShape g) + startShape g .extra)
+listed-length g last h xs k =
+    length-append (tableBytes (contextAt g xs k) (startShape g) 0 (blockCount (startShape g))) last
+    ∙ omega (arith, contents-length g xs k)
 
 pub headed-length : (g : Start) → Fine g → (first : List ℕ) → length first ≡ 4 → length (headed g first) ≡ 56
 headed-length g F first h = head-length first g h (F .sixteen)
 
-pub built-length : (g : Start) → Fine g → (first : List ℕ) → length first ≡ 4 → (xs : List ℤ) (k : ℕ) → length (built g first xs k) ≡ imageSize (startShape g)
+pub built-length : (g : Start) → Fine g → (first : List ℕ) → length first ≡ 4 → (last : List ℕ) → Last g last → (xs : List ℤ) (k : ℕ) → length (built g first last xs k) ≡ imageSize (startShape g)
 unfolding built imageSize blockCount bodyBytes frameCount lastSamples
-built-length g F first h xs k =
-    length-append (headed g first) (listed g xs k ++ filled g xs k)
-    ∙ omega (arith, length-append (listed g xs k) (filled g xs k), headed-length g F first h, listed-length g xs k, filled-length g xs k)
+built-length g F first h last e xs k =
+    length-append (headed g first) (listed g last xs k ++ filled g xs k)
+    ∙ omega (arith, length-append (listed g last xs k) (filled g xs k), headed-length g F first h, listed-length g last e xs k, filled-length g xs k)
+
+pub regroup : (a b c d : List ℕ) → (a ++ (b ++ c)) ++ d ≡ a ++ (b ++ (c ++ d))
+regroup a b c d = simp append-assoc
 
 -- the mark
-pub built-mark : (g : Start) (xs : List ℤ) (k : ℕ) (rest : List ℕ) → sets (built g noMark xs k ++ rest) 0 mark ≡ built g mark xs k ++ rest
+pub built-mark : (g : Start) (last : List ℕ) (xs : List ℤ) (k : ℕ) (rest : List ℕ) → sets (built g noMark last xs k ++ rest) 0 mark ≡ built g mark last xs k ++ rest
 unfolding built headBytes coefficientBytes blockCount frameCount
-built-mark g xs k rest = refl
+built-mark g last xs k rest = refl
+
+-- the entry that a loop adds
+module _ (g : Start) (F : Fine g) (first : List ℕ) (four : length first ≡ 4) (last v : List ℕ) (was : Last g last) (is : Last g v) (xs : List ℤ) (k : ℕ) (rest : List ℕ) where
+  abbrev before : List ℕ
+  before = headed g first ++ tableBytes (contextAt g xs k) (startShape g) 0 (blockCount (startShape g))
+
+  abbrev follows : List ℕ
+  follows = filled g xs k ++ rest
+
+  around : (l : List ℕ) → built g first l xs k ++ rest ≡ before ++ (l ++ follows)
+  unfolding built
+  around l = simp append-assoc
+
+  pub built-loop : sets (built g first last xs k ++ rest) (entryPlace (blockCount (startShape g))) v ≡ built g first v xs k ++ rest
+  built-loop =
+      ap (λ (l : List ℕ). sets l (entryPlace (blockCount (startShape g))) v) (around last)
+      ∙ sets-part before (entryPlace (blockCount (startShape g))) v last follows
+      (length-append (headed g first) (tableBytes (contextAt g xs k) (startShape g) 0 (blockCount (startShape g))) ∙ omega (arith, headed-length g F first four, contents-length g xs k))
+      (was ∙ sym is)
+      ∙ sym (around v)
 
 -- ---- a store among the bodies, and one among the contexts
 
@@ -123,6 +165,27 @@ module _ (g : Start) (xs : List ℤ) (q j : ℕ) where
   context-here e =
       ap (λ (i : ℕ). cond (ltb i (suc q)) (of i) noContext) e ∙ ap (λ (t : Bool). cond t (of q) noContext) (lt-ltb q (suc q) (omega arith))
 
+-- frame q more, and the context at the loop start
+pub loop-next : (g : Start) (xs : List ℤ) (q : ℕ) → loopContext (g .looped) q (historyAt g xs q) (encodedAt g xs q) (loopContextAt g xs q) ≡ loopContextAt g xs (suc q)
+unfolding loopContext loopContextAt encodedAt historyAt
+loop-next g xs q = go (g .looped .present) (eqb (g .looped .start / 14) q) refl
+  where
+    i : ℕ
+    i = g .looped .start / 14
+
+    at : ℕ → FrameContext
+    at j = contextWithin (historyAt g xs j) (encodedAt g xs j) (g .looped .start % 14)
+
+    go : (p t : Bool) → eqb (g .looped .start / 14) q ≡ t
+        → cond (p && t) (at q) (cond (p && ltb (g .looped .start / 14) q) (at (g .looped .start / 14)) newContext)
+        ≡ cond (p && ltb (g .looped .start / 14) (suc q)) (at (g .looped .start / 14)) newContext
+    go false t e = refl
+    go true true e =
+        let w : g .looped .start / 14 ≡ q = eqb-true (g .looped .start / 14) q e in
+        ap at (sym w) ∙ ap (λ (b : Bool). cond b (at (g .looped .start / 14)) newContext) (sym (lt-ltb (g .looped .start / 14) (suc q) (omega arith)))
+    go true false e =
+        ap (λ (b : Bool). cond b (at (g .looped .start / 14)) newContext) (ltb-next (g .looped .start / 14) q (eqb-false (g .looped .start / 14) q e))
+
 -- ---- the bodies with one frame more, of which k bytes are stored: all eight, or as many as there is room for
 
 module _ (g : Start) (xs : List ℤ) (t q k : ℕ) (one : 1 ≤ k) (most : k ≤ 8) (room : 8 * q + k ≤ t) where
@@ -160,14 +223,14 @@ module _ (g : Start) (xs : List ℤ) (t q k : ℕ) (one : 1 ≤ k) (most : k ≤
       ∙ fill-set t (bodies g xs q) (take k (encodedAt g xs q .bytes)) 0 (omega (arith, bodies-length g xs q, stored-length))
       ∙ sym (⊎-elim more-eight more-last c)
 
-pub regroup : (a b c d : List ℕ) → (a ++ (b ++ c)) ++ d ≡ a ++ (b ++ (c ++ d))
-regroup a b c d = simp append-assoc
-
 -- storing frame q takes the image with q frames to that with one more
-module _ (g : Start) (F : Fine g) (first : List ℕ) (four : length first ≡ 4) (xs : List ℤ) (rest : List ℕ) (q k : ℕ) (lt : q < frameCount (g .total)) (one : 1 ≤ k) (most : k ≤ 8)
+module _ (g : Start) (F : Fine g) (first last : List ℕ) (four : length first ≡ 4) (sixteen : Last g last) (xs : List ℤ) (rest : List ℕ) (q k : ℕ) (lt : q < frameCount (g .total)) (one : 1 ≤ k) (most : k ≤ 8)
     (room : 8 * q + k ≤ bodyBytes (g .total)) (c : (k ≡ 8) ⊎ (8 * q + k ≡ bodyBytes (g .total))) where
   abbrev hd : List ℕ
   hd = headed g first
+
+  abbrev table : ℕ → List ℕ
+  table i = tableBytes (contextAt g xs i) (startShape g) 0 (blockCount (startShape g))
 
   abbrev per : ℕ
   per = g .block / 8
@@ -176,14 +239,14 @@ module _ (g : Start) (F : Fine g) (first : List ℕ) (four : length first ≡ 4)
   v = take k (encodedAt g xs q .bytes)
 
   abbrev image : List ℕ
-  image = (hd ++ (listed g xs q ++ filled g xs q)) ++ rest
+  image = (hd ++ (listed g last xs q ++ filled g xs q)) ++ rest
 
-  one-body : sets image (framePlace (startShape g) q) v ≡ hd ++ (listed g xs q ++ (filled g xs (suc q) ++ rest))
+  one-body : sets image (framePlace (startShape g) q) v ≡ hd ++ (listed g last xs q ++ (filled g xs (suc q) ++ rest))
   one-body =
       let bl : 8 * q + length v ≤ length (filled g xs q) = omega (arith, filled-length g xs q, stored-length g xs (bodyBytes (g .total)) q k one most room) in
-      ap (λ (l : List ℕ). sets l (framePlace (startShape g) q) v) (regroup hd (listed g xs q) (filled g xs q) rest)
-      ∙ body-store hd (listed g xs q) (filled g xs q) rest v (startShape g) q (headed-length g F first four) (listed-length g xs q) bl
-      ∙ ap (λ (l : List ℕ). hd ++ (listed g xs q ++ (l ++ rest))) (more g xs (bodyBytes (g .total)) q k one most room c)
+      ap (λ (l : List ℕ). sets l (framePlace (startShape g) q) v) (regroup hd (listed g last xs q) (filled g xs q) rest)
+      ∙ body-store hd (listed g last xs q) (filled g xs q) rest v (startShape g) q (headed-length g F first four) (listed-length g last sixteen xs q) bl
+      ∙ ap (λ (l : List ℕ). hd ++ (listed g last xs q ++ (l ++ rest))) (more g xs (bodyBytes (g .total)) q k one most room c)
 
   some-per : 0 < per
   some-per = omega (arith, F .limits .wide)
@@ -191,31 +254,32 @@ module _ (g : Start) (F : Fine g) (first : List ℕ) (four : length first ≡ 4)
   abbrev context : List ℕ
   context = contextBytes (getD v 0 0) (historyAt g xs q)
 
-  with-context : q % per ≡ 0 → sets (sets image (framePlace (startShape g) q) v) (contextPlace (q / per)) context ≡ (hd ++ (listed g xs (suc q) ++ filled g xs (suc q))) ++ rest
+  with-context : q % per ≡ 0 → sets (sets image (framePlace (startShape g) q) v) (contextPlace (q / per)) context ≡ (hd ++ (listed g last xs (suc q) ++ filled g xs (suc q))) ++ rest
   with-context z =
       let w : q / per * per ≡ q = omega (arith, div-add-mod' q per, z) in
-      ap (λ (l : List ℕ). sets l (contextPlace (q / per)) context) one-body
-      ∙ context-store hd (filled g xs (suc q) ++ rest) (contextAt g xs q) (contextAt g xs (suc q)) (context-length g xs q) (q / per) context refl
+      ap (λ (l : List ℕ). sets l (contextPlace (q / per)) context) (one-body ∙ ap (λ (l : List ℕ). hd ++ l) (append-assoc (table q) last (filled g xs (suc q) ++ rest)))
+      ∙ context-store hd (last ++ (filled g xs (suc q) ++ rest)) (contextAt g xs q) (contextAt g xs (suc q)) (context-length g xs q) (q / per) context refl
       (context-here g xs q (q / per) w ∙ ap (λ (a : ℕ). contextBytes a (historyAt g xs q)) (sym (first-byte k (encodedAt g xs q .bytes) one)))
       (λ i ne. context-next g xs q i (λ e. ne (sym (mul-div-cancel i some-per) ∙ ap (λ (a : ℕ). a / per) e)))
       (startShape g) (blockCount (startShape g)) (first-block (startShape g) q (F .limits) lt z) (headed-length g F first four)
-      ∙ sym (regroup hd (listed g xs (suc q)) (filled g xs (suc q)) rest)
+      ∙ ap (λ (l : List ℕ). hd ++ l) (sym (append-assoc (table (suc q)) last (filled g xs (suc q) ++ rest)))
+      ∙ sym (regroup hd (listed g last xs (suc q)) (filled g xs (suc q)) rest)
 
-  without-context : q % per ≢ 0 → sets image (framePlace (startShape g) q) v ≡ (hd ++ (listed g xs (suc q) ++ filled g xs (suc q))) ++ rest
+  without-context : q % per ≢ 0 → sets image (framePlace (startShape g) q) v ≡ (hd ++ (listed g last xs (suc q) ++ filled g xs (suc q))) ++ rest
   without-context z =
       one-body
-      ∙ ap (λ (f : ℕ → List ℕ). hd ++ (tableBytes f (startShape g) 0 (blockCount (startShape g)) ++ (filled g xs (suc q) ++ rest)))
+      ∙ ap (λ (f : ℕ → List ℕ). hd ++ ((tableBytes f (startShape g) 0 (blockCount (startShape g)) ++ last) ++ (filled g xs (suc q) ++ rest)))
       (fun-ext (λ i. context-next g xs q i (λ e. z (ap (λ (a : ℕ). a % per) (sym e) ∙ mul-mod-left i per))))
-      ∙ sym (regroup hd (listed g xs (suc q)) (filled g xs (suc q)) rest)
+      ∙ sym (regroup hd (listed g last xs (suc q)) (filled g xs (suc q)) rest)
 
-  pub built-store : store (startShape g) q v (historyAt g xs q) (built g first xs q ++ rest) ≡ built g first xs (suc q) ++ rest
+  pub built-store : store (startShape g) q v (historyAt g xs q) (built g first last xs q ++ rest) ≡ built g first last xs (suc q) ++ rest
   unfolding built store
   built-store = go (eqb (q % per) 0) refl
     where
       go : (t : Bool) → eqb (q % (g .block / 8)) 0 ≡ t
-          → cond t (sets (sets ((headed g first ++ (listed g xs q ++ filled g xs q)) ++ rest) (framePlace (startShape g) q) (take k (encodedAt g xs q .bytes))) (contextPlace (q / (g .block / 8)))
+          → cond t (sets (sets ((headed g first ++ (listed g last xs q ++ filled g xs q)) ++ rest) (framePlace (startShape g) q) (take k (encodedAt g xs q .bytes))) (contextPlace (q / (g .block / 8)))
           (contextBytes (getD (take k (encodedAt g xs q .bytes)) 0 0) (historyAt g xs q)))
-          (sets ((headed g first ++ (listed g xs q ++ filled g xs q)) ++ rest) (framePlace (startShape g) q) (take k (encodedAt g xs q .bytes)))
-          ≡ (headed g first ++ (listed g xs (suc q) ++ filled g xs (suc q))) ++ rest
+          (sets ((headed g first ++ (listed g last xs q ++ filled g xs q)) ++ rest) (framePlace (startShape g) q) (take k (encodedAt g xs q .bytes)))
+          ≡ (headed g first ++ (listed g last xs (suc q) ++ filled g xs (suc q))) ++ rest
       go true e = with-context (eqb-true (q % (g .block / 8)) 0 e)
       go false e = without-context (eqb-false (q % (g .block / 8)) 0 e)

@@ -15,8 +15,8 @@ use Rattle.whole.specs.declared.History.{History}
 use Rattle.clip.specs.declared.Encoder.{Encoder}
 use Rattle.layout.specs.Sizes.{lastSamples, bodyBytes, imageSize, blockCount}
 use Rattle.whole.specs.Frames.{frameCount}
-use Rattle.layout.specs.Fields.{mark}
-use Rattle.clip.specs.Encoding.{encoderShape, left, store, moved, noFrame, finish}
+use Rattle.block.specs.declared.FrameContext.{FrameContext}
+use Rattle.clip.specs.Encoding.{encoderShape, left, store, loopContext, ended, moved, noFrame, finish}
 use Rattle.clip.specs.inner.Asked.{Room, Whole}
 use Rattle.clip.proofs.Pieces.{store-length}
 
@@ -39,9 +39,9 @@ last-room e len w h =
     let f = subst (λ (n : ℕ). (e .fed / 14 < frameCount n) × (8 * (e .fed / 14) + (1 + (e .fed % 14 + 1) / 2) ≤ bodyBytes n)) (w .all) (last-frame (e .fed) h) in
     record { limits = w .limits; frame = f .0; part = omega arith; one = omega arith; body = f .1; size = w .size }
 
--- the mark has room after the frame is stored
+-- the entry of a loop and the mark have room after the frame is stored
 pub stored-room : (e : Encoder) (t : List ℕ) (image stored : List ℕ) → imageSize (encoderShape e) ≤ length image → stored ≡ store (encoderShape e) (e .fed / 14) t (e .history) image
-    → 4 ≤ length stored
+    → imageSize (encoderShape e) ≤ length stored
 unfolding imageSize blockCount bodyBytes frameCount lastSamples
 stored-room e t image stored h p =
     let k : length stored ≡ length image = ap length p ∙ store-length (encoderShape e) (e .fed / 14) t (e .history) image in
@@ -51,14 +51,17 @@ stored-room e t image stored h p =
 
 module _ (e : Encoder) (image : List ℕ) where
   -- with a short last frame
-  pub finish-part : (f : List ℤ) (t : EncodedFrame) (after : History) (stored out : List ℕ) → (e .fed % 14 ≡ 0 → ⊥) → f ≡ sets (e .frame) (e .fed % 14) (replicate (14 - e .fed % 14) (pos 0))
+  pub finish-part : (f : List ℤ) (t : EncodedFrame) (after : History) (context : FrameContext) (stored out : List ℕ) → (e .fed % 14 ≡ 0 → ⊥)
+      → f ≡ sets (e .frame) (e .fed % 14) (replicate (14 - e .fed % 14) (pos 0))
       → t ≡ encodeFrame (e .history) f (e .coefficients) → stored ≡ store (encoderShape e) (e .fed / 14) (take (1 + (e .fed % 14 + 1) / 2) (t .bytes)) (e .history) image
-      → after ≡ historyAfter (e .history) (t .samples) (e .fed % 14) → out ≡ sets stored 0 mark
-      → left (moved e (e .fed) after noFrame (e .passes + t .passes) true) out ≡ finish (left e image)
+      → after ≡ historyAfter (e .history) (t .samples) (e .fed % 14) → context ≡ loopContext (e .looped) (e .fed / 14) (e .history) t (e .context)
+      → out ≡ ended (encoderShape e) (e .looped) context stored
+      → left (moved e (e .fed) after noFrame (e .passes + t .passes) true context) out ≡ finish (left e image)
   unfolding finish store
-  finish-part f t after stored out h ef et es ea eo = rw (eo, es, ea, et, ef, ne-eqb (e .fed % 14) 0 h)
+  finish-part f t after context stored out h ef et es ea ec eo = rw (eo, es, ec, ea, et, ef, ne-eqb (e .fed % 14) 0 h)
 
   -- with none
-  pub finish-whole : (out : List ℕ) → e .fed % 14 ≡ 0 → out ≡ sets image 0 mark → left (moved e (e .fed) (e .history) noFrame (e .passes) true) out ≡ finish (left e image)
+  pub finish-whole : (out : List ℕ) → e .fed % 14 ≡ 0 → out ≡ ended (encoderShape e) (e .looped) (e .context) image
+      → left (moved e (e .fed) (e .history) noFrame (e .passes) true (e .context)) out ≡ finish (left e image)
   unfolding finish store
   finish-whole out h eo = rw (eo, eq-eqb (e .fed % 14) 0 h)

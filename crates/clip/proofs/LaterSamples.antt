@@ -1,8 +1,8 @@
 -- What samples that come later leave as it was; lengths and limits of X's frames.
 use mathlib.Core.Path.{_≡_, refl, ap₂, _∙_}
 use mathlib.Core.List.{List, _++_}
-use mathlib.Core.Bool.{Bool, true, false, cond}
-use Prim.Native.Nat.{ℕ, zero, suc, _+_, _*_, _/_, _≤_, _<_}
+use mathlib.Core.Bool.{Bool, true, false, cond, _&&_}
+use Prim.Native.Nat.{ℕ, zero, suc, _+_, _*_, _/_, _%_, _≤_, _<_}
 use native.Mathlib.Omega.{arith}
 use borrow.Author.Tests.{ltb-true}
 use lib.Dec.{ltb}
@@ -13,10 +13,13 @@ use Rattle.whole.proofs.CutIntoFrames.{frame-stable}
 use Rattle.frame.specs.Frame.{encodeFrame, historyAfter}
 use Rattle.frame.specs.declared.EncodedFrame.{EncodedFrame}
 use Rattle.whole.specs.declared.History.{History}
+use Rattle.block.specs.declared.FrameContext.{FrameContext}
+use Rattle.block.specs.Context.{newContext}
 use Rattle.frame.proofs.LawsEncoded.{frame-lengths, frame-passes}
 use Rattle.clip.specs.Image.{contextBytes, noContext}
 use Rattle.clip.specs.declared.starting.Start.{Start}
-use Rattle.clip.specs.Runs.{historyAt, encodedAt, bodies, passesUpTo, contextAt}
+use Rattle.clip.specs.Encoding.{contextWithin}
+use Rattle.clip.specs.Runs.{historyAt, encodedAt, bodies, passesUpTo, contextAt, loopContextAt}
 
 module _ (g : Start) (xs ys : List ℤ) where
   pub history-stable : (i : ℕ) → 14 * i ≤ length xs → historyAt g (xs ++ ys) i ≡ historyAt g xs i
@@ -53,6 +56,23 @@ module _ (g : Start) (xs ys : List ℤ) where
           let lt : j * (g .block / 8) < k = ltb-true (j * (g .block / 8)) k q in
           ap₂ (λ (c : EncodedFrame) (h : History). contextBytes (getD (c .bytes) 0 0) h) (encoded-stable i (omega arith)) (history-stable i (omega arith))
       go false q = refl
+
+  pub loop-stable : (k : ℕ) → 14 * k ≤ length xs → loopContextAt g (xs ++ ys) k ≡ loopContextAt g xs k
+  unfolding loopContextAt encodedAt historyAt
+  loop-stable k l = go (g .looped .present) (ltb (g .looped .start / 14) k) refl
+    where
+      i : ℕ
+      i = g .looped .start / 14
+
+      at : List ℤ → FrameContext
+      at zs = contextWithin (historyAt g zs i) (encodedAt g zs i) (g .looped .start % 14)
+
+      go : (p t : Bool) → ltb (g .looped .start / 14) k ≡ t → cond (p && t) (at (xs ++ ys)) newContext ≡ cond (p && t) (at xs) newContext
+      go false t q = refl
+      go true false q = refl
+      go true true q =
+          let lt : g .looped .start / 14 < k = ltb-true (g .looped .start / 14) k q in
+          ap₂ (λ (h : History) (c : EncodedFrame). contextWithin h c (g .looped .start % 14)) (history-stable i (omega arith)) (encoded-stable i (omega arith))
 
 module _ (g : Start) (xs : List ℤ) where
   pub encoded-length : (i : ℕ) → length (encodedAt g xs i .bytes) ≡ 8

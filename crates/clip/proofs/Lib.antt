@@ -16,3 +16,4 @@ pub mod UnheardTail
 pub mod UnwrittenBytes
 pub mod SameSoFar
 pub mod Undo
+pub mod LoopApart

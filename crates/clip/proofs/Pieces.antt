@@ -17,7 +17,7 @@ use Rattle.frame.proofs.LawsEncoded.{frame-passes}
 use Rattle.clip.specs.declared.Encoder.{Encoder}
 use Rattle.layout.specs.declared.Shape.{Shape}
 use Rattle.clip.specs.Image.{contextBytes}
-use Rattle.clip.specs.Encoding.{encoderShape, Left, left, store, moved, noFrame, push, feedAll}
+use Rattle.clip.specs.Encoding.{encoderShape, Left, left, store, loopContext, moved, noFrame, push, feedAll}
 use Rattle.layout.specs.Sizes.{framePlace, contextPlace}
 use Rattle.clip.specs.inner.Asked.{Going}
 
@@ -40,11 +40,11 @@ module _ (e : Encoder) (image : List ℕ) (x : ℤ) (i m : ℕ) where
   going-next l g = go (eqb (e .fed % 14) 13) refl
     where
       full : Left
-      full = left (moved e (e .fed + 1) (historyAfter (e .history) (frame .samples) 14) noFrame (e .passes + frame .passes) (e .closed))
+      full = left (moved e (e .fed + 1) (historyAfter (e .history) (frame .samples) 14) noFrame (e .passes + frame .passes) (e .closed) (loopContext (e .looped) (e .fed / 14) (e .history) frame (e .context)))
           (store (encoderShape e) (e .fed / 14) (frame .bytes) (e .history) image)
 
       part : Left
-      part = left (moved e (e .fed + 1) (e .history) (set (e .frame) (e .fed % 14) x) (e .passes) (e .closed)) image
+      part = left (moved e (e .fed + 1) (e .history) (set (e .frame) (e .fed % 14) x) (e .passes) (e .closed) (e .context)) image
 
       go : (v : Bool) → eqb (e .fed % 14) 13 ≡ v → Going (cond v full part .encoder) (i + 1) m (length image) × (length (cond v full part .bytes) ≡ length image)
       go true t =
@@ -52,12 +52,12 @@ module _ (e : Encoder) (image : List ℕ) (x : ℤ) (i m : ℕ) where
           let p = frame-passes (e .history) (set (e .frame) (e .fed % 14) x) (e .coefficients) in
           let s = g .rest in
           let k = g .count in
-          (record { limits = g .limits; within = g .within; rest = omega arith; count = omega arith; size = g .size }, store-length (encoderShape e) (e .fed / 14) (frame .bytes) (e .history) image)
+          (record { limits = g .limits; within = g .within; looping = g .looping; rest = omega arith; count = omega arith; size = g .size }, store-length (encoderShape e) (e .fed / 14) (frame .bytes) (e .history) image)
       go false t =
           let r = eqb-false (e .fed % 14) 13 t in
           let s = g .rest in
           let k = g .count in
-          (record { limits = g .limits; within = g .within; rest = omega arith; count = omega arith; size = g .size }, refl)
+          (record { limits = g .limits; within = g .within; looping = g .looping; rest = omega arith; count = omega arith; size = g .size }, refl)
 
 -- the first i samples and one more are the first i + 1
 pub piece-next : (s : Left) (xs : List ℤ) (i : ℕ) → i < length xs → push (feedAll s (take i xs)) (getD xs i (pos 0)) ≡ feedAll s (take (i + 1) xs)

@@ -9,20 +9,20 @@ use borrow.Author.Tests.{eqb-true, eqb-false}
 use lib.Dec.{eqb}
 use lib.IntN.{ℤ, pos}
 use lib.ListN.{length, getD, take, drop, set, replicate, length-drop}
-use lib.Seq.{sets, length-sets, length-take-le, getD-drop, ext-getD}
+use lib.Seq.{sets, length-take-le, getD-drop, ext-getD}
 use Rattle.whole.specs.Frames.{frameCount}
 use Rattle.frame.specs.Frame.{encodeFrame, historyAfter}
 use Rattle.frame.specs.declared.EncodedFrame.{EncodedFrame}
 use Rattle.frame.proofs.LawsEncoded.{frame-lengths}
 use Rattle.clip.specs.declared.Encoder.{Encoder}
 use Rattle.layout.specs.Sizes.{lastSamples, bodyBytes, imageSize}
-use Rattle.layout.specs.Fields.{mark}
-use Rattle.clip.specs.Encoding.{encoderShape, Left, left, store, moved, noFrame, push, feedAll, finish}
+use Rattle.block.specs.declared.FrameContext.{FrameContext}
+use Rattle.clip.specs.Encoding.{encoderShape, Left, left, store, loopContext, ended, moved, noFrame, push, feedAll, finish}
 use Rattle.layout.specs.Limits.{Limits}
 use Rattle.clip.specs.Undo.{Unwritten, ToWrite, SameSoFar}
 use Rattle.clip.proofs.Storing.{full-frame}
 use Rattle.clip.proofs.Pieces.{store-length}
-use Rattle.clip.proofs.UnwrittenBytes.{unwritten-earlier, unwritten-within, store-same, store-unwritten, store-leaves, mark-same, mark-leaves}
+use Rattle.clip.proofs.UnwrittenBytes.{unwritten-earlier, unwritten-within, store-same, store-unwritten, store-leaves, ended-length, ended-same, ended-leaves}
 
 pub agree-refl : (e : Encoder) (l : List ℕ) → SameSoFar e l l
 agree-refl e l = record { size = refl; bytes = λ i. inl refl }
@@ -89,10 +89,11 @@ module _ (e : Encoder) (x : ℤ) where
   q = e .fed / 14
 
   abbrev full : List ℕ → Left
-  full l = left (moved e (e .fed + 1) (historyAfter (e .history) (c .samples) 14) noFrame (e .passes + c .passes) (e .closed)) (store (encoderShape e) (e .fed / 14) (c .bytes) (e .history) l)
+  full l = left (moved e (e .fed + 1) (historyAfter (e .history) (c .samples) 14) noFrame (e .passes + c .passes) (e .closed) (loopContext (e .looped) (e .fed / 14) (e .history) c (e .context)))
+      (store (encoderShape e) (e .fed / 14) (c .bytes) (e .history) l)
 
   abbrev part : List ℕ → Left
-  part l = left (moved e (e .fed + 1) (e .history) f (e .passes) (e .closed)) l
+  part l = left (moved e (e .fed + 1) (e .history) f (e .passes) (e .closed) (e .context)) l
 
   eight : length (c .bytes) ≡ 8
   eight = frame-lengths (e .history) f (e .coefficients) .0
@@ -182,12 +183,15 @@ module _ (e : Encoder) (L : Limits (encoderShape e)) (all : e .fed ≡ e .total)
   v = take (1 + (e .fed % 14 + 1) / 2) (encodeFrame (e .history) (sets (e .frame) (e .fed % 14) (replicate (14 - e .fed % 14) (pos 0))) (e .coefficients) .bytes)
 
   abbrev whole : List ℕ → Left
-  whole l = left (moved e (e .fed) (e .history) noFrame (e .passes) true) (sets l 0 mark)
+  whole l = left (moved e (e .fed) (e .history) noFrame (e .passes) true (e .context)) (ended (encoderShape e) (e .looped) (e .context) l)
+
+  abbrev known : FrameContext
+  known = loopContext (e .looped) (e .fed / 14) (e .history) z (e .context)
 
   abbrev short : List ℕ → Left
   short l =
-      left (moved e (e .fed) (historyAfter (e .history) (z .samples) (e .fed % 14)) noFrame (e .passes + z .passes) true)
-      (sets (store (encoderShape e) (e .fed / 14) v (e .history) l) 0 mark)
+      left (moved e (e .fed) (historyAfter (e .history) (z .samples) (e .fed % 14)) noFrame (e .passes + z .passes) true known)
+      (ended (encoderShape e) (e .looped) known (store (encoderShape e) (e .fed / 14) v (e .history) l))
 
   v-length : length v ≡ 1 + (e .fed % 14 + 1) / 2
   v-length =
@@ -226,21 +230,27 @@ module _ (e : Encoder) (L : Limits (encoderShape e)) (all : e .fed ≡ e .total)
       none n i (inl p) = inl p
       none n i (inr o) = inr (subst (λ (k : ℕ). Unwritten (encoderShape e) k i) (last-whole n) (o .1))
 
-      marked : (k j : List ℕ) → length k ≡ length j → length (sets k 0 mark) ≡ length (sets j 0 mark)
-      marked k j p = length-sets k 0 mark ∙ p ∙ sym (length-sets j 0 mark)
+      lengths : (t : FrameContext) (k j : List ℕ) → length k ≡ length j → length (ended (encoderShape e) (e .looped) t k) ≡ length (ended (encoderShape e) (e .looped) t j)
+      lengths t k j p = ended-length (encoderShape e) (e .looped) t refl k ∙ p ∙ sym (ended-length (encoderShape e) (e .looped) t refl j)
 
       go : (t : Bool) → eqb (e .fed % 14) 0 ≡ t → Same (cond t (whole l) (short l)) (cond t (whole m) (short m))
       go true p =
           let n = eqb-true (e .fed % 14) 0 p in
           record {
             state = refl;
-            bytes = record { size = marked l m (a .size); bytes = λ i. inl (mark-same (encoderShape e) L l m i (a .size) (none n i (a .bytes i))) };
+            bytes = record {
+              size = lengths (e .context) l m (a .size);
+              bytes = λ i. inl (ended-same (encoderShape e) (e .looped) (e .context) refl L l m i (a .size) (none n i (a .bytes i)));
+            };
           }
       go false p =
           let n = eqb-false (e .fed % 14) 0 p in
           record {
             state = refl;
-            bytes = record { size = marked (stored l) (stored m) sizes; bytes = λ i. inl (mark-same (encoderShape e) L (stored l) (stored m) i sizes (due n i (a .bytes i))) };
+            bytes = record {
+              size = lengths known (stored l) (stored m) sizes;
+              bytes = λ i. inl (ended-same (encoderShape e) (e .looped) known refl L (stored l) (stored m) i sizes (due n i (a .bytes i)));
+            };
           }
 
   pub end-later : (l : List ℕ) → e .closed ≡ false → Later (left e l) (finish (left e l))
@@ -250,11 +260,11 @@ module _ (e : Encoder) (L : Limits (encoderShape e)) (all : e .fed ≡ e .total)
       stored : List ℕ
       stored = store (encoderShape e) (e .fed / 14) v (e .history) l
 
-      leaves : (k : List ℕ) → SameSoFar e k (sets k 0 mark)
-      leaves k =
+      leaves : (t : FrameContext) (k : List ℕ) → SameSoFar e k (ended (encoderShape e) (e .looped) t k)
+      leaves t k =
           record {
-            size = sym (length-sets k 0 mark);
-            bytes = λ i. elim (mark-leaves (encoderShape e) (e .fed / 14) k i) [ inl p ↦ inl p | inr d ↦ inr (o, d) ];
+            size = sym (ended-length (encoderShape e) (e .looped) t refl k);
+            bytes = λ i. elim (ended-leaves (encoderShape e) (e .looped) t refl (e .fed / 14) k i) [ inl p ↦ inl p | inr d ↦ inr (o, d) ];
           }
 
       frame : e .fed % 14 ≢ 0 → SameSoFar e l stored
@@ -266,9 +276,9 @@ module _ (e : Encoder) (L : Limits (encoderShape e)) (all : e .fed ≡ e .total)
           }
 
       go : (t : Bool) → eqb (e .fed % 14) 0 ≡ t → Later (left e l) (cond t (whole l) (short l))
-      go true p = record { unwritten = λ i w. absurd (never-both true refl (w .0)); bytes = leaves l }
+      go true p = record { unwritten = λ i w. absurd (never-both true refl (w .0)); bytes = leaves (e .context) l }
       go false p =
           record {
             unwritten = λ i w. absurd (never-both true refl (w .0));
-            bytes = agree-trans e l stored (sets stored 0 mark) (frame (eqb-false (e .fed % 14) 0 p)) (leaves stored);
+            bytes = agree-trans e l stored (ended (encoderShape e) (e .looped) known stored) (frame (eqb-false (e .fed % 14) 0 p)) (leaves known stored);
           }

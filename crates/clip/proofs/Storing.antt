@@ -11,12 +11,13 @@ use lib.Seq.{sets, take-all}
 use Rattle.frame.specs.Frame.{encodeFrame, historyAfter}
 use Rattle.frame.specs.declared.EncodedFrame.{EncodedFrame}
 use Rattle.whole.specs.declared.History.{History}
+use Rattle.block.specs.declared.FrameContext.{FrameContext}
 use Rattle.frame.proofs.LawsEncoded.{frame-lengths, frame-passes}
 use Rattle.clip.specs.declared.Encoder.{Encoder}
 use Rattle.layout.specs.Sizes.{lastSamples, blockCount, bodyBytes, imageSize}
 use Rattle.whole.specs.Frames.{frameCount}
 use Rattle.clip.specs.Image.{contextBytes}
-use Rattle.clip.specs.Encoding.{encoderShape, left, store, moved, noFrame, push}
+use Rattle.clip.specs.Encoding.{encoderShape, left, store, loopContext, moved, noFrame, push}
 use Rattle.layout.specs.Sizes.{framePlace, contextPlace}
 use Rattle.layout.specs.declared.Shape.{Shape}
 use Rattle.clip.specs.inner.Asked.{Room, Going}
@@ -91,11 +92,12 @@ module _ (e : Encoder) (x : ℤ) (image : List ℕ) where
   c = encodeFrame (e .history) filled (e .coefficients)
 
   -- it fills the frame
-  pub push-full : (after : History) (passes : ℕ) (out : List ℕ) → e .fed % 14 ≡ 13 → after ≡ historyAfter (e .history) (c .samples) 14 → passes ≡ c .passes
+  pub push-full : (after : History) (passes : ℕ) (context : FrameContext) (out : List ℕ) → e .fed % 14 ≡ 13 → after ≡ historyAfter (e .history) (c .samples) 14 → passes ≡ c .passes
+      → context ≡ loopContext (e .looped) (e .fed / 14) (e .history) c (e .context)
       → out ≡ store (encoderShape e) (e .fed / 14) (c .bytes) (e .history) image
-      → left (moved e (e .fed + 1) after noFrame (e .passes + passes) (e .closed)) out ≡ push (left e image) x
+      → left (moved e (e .fed + 1) after noFrame (e .passes + passes) (e .closed) context) out ≡ push (left e image) x
   unfolding push store
-  push-full after passes out h ea ep eo = rw (eq-eqb (e .fed % 14) 13 h, eo, ea, ep)
+  push-full after passes context out h ea ep ec eo = rw (eq-eqb (e .fed % 14) 13 h, eo, ec, ea, ep)
 
   -- the passes stay within their bound
   pub push-passes : (i m len passes : ℕ) → Going e i m len → i < m → passes ≡ c .passes → e .passes + passes < 4294967296
@@ -107,6 +109,6 @@ module _ (e : Encoder) (x : ℤ) (image : List ℕ) where
       omega (arith, f, r, k, b, ep)
 
   -- it does not
-  pub push-part : (e .fed % 14 ≡ 13 → ⊥) → left (moved e (e .fed + 1) (e .history) filled (e .passes) (e .closed)) image ≡ push (left e image) x
+  pub push-part : (e .fed % 14 ≡ 13 → ⊥) → left (moved e (e .fed + 1) (e .history) filled (e .passes) (e .closed) (e .context)) image ≡ push (left e image) x
   unfolding push store
   push-part h = rw (ne-eqb (e .fed % 14) 13 h)

@@ -9,14 +9,14 @@ use lib.Dec.{eqb}
 use lib.IntN.{ℤ, pos}
 use lib.ListN.{length, take, set, replicate, length-set, length-replicate, drop-of-length-le}
 use lib.Seq.{sets, sets-eq, take-all, take-suc, take-set-le, getD-set-same}
-use Rattle.layout.specs.Fields.{mark}
+use Rattle.block.specs.declared.FrameContext.{FrameContext}
 use Rattle.frame.specs.declared.EncodedFrame.{EncodedFrame}
 use Rattle.frame.specs.Frame.{encodeFrame, historyAfter}
 use Rattle.whole.specs.Outcome.{Outcome, accepted, refusedAt}
 use Rattle.clip.specs.declared.Encoder.{Encoder}
 use Rattle.clip.specs.Runs.{Call, feeds, closes, seen, callEffect, run}
 use Rattle.clip.specs.Unheard.{framed, Alike}
-use Rattle.clip.specs.Encoding.{encoderShape, Left, left, store, moved, noFrame, push, feedAll, finish, valid, feedAnswer, feed, closeAnswer, close}
+use Rattle.clip.specs.Encoding.{encoderShape, Left, left, store, loopContext, ended, moved, noFrame, push, feedAll, finish, valid, feedAnswer, feed, closeAnswer, close}
 use Rattle.clip.proofs.ByOutcome.{CallEffect, feedBy, closeBy}
 
 -- ---- lists
@@ -67,10 +67,11 @@ module _ (e : Encoder) (l : List ℕ) (f : List ℤ) (x : ℤ) (s : Alike (e .fe
   abbrev full : List ℤ → Left
   full g =
       let c = encodeFrame (e .history) g (e .coefficients) in
-      left (moved e (e .fed + 1) (historyAfter (e .history) (c .samples) 14) noFrame (e .passes + c .passes) (e .closed)) (store (encoderShape e) (e .fed / 14) (c .bytes) (e .history) l)
+      left (moved e (e .fed + 1) (historyAfter (e .history) (c .samples) 14) noFrame (e .passes + c .passes) (e .closed) (loopContext (e .looped) (e .fed / 14) (e .history) c (e .context)))
+      (store (encoderShape e) (e .fed / 14) (c .bytes) (e .history) l)
 
   abbrev part : List ℤ → Left
-  part g = left (moved e (e .fed + 1) (e .history) g (e .passes) (e .closed)) l
+  part g = left (moved e (e .fed + 1) (e .history) g (e .passes) (e .closed) (e .context)) l
 
   push-unheard : Unheard (push (left e l) x) (push (left (framed e f) l) x)
   unfolding push store
@@ -152,12 +153,15 @@ end-alike e l = go (eqb (e .fed % 14) 0)
     z = encodeFrame (e .history) (sets (e .frame) (e .fed % 14) (replicate (14 - e .fed % 14) (pos 0))) (e .coefficients)
 
     whole : Left
-    whole = left (moved e (e .fed) (e .history) noFrame (e .passes) true) (sets l 0 mark)
+    whole = left (moved e (e .fed) (e .history) noFrame (e .passes) true (e .context)) (ended (encoderShape e) (e .looped) (e .context) l)
+
+    known : FrameContext
+    known = loopContext (e .looped) (e .fed / 14) (e .history) z (e .context)
 
     short : Left
     short =
-        left (moved e (e .fed) (historyAfter (e .history) (z .samples) (e .fed % 14)) noFrame (e .passes + z .passes) true)
-        (sets (store (encoderShape e) (e .fed / 14) (take (1 + (e .fed % 14 + 1) / 2) (z .bytes)) (e .history) l) 0 mark)
+        left (moved e (e .fed) (historyAfter (e .history) (z .samples) (e .fed % 14)) noFrame (e .passes + z .passes) true known)
+        (ended (encoderShape e) (e .looped) known (store (encoderShape e) (e .fed / 14) (take (1 + (e .fed % 14 + 1) / 2) (z .bytes)) (e .history) l))
 
     go : (t : Bool) → Unheard (cond t whole short) (cond t whole short)
     go true = record { bytes = refl; frames = record { first = refl; second = refl; same = refl }; state = refl }

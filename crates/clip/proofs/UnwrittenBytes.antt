@@ -13,20 +13,24 @@ use lib.ListN.{length, getD, set, length-set, List·getD-eq-default}
 use lib.Seq.{sets, length-sets, getD-set-same, getD-set-other}
 use Rattle.whole.specs.Frames.{frameCount}
 use Rattle.whole.specs.declared.History.{History}
-use Rattle.layout.specs.Sizes.{lastSamples, blockCount, bodyBytes, imageSize}
+use Rattle.layout.specs.Sizes.{loopCount, lastSamples, blockCount, bodyBytes, imageSize, entryPlace, bodiesPlace}
 use Rattle.layout.specs.Fields.{mark}
-use Rattle.clip.specs.Image.{contextBytes}
+use Rattle.clip.specs.Image.{contextBytes, loopBytes}
 use Rattle.layout.specs.Sizes.{framePlace, contextPlace}
-use Rattle.clip.specs.Encoding.{store}
-use Rattle.clip.specs.Undo.{Unwritten, marked, body, context}
+use Rattle.clip.specs.Encoding.{store, ended}
+use Rattle.clip.specs.Undo.{Unwritten, marked, body, context, looping}
 use Rattle.layout.specs.declared.Shape.{Shape}
+use Rattle.layout.specs.declared.Loop.{Loop}
+use Rattle.block.specs.declared.FrameContext.{FrameContext}
 use Rattle.layout.specs.Limits.{Limits}
 use Rattle.layout.proofs.SizeLaws.{block-first, first-block}
+use Rattle.clip.proofs.FieldRuns.{loop-length}
 
 pub unwritten-earlier : (s : Shape) (q r i : ℕ) → q ≤ r → Unwritten s r i → Unwritten s q i
 unwritten-earlier s q r i h (marked l) = marked l
 unwritten-earlier s q r i h (body lo hi) = body (omega arith) hi
 unwritten-earlier s q r i h (context j lt le lo hi) = context j lt (omega arith) lo hi
+unwritten-earlier s q r i h (looping lo hi) = looping lo hi
 
 -- nothing is unwritten past the image
 pub unwritten-within : (s : Shape) (q i : ℕ) → Unwritten s q i → i < imageSize s
@@ -34,17 +38,19 @@ unfolding imageSize blockCount bodyBytes frameCount lastSamples
 unwritten-within s q i (marked l) = omega arith
 unwritten-within s q i (body lo hi) = hi
 unwritten-within s q i (context j lt le lo hi) = omega arith
+unwritten-within s q i (looping lo hi) = omega arith
 
--- with all frames encoded only the mark is unwritten
+-- with all frames encoded only the mark and the entry of a loop are unwritten
 body-most : (n : ℕ) → 1 ≤ n → bodyBytes n ≤ 8 * frameCount n
 unfolding bodyBytes lastSamples frameCount
 body-most n h = omega arith
 
-unwritten-last : (s : Shape) (i : ℕ) → Limits s → Unwritten s (frameCount (s .total)) i → i < 4
+unwritten-last : (s : Shape) (i : ℕ) → Limits s → Unwritten s (frameCount (s .total)) i → (i < 4) ⊎ ((entryPlace (blockCount s) ≤ i) × (i < bodiesPlace s))
 unfolding imageSize blockCount bodyBytes frameCount lastSamples
-unwritten-last s i L (marked l) = l
+unwritten-last s i L (marked l) = inl l
 unwritten-last s i L (body lo hi) = absurd (omega (arith, body-most (s .total) (L .some)))
 unwritten-last s i L (context j lt le lo hi) = absurd (omega (arith, block-first s j L lt))
+unwritten-last s i L (looping lo hi) = inr (lo, hi)
 
 -- ---- the same bytes stored in two buffers of one length
 
@@ -141,6 +147,7 @@ module _ (s : Shape) (q : ℕ) (v : List ℕ) (h : History) where
             inl (store-context (ap (λ (a : ℕ). a % (s .block / 8)) (sym p)
             ∙ mul-mod-left j (s .block / 8)) (subst (λ (a : ℕ). contextPlace a ≤ i) (sym a) lo) (subst (λ (a : ℕ). i < contextPlace a + 6) (sym a) hi))
         go (no p) = inr (context j lt (omega arith) lo hi)
+    store-unwritten w k (looping lo hi) = inr (looping lo hi)
 
   -- what storing writes was unwritten
   pub store-leaves : Limits s → q < frameCount (s .total) → 8 * q + length v ≤ bodyBytes (s .total) → (l : List ℕ) (i : ℕ) → (getD l i 0 ≡ getD (store s q v h l) i 0) ⊎ Unwritten s q i
@@ -163,12 +170,32 @@ module _ (s : Shape) (q : ℕ) (v : List ℕ) (h : History) where
           ]
       go false p = frame
 
--- ---- the mark is written
+-- ---- the entry of a loop and the mark are written
 
-pub mark-same : (s : Shape) → Limits s → (l m : List ℕ) (i : ℕ) → length l ≡ length m → (getD l i 0 ≡ getD m i 0) ⊎ Unwritten s (frameCount (s .total)) i → getD (sets l 0 mark) i 0
-    ≡ getD (sets m 0 mark) i 0
-mark-same s L l m i e (inl p) = both-sets mark l m 0 i e (inl p)
-mark-same s L l m i e (inr d) = both-sets mark l m 0 i e (inr (omega arith, unwritten-last s i L d))
+module _ (s : Shape) (p : Loop) (c : FrameContext) (x : s .extra ≡ loopCount p) where
+  abbrev at : ℕ
+  at = entryPlace (blockCount s)
 
-pub mark-leaves : (s : Shape) (q : ℕ) (l : List ℕ) (i : ℕ) → (getD l i 0 ≡ getD (sets l 0 mark) i 0) ⊎ Unwritten s q i
-mark-leaves s q l i = elim (sets-leave mark l 0 i) [ inl p ↦ inl p | inr w ↦ inr (marked (w .1)) ]
+  abbrev v : List ℕ
+  v = loopBytes p c
+
+  pub ended-length : (l : List ℕ) → length (ended s p c l) ≡ length l
+  unfolding ended
+  ended-length l = length-sets (sets l at v) 0 mark ∙ length-sets l at v
+
+  pub ended-same : Limits s → (l m : List ℕ) (i : ℕ) → length l ≡ length m → (getD l i 0 ≡ getD m i 0) ⊎ Unwritten s (frameCount (s .total)) i
+      → getD (ended s p c l) i 0 ≡ getD (ended s p c m) i 0
+  unfolding ended
+  ended-same L l m i e d = both-sets mark (sets l at v) (sets m at v) 0 i (length-sets l at v ∙ e ∙ sym (length-sets m at v)) (go d)
+    where
+      go : (getD l i 0 ≡ getD m i 0) ⊎ Unwritten s (frameCount (s .total)) i → (getD (sets l at v) i 0 ≡ getD (sets m at v) i 0) ⊎ ((0 ≤ i) × (i < 0 + length mark))
+      go (inl q) = inl (both-sets v l m at i e (inl q))
+      go (inr w) = elim (unwritten-last s i L w) [ inl k ↦ inr (omega arith, k) | inr k ↦ inl (both-sets v l m at i e (inr (k .0, let h = k .1 in omega (arith, loop-length p c)))) ]
+
+  pub ended-leaves : (q : ℕ) (l : List ℕ) (i : ℕ) → (getD l i 0 ≡ getD (ended s p c l) i 0) ⊎ Unwritten s q i
+  unfolding ended
+  ended-leaves q l i =
+      elim (sets-leave mark (sets l at v) 0 i) [
+        | inl e ↦ elim (sets-leave v l at i) [ inl f ↦ inl (f ∙ e) | inr w ↦ inr (looping (w .0) (let h = w .1 in omega (arith, loop-length p c))) ]
+        | inr w ↦ inr (marked (w .1))
+      ]

@@ -1,7 +1,7 @@
 -- Whole runs: for every list of feedings and closings from an accepted start on its buffer, refused ones included, what is seen is the plain machine's.
 use mathlib.Core.Path.{_≡_, refl, sym, ap, ap₂, _∙_, fun-ext}
 use mathlib.Core.List.{List, [], _∷_, _++_}
-use mathlib.Core.Bool.{Bool, true, false, cond}
+use mathlib.Core.Bool.{Bool, true, false, cond, _&&_}
 use Prim.Native.Nat.{ℕ, _+_, _-_, _*_, _/_, _%_, _≤_}
 use native.Mathlib.Omega.{arith}
 use borrow.Author.Tests.{ltb-false, le-leb, le-ltb, eq-eqb, ne-eqb}
@@ -14,17 +14,20 @@ use Rattle.whole.proofs.Stores.{take-replicate}
 use Rattle.layout.specs.Sizes.{blockCount, bodyBytes, imageSize, cutDown}
 use Rattle.layout.specs.Fields.{mark, noMark}
 use Rattle.whole.specs.Outcome.{Outcome, accepted, refusedAt, effect}
-use Rattle.clip.specs.Image.{cut, startShape, headBytes, contextBytes, noContext, tableBytes, freshBytes, coefficientBytes}
-use Rattle.clip.specs.Encoding.{Left, left, countsOk, valid, feedAnswer, feed, closeAnswer, close, begun, startAnswer, start}
+use Rattle.clip.specs.Image.{cut, startShape, headBytes, contextBytes, noContext, tableBytes, noLoopBytes, freshBytes, coefficientBytes}
+use Rattle.clip.specs.Encoding.{Left, left, contextWithin, moved, noFrame, countsOk, valid, feedAnswer, feed, closeAnswer, close, begun, startAnswer, start}
 use Rattle.layout.specs.Limits.{numbersOk}
+use Rattle.block.specs.declared.FrameContext.{FrameContext}
+use Rattle.block.specs.Context.{newContext}
 use Rattle.clip.specs.declared.starting.Start.{Start}
-use Rattle.clip.specs.Runs.{historyAt, encodedAt, bodies, passesUpTo, contextAt, framesDone, imageAfter, stateAfter, leftAfter, Call, feeds}
+use Rattle.clip.specs.Runs.{historyAt, encodedAt, bodies, passesUpTo, contextAt, loopContextAt, framesDone, loopEntry, imageAfter, stateAfter, leftAfter, Call, feeds}
 use Rattle.clip.specs.Runs.{closes, Seen, seen, plain, plainAnswer, plainNext, plainAfter, plainRun, callEffect, after, run}
 use Rattle.clip.proofs.ByOutcome.{CallEffect, feedBy, closeBy, startBy}
 use Rattle.clip.proofs.AcceptedCalls.{start-accepted}
 use Rattle.whole.proofs.Outcomes.{not-both, failed}
+use Rattle.layout.proofs.LimitLaws.{told-ok}
 use Rattle.clip.proofs.LaterSamples.{passes-most}
-use Rattle.clip.proofs.ImageByFrames.{Fine, image-built, built-length}
+use Rattle.clip.proofs.ImageByFrames.{Fine, image-built, entry-last, built-length}
 use Rattle.clip.proofs.StateOfSamples.{piece-follows, end-follows}
 
 -- a machine that calls have led to
@@ -40,8 +43,8 @@ pub open-legal : (g : Start) (xs : List ℤ) → length xs ≤ g .total → Lega
 open-legal g xs h = record { few = h; all = λ z. absurd (closed-not z) }
 
 pub image-length : (g : Start) → Fine g → (xs : List ℤ) (c : Bool) → length (imageAfter g xs c) ≡ imageSize (startShape g)
-image-length g F xs true = ap length (image-built g xs true) ∙ built-length g F mark refl xs (frameCount (g .total))
-image-length g F xs false = ap length (image-built g xs false) ∙ built-length g F noMark refl xs (length xs / 14)
+image-length g F xs true = ap length (image-built g xs true) ∙ built-length g F mark refl (loopEntry g xs true) (entry-last g xs true) xs (frameCount (g .total))
+image-length g F xs false = ap length (image-built g xs false) ∙ built-length g F noMark refl (loopEntry g xs false) (entry-last g xs false) xs (length xs / 14)
 
 -- ---- the state passes the test, the buffer is long enough
 
@@ -63,6 +66,7 @@ state-valid g F xs c L =
       eq-eqb (g .block % 8) 0 (l .eights),
       ne-eqb (g .rate) 0 (F .some),
       F .within,
+      F .looping,
       counts-fine g xs c L,
     )
 
@@ -157,13 +161,25 @@ module _ (g : Start) (F : Fine g) (rest : List ℕ) where
 
 -- no frame is encoded yet
 fresh-image : (g : Start) → freshBytes g ≡ imageAfter g [] false
-unfolding freshBytes imageAfter bodies contextAt headBytes tableBytes coefficientBytes blockCount frameCount encodedAt historyAt
+unfolding freshBytes imageAfter loopEntry bodies contextAt headBytes tableBytes coefficientBytes blockCount frameCount encodedAt historyAt
 fresh-image g =
     let n = g .total in
     let per = g .block / 8 in
-    ap₂ (λ (f : ℕ → List ℕ) (l : List ℕ). headBytes noMark g ++ (tableBytes f (startShape g) 0 (blockCount (startShape g)) ++ l))
+    ap₂ (λ (f : ℕ → List ℕ) (l : List ℕ). headBytes noMark g ++ (tableBytes f (startShape g) 0 (blockCount (startShape g)) ++ (noLoopBytes (g .looped) ++ l)))
     (fun-ext (λ j. ap (λ (t : Bool). cond t (contextBytes (getD (encodedAt g [] (j * per) .bytes) 0 0) (historyAt g [] (j * per))) noContext) (sym (le-ltb (j * per) 0 (omega arith)))))
     (sym (take-replicate (bodyBytes n) (bodyBytes n) 0 (omega arith)))
+
+fresh-loop : (g : Start) → newContext ≡ loopContextAt g [] 0
+unfolding loopContextAt encodedAt historyAt
+fresh-loop g = go (g .looped .present)
+  where
+    go : (t : Bool)
+        → newContext
+        ≡ cond (t && ltb (g .looped .start / 14) 0) (contextWithin (historyAt g [] (g .looped .start / 14)) (encodedAt g [] (g .looped .start / 14)) (g .looped .start % 14)) newContext
+    go true =
+        ap (λ (b : Bool). cond b (contextWithin (historyAt g [] (g .looped .start / 14)) (encodedAt g [] (g .looped .start / 14)) (g .looped .start % 14)) newContext)
+        (sym (le-ltb (g .looped .start / 14) 0 (omega arith)))
+    go false = refl
 
 module _ (g : Start) (l : List ℕ) where
   pub start-answered : start g l .outcome ≡ accepted tt → startAnswer g (length l) ≡ accepted tt
@@ -173,7 +189,7 @@ module _ (g : Start) (l : List ℕ) where
   pub start-fine : length (g .coefficients) ≡ 16 → start g l .outcome ≡ accepted tt → Fine (cut g)
   start-fine sixteen ok =
       let s = start-accepted g (length l) (start-answered ok) in
-      record { limits = s .limits; some = s .some; sixteen = sixteen; within = s .within }
+      record { limits = s .limits; some = s .some; sixteen = sixteen; within = s .within; looping = told-ok (g .looped) (g .total) (s .looping) }
 
   -- an accepted start leaves the state and the image of no sample
   pub start-follows : length (g .coefficients) ≡ 16 → start g l .outcome ≡ accepted tt → start g l ≡ effect (accepted tt) (leftAfter (cut g) (drop (imageSize (startShape (cut g))) l) [] false)
@@ -188,6 +204,7 @@ module _ (g : Start) (l : List ℕ) where
       ap (λ (a : Outcome Unit). startBy a (cut g) l) (start-answered ok)
       ∙ ap (λ (r : List ℕ). effect (accepted tt) (left (begun (cut g)) r))
       (sets-eq fresh l 0 (omega (arith, s .size)) ∙ ap (λ (k : ℕ). fresh ++ drop k l) e0 ∙ ap (λ (r : List ℕ). r ++ drop size l) (fresh-image (cut g)))
+      ∙ ap (λ (c : FrameContext). effect (accepted tt) (left (moved (begun (cut g)) 0 (g .history) noFrame 0 false c) (imageAfter (cut g) [] false ++ drop size l))) (fresh-loop (cut g))
 
   -- Demand 3 for feeding and closing. From an accepted start, for every list of feedings and closings on its buffer, refused ones included:
   -- each answer, the state's passes and the buffer's first S bytes are the plain machine's.

@@ -1,5 +1,5 @@
 -- Whole runs of feeding and closing: a plain machine that sees only the start and the calls. Definitions only.
-use mathlib.Core.Bool.{Bool, true, cond}
+use mathlib.Core.Bool.{Bool, true, cond, _&&_}
 use mathlib.Core.List.{List, [], _∷_, _++_}
 use Prim.Native.Nat.{ℕ, zero, suc, _+_, _-_, _*_, _/_, _%_}
 use lib.Dec.{ltb}
@@ -12,10 +12,12 @@ use Rattle.layout.specs.Sizes.{blockCount, bodyBytes}
 use Rattle.frame.specs.Frame.{encodeFrame, historyAfter}
 use Rattle.frame.specs.declared.EncodedFrame.{EncodedFrame}
 use Rattle.whole.specs.declared.History.{History}
+use Rattle.block.specs.declared.FrameContext.{FrameContext}
+use Rattle.block.specs.Context.{newContext}
 use Rattle.clip.specs.declared.Encoder.{Encoder}
 use Rattle.clip.specs.declared.starting.Start.{Start}
-use Rattle.clip.specs.Image.{startShape, headBytes, contextBytes, noContext, tableBytes}
-use Rattle.clip.specs.Encoding.{Left, left, encodedFrames, moved, noFrame, begun, feed, close}
+use Rattle.clip.specs.Image.{startShape, headBytes, contextBytes, noContext, tableBytes, loopBytes, noLoopBytes}
+use Rattle.clip.specs.Encoding.{Left, left, encodedFrames, contextWithin, moved, noFrame, begun, feed, close}
 
 -- ---- X's image; a start's block size is cut down
 
@@ -43,17 +45,28 @@ contextAt g xs k j =
     let i = j * (g .block / 8) in
     cond (ltb i k) (contextBytes (getD (encodedAt g xs i .bytes) 0 0) (historyAt g xs i)) noContext
 
+-- "the context at the loop start once that is known": zeros while the frame that holds the start is not among the k frames encoded
+unfoldable pub loopContextAt : Start → List ℤ → ℕ → FrameContext
+loopContextAt g xs k =
+    let p = g .looped in
+    let i = p .start / 14 in
+    cond (p .present && ltb i k) (contextWithin (historyAt g xs i) (encodedAt g xs i) (p .start % 14)) newContext
+
 -- "the frames encoded": the full ones, and all of them once the clip is closed
 abbrev pub framesDone : Start → List ℤ → Bool → ℕ
 framesDone g xs closed = encodedFrames (length xs) (g .total) closed
 
--- "The first S bytes are X's image": head, contents and bodies; what is not encoded yet, and the mark before closing, are zero
+-- the entry that a loop adds: "that entry, like the mark, is zero until closing"
+unfoldable pub loopEntry : Start → List ℤ → Bool → List ℕ
+loopEntry g xs closed = cond closed (loopBytes (g .looped) (loopContextAt g xs (framesDone g xs closed))) (noLoopBytes (g .looped))
+
+-- "The first S bytes are X's image": head, contents and bodies; what is not encoded yet, and before closing the mark and the entry that a loop adds, are zero
 unfoldable pub imageAfter : Start → List ℤ → Bool → List ℕ
 imageAfter g xs closed =
     let k = framesDone g xs closed in
     headBytes (cond closed mark noMark) g
     ++ (tableBytes (contextAt g xs k) (startShape g) 0 (blockCount (startShape g))
-    ++ take (bodyBytes (g .total)) (bodies g xs k ++ replicate (bodyBytes (g .total)) 0))
+    ++ (loopEntry g xs closed ++ take (bodyBytes (g .total)) (bodies g xs k ++ replicate (bodyBytes (g .total)) 0)))
 
 -- ---- the state of X
 
@@ -63,7 +76,8 @@ stateAfter g xs closed =
     let q = length xs / 14 in
     let h = historyAt g xs q in
     let h′ = cond closed (historyAfter h (encodedAt g xs q .samples) (length xs % 14)) h in
-    moved (begun g) (length xs) h′ (cond closed noFrame (frameAt xs q)) (passesUpTo g xs (framesDone g xs closed)) closed
+    let k = framesDone g xs closed in
+    moved (begun g) (length xs) h′ (cond closed noFrame (frameAt xs q)) (passesUpTo g xs k) closed (loopContextAt g xs k)
 
 -- state and buffer after X, where the buffer has some bytes past the image
 unfoldable pub leftAfter : Start → List ℕ → List ℤ → Bool → Left

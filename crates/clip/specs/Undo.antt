@@ -6,7 +6,7 @@ use mathlib.Core.Path.{_≡_}
 use Prim.Native.Nat.{ℕ, _+_, _*_, _/_, _≤_, _<_}
 use lib.ListN.{length, getD, drop}
 use Rattle.layout.specs.declared.Shape.{Shape}
-use Rattle.layout.specs.Sizes.{blockCount, imageSize, framePlace, contextPlace}
+use Rattle.layout.specs.Sizes.{blockCount, imageSize, entryPlace, bodiesPlace, framePlace, contextPlace}
 use Rattle.clip.specs.declared.Encoder.{Encoder}
 use Rattle.clip.specs.declared.starting.Start.{Start}
 use Rattle.clip.specs.Image.{startShape}
@@ -33,11 +33,12 @@ kept (undone u t) = kept t
 
 -- ---- buffers that a state goes on with alike
 
--- with q frames encoded, byte i is still to be written: it is the mark's, a frame's, or in the context of a block whose first frame is to come
+-- with q frames encoded, byte i is still to be written: it is the mark's, a frame's, in the context of a block whose first frame is to come, or in the entry that a loop adds
 pub data Unwritten (s : Shape) (q i : ℕ) : Type 0 where
   marked : i < 4 → Unwritten s q i
   body : framePlace s q ≤ i → i < imageSize s → Unwritten s q i
   context : (j : ℕ) → j < blockCount s → q ≤ j * (s .block / 8) → contextPlace j ≤ i → i < contextPlace j + 6 → Unwritten s q i
+  looping : entryPlace (blockCount s) ≤ i → i < bodiesPlace s → Unwritten s q i
 
 -- a byte that the state has still to write: none once it is closed
 abbrev pub ToWrite : Encoder → ℕ → Type 0
@@ -48,7 +49,7 @@ pub record SameSoFar (e : Encoder) (l m : List ℕ) : Type 0 where
   pub size : length l ≡ length m
   pub bytes : (i : ℕ) → (getD l i 0 ≡ getD m i 0) ⊎ ToWrite e i
 
--- t goes on as s does: the same state and answers, the same bytes but for those still to be written, those past the image and, once closed, all of them
+-- t goes on as s does: the same state and answers, the same bytes but for those still to be written; past the image, and once closed everywhere, all of them are the same
 pub record Equivalent (s t : Left) : Type 0 where
   pub state : t .encoder ≡ s .encoder
   pub bytes : SameSoFar (s .encoder) (s .bytes) (t .bytes)

@@ -9,7 +9,7 @@ use Rattle.clip.specs.Encoding.{moved}
 
 -- the state with another unfinished frame
 abbrev pub framed : Encoder → List ℤ → Encoder
-framed e f = moved e (e .fed) (e .history) f (e .passes) (e .closed)
+framed e f = moved e (e .fed) (e .history) f (e .passes) (e .closed) (e .context)
 
 -- two frames with the same samples fed
 pub record Alike (n : ℕ) (a b : List ℤ) : Type 0 where

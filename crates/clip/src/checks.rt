@@ -1,4 +1,4 @@
-// The tests of the calls, in document 01's sequence.
+// The tests of the calls, in the documents' sequence.
 ghost use mathlib.Core.Path.{_≡_};
 ghost use Prim.Native.Nat.{_≤_};
 ghost use Rattle.clip.specs.Encoding.{encodedFrames, encoderShape};
@@ -10,10 +10,12 @@ use crate::Refusal;
 use crate::starting::Start;
 use frame::coefficients_ok;
 use layout::Shape;
+use layout::limits::loop_ok;
 use layout::limits::numbers_ok;
 use layout::sizes::cut_down;
 use layout::sizes::frame_count;
 use layout::sizes::image_size;
+use layout::sizes::loop_count;
 use layout::sizes::shape_of;
 use whole::MOST_SAMPLES;
 use whole::SAMPLES_PER_FRAME;
@@ -22,7 +24,8 @@ use whole::SAMPLES_PER_FRAME;
 pub(crate) fn encoder_shape(e: Encoder) -> Shape
     ensures { λ r. ⌜ r ≡ encoderShape e ⌝ }
 {
-    shape_of(e.total, e.block)
+    let looped = e.looped;
+    shape_of(e.total, e.block, loop_count(looped))
 }
 
 // Whether the clip is closed only when whole, and the passes are not too many.
@@ -51,6 +54,10 @@ fn valid(e: Encoder) -> bool
     }
     let coefficients = e.coefficients;
     if !coefficients_ok(coefficients) {
+        return false;
+    }
+    let looped = e.looped;
+    if !loop_ok(looped, total) {
         return false;
     }
     let closed = e.closed;
@@ -104,7 +111,7 @@ pub(crate) fn close_answer(e: Encoder, room: usize) -> Answer
     Answer::Accepted
 }
 
-// Codes 4, 5, 6, 7 and 8.
+// Codes 4, 5, 6, 7, 23 and 8.
 pub(crate) fn start_answer(g: Start, room: usize) -> Answer
     ensures { λ r. ⌜ outcome r ≡ startAnswer g room ⌝ }
 {
@@ -130,7 +137,11 @@ pub(crate) fn start_answer(g: Start, room: usize) -> Answer
     if !coefficients_ok(coefficients) {
         return Answer::Refused(Refusal::CoefficientOutside);
     }
-    let asked = shape_of(total, cut_down(wanted));
+    let looped = g.looped;
+    if !loop_ok(looped, total) {
+        return Answer::Refused(Refusal::LoopOutside);
+    }
+    let asked = shape_of(total, cut_down(wanted), loop_count(looped));
     if room < image_size(asked) {
         return Answer::Refused(Refusal::ImageTooShort);
     }

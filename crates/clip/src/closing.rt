@@ -8,7 +8,8 @@ ghost use Rattle.clip.specs.Encoding.{left, finish};
 ghost use Rattle.clip.specs.inner.Asked.{Whole};
 use crate::Encoder;
 use crate::checks::encoder_shape;
-use crate::contents::put_mark;
+use crate::contents::put_end;
+use crate::feeding::loop_context;
 use crate::feeding::store;
 use frame::encode_frame;
 use frame::history_after;
@@ -28,13 +29,16 @@ fn padded(frame: [i16; 14], m: usize) -> [i16; 14]
     f
 }
 
-// Encodes a short last frame and writes the mark.
+// Encodes a short last frame, and writes the entry that a loop adds and the mark.
 pub(crate) fn finish(e: Encoder, image: &mut [u8]) -> Encoder
     requires { ⌜ Whole e (length (now image)) ⌝ }
     ensures { λ r. ⌜ left r (now (image .exit)) ≡ finish (left e (now (image .entry))) ⌝ }
 {
     let n = e.fed;
     let m = (n % 14) as usize;
+    let shape = encoder_shape(e);
+    let looped = e.looped;
+    let known = e.context;
     let mut c = e;
     let none = [0i16; 14];
     c.frame = none;
@@ -47,14 +51,16 @@ pub(crate) fn finish(e: Encoder, image: &mut [u8]) -> Encoder
         let t = encode_frame(h, f, cs);
         let b = t.bytes;
         let s = t.samples;
-        let shape = encoder_shape(e);
-        store(image, shape, (n / 14) as usize, b, 1 + (m + 1) / 2, h);
+        let q = (n / 14) as usize;
+        store(image, shape, q, b, 1 + (m + 1) / 2, h);
         let after = history_after(h, s, m);
+        let at = loop_context(looped, q, h, t, known);
         c.history = after;
         c.passes = e.passes + t.passes;
-        put_mark(image);
+        c.context = at;
+        put_end(image, shape, looped, at);
         return c;
     }
-    put_mark(image);
+    put_end(image, shape, looped, known);
     c
 }

@@ -6,9 +6,13 @@ ghost use lib.ListN.{length, replicate};
 ghost use lib.Seq.{sets};
 ghost use Rattle.layout.specs.Limits.{Limits};
 ghost use Rattle.layout.specs.Fields.{be16, be32, mark, noMark};
-ghost use Rattle.clip.specs.Image.{noContext, contextBytes, coefficientBytes, startShape, headBytes, tableBytes, freshBytes};
-ghost use Rattle.layout.specs.Sizes.{blockCount, bodiesPlace, imageSize};
+ghost use Rattle.clip.specs.Image.{noContext, contextBytes, coefficientBytes, startShape, headBytes, tableBytes, loopBytes, freshBytes};
+ghost use Rattle.clip.specs.Encoding.{ended};
+ghost use Rattle.layout.specs.Sizes.{loopCount, blockCount, bodiesPlace, imageSize};
 use crate::starting::Start;
+use block::FrameContext;
+use layout::ENTRY_BYTES;
+use layout::Loop;
 use layout::MARK;
 use layout::Shape;
 use layout::fields::bits16;
@@ -20,11 +24,12 @@ use layout::sizes::block_length;
 use layout::sizes::bodies_place;
 use layout::sizes::body_bytes;
 use layout::sizes::entry_place;
+use layout::sizes::loop_count;
 use layout::sizes::shape_of;
 use whole::History;
 
 // The mark, at the image's start.
-pub(crate) fn put_mark(image: &mut [u8])
+fn put_mark(image: &mut [u8])
     requires { ⌜ 4 ≤ length (now image) ⌝ }
     ensures { λ _. ⌜ now (image .exit) ≡ sets (now (image .entry)) 0 mark ⌝ }
 {
@@ -36,11 +41,11 @@ pub(crate) fn put_mark(image: &mut [u8])
 }
 
 // A block's context: its first header byte, and the history before it.
-pub(crate) fn put_context(image: &mut [u8], at: usize, header: u8, history: History)
+pub(crate) fn put_context(image: &mut [u8], at: usize, header: u16, history: History)
     requires { ⌜ at + 6 ≤ length (now image) ⌝ }
     ensures { λ _. ⌜ now (image .exit) ≡ sets (now (image .entry)) at (contextBytes header history) ⌝ }
 {
-    put16(image, at, header as u16);
+    put16(image, at, header);
     put16(image, at + 2, bits16(history.newest));
     put16(image, at + 4, bits16(history.older));
 }
@@ -94,13 +99,13 @@ fn put_numbers(image: &mut [u8], total: u32, rate: u32, block: u32)
     put32(image, 12, block);
 }
 
-// Gain, two zero bytes and K.
-fn put_rest(image: &mut [u8], gain: u16, blocks: u32)
+// Gain, the count of loops and K.
+fn put_rest(image: &mut [u8], gain: u16, loops: u16, blocks: u32)
     requires { ⌜ 56 ≤ length (now image) ⌝ }
-    ensures { λ _. ⌜ now (image .exit) ≡ sets (now (image .entry)) 48 (be16 gain ++ (replicate 2 0 ++ be32 blocks)) ⌝ }
+    ensures { λ _. ⌜ now (image .exit) ≡ sets (now (image .entry)) 48 (be16 gain ++ (be16 loops ++ be32 blocks)) ⌝ }
 {
     put16(image, 48, gain);
-    zeros(image, 50, 2);
+    put16(image, 50, loops);
     put32(image, 52, blocks);
 }
 
@@ -110,10 +115,11 @@ fn put_head(image: &mut [u8], g: Start, blocks: u32)
     ensures { λ _. ⌜ now (image .exit) ≡ sets (now (image .entry)) 0 (headBytes noMark g) ⌝ }
 {
     let coefficients = g.coefficients;
+    let looped = g.looped;
     zeros(image, 0, 4);
     put_numbers(image, g.total, g.rate, g.block);
     put_coefficients(image, coefficients);
-    put_rest(image, g.gain, blocks);
+    put_rest(image, g.gain, loop_count(looped) as u16, blocks);
 }
 
 // All the bytes of a clip's start.
@@ -121,9 +127,38 @@ pub(crate) fn put_fresh(image: &mut [u8], g: Start)
     requires { ⌜ Limits (startShape g) × (imageSize (startShape g) ≤ length (now image)) ⌝ }
     ensures { λ _. ⌜ now (image .exit) ≡ sets (now (image .entry)) 0 (freshBytes g) ⌝ }
 {
-    let shape = shape_of(g.total, g.block);
+    let looped = g.looped;
+    let shape = shape_of(g.total, g.block, loop_count(looped));
     let blocks = block_count(shape);
     put_head(image, g, blocks as u32);
     put_table(image, shape);
-    zeros(image, bodies_place(shape), body_bytes(shape.total));
+    zeros(
+        image,
+        entry_place(blocks),
+        ENTRY_BYTES * shape.extra + body_bytes(shape.total),
+    );
+}
+
+// The entry that a loop adds.
+fn put_loop(image: &mut [u8], at: usize, looped: Loop, context: FrameContext)
+    requires { ⌜ at + 16 * loopCount looped ≤ length (now image) ⌝ }
+    ensures { λ _. ⌜ now (image .exit) ≡ sets (now (image .entry)) at (loopBytes looped context) ⌝ }
+{
+    let present = looped.present;
+    if present {
+        let history = context.last_samples;
+        put32(image, at, looped.start);
+        put32(image, at + 4, looped.end);
+        put_context(image, at + 8, context.predictor_and_scale, history);
+        zeros(image, at + 14, 2);
+    }
+}
+
+// What closing writes after the last frame: the entry that a loop adds, and the mark.
+pub(crate) fn put_end(image: &mut [u8], shape: Shape, looped: Loop, context: FrameContext)
+    requires { ⌜ Limits shape × (imageSize shape ≤ length (now image)) × (shape .extra ≡ loopCount looped) ⌝ }
+    ensures { λ _. ⌜ now (image .exit) ≡ ended shape looped context (now (image .entry)) ⌝ }
+{
+    put_loop(image, entry_place(block_count(shape)), looped, context);
+    put_mark(image);
 }

@@ -9,12 +9,14 @@ mod contents;
 mod feeding;
 pub mod starting;
 
+use block::FrameContext;
 use checks::close_answer;
 use checks::feed_answer;
 use checks::start_answer;
 use closing::finish;
 use contents::put_fresh;
 use feeding::feed_all;
+use layout::Loop;
 use starting::Start;
 use starting::begun;
 use starting::cut;
@@ -28,6 +30,7 @@ pub enum Refusal {
     RateZero,
     BadBlockSize,
     CoefficientOutside,
+    LoopOutside,
     ImageTooShort,
     AlreadyClosed,
     PieceTooLong,
@@ -39,7 +42,7 @@ pub enum Answer {
     Refused(Refusal),
 }
 
-// The encoding state: what the clip was started with, the samples fed so far, the history, the unfinished frame, the passes made.
+// The encoding state: what the clip was started with, the samples fed so far, the history, the unfinished frame, the passes made, the loop, and the context at its start once that is known.
 #[repr(C)]
 pub struct Encoder {
     pub total: u32,
@@ -52,6 +55,8 @@ pub struct Encoder {
     pub frame: [i16; 14],
     pub passes: u32,
     pub closed: bool,
+    pub looped: Loop,
+    pub context: FrameContext,
 }
 
 // What a call answers, and the state after it.
@@ -60,7 +65,7 @@ pub struct Encoding {
     pub encoder: Encoder,
 }
 
-// Document 01's number of a refusal.
+// The number of a refusal in documents 01 and 02.
 pub fn code(refusal: Refusal) -> u32
     ensures { λ r. ⌜ r ≡ code refusal ⌝ }
 {
@@ -70,6 +75,7 @@ pub fn code(refusal: Refusal) -> u32
         Refusal::RateZero => 5,
         Refusal::BadBlockSize => 6,
         Refusal::CoefficientOutside => 7,
+        Refusal::LoopOutside => 23,
         Refusal::ImageTooShort => 8,
         Refusal::AlreadyClosed => 9,
         Refusal::PieceTooLong => 10,
@@ -122,7 +128,7 @@ pub fn feed(e: Encoder, piece: &[i16], image: &mut [u8]) -> Encoding
     }
 }
 
-// Closes the clip: encodes a short last frame and writes the mark.
+// Closes the clip: encodes a short last frame, writes the entry that a loop adds, and the mark.
 pub fn close(e: Encoder, image: &mut [u8]) -> Encoding
     ensures { λ r. ⌜ effect (outcome (r .answer)) (left (r .encoder) (now (image .exit))) ≡ close e (now (image .entry)) ⌝ }
 {

@@ -3,10 +3,13 @@ ghost use mathlib.Core.Path.{_≡_};
 ghost use Rattle.clip.specs.Encoding.{noEncoder, begun};
 ghost use Rattle.clip.specs.Image.{cut};
 use crate::Encoder;
+use block::FrameContext;
+use layout::Loop;
 use layout::sizes::cut_down;
+use layout::sizes::told_loop;
 use whole::History;
 
-// What a clip is started with: N, the rate, the block size, the gain, the coefficients and the history before its first sample.
+// What a clip is started with: N, the rate, the block size, the gain, the coefficients, the history before its first sample, and its loop.
 pub struct Start {
     pub total: u32,
     pub rate: u32,
@@ -14,14 +17,16 @@ pub struct Start {
     pub gain: u16,
     pub coefficients: [i16; 16],
     pub history: History,
+    pub looped: Loop,
 }
 
-// What a clip is started with, its block size cut down to a multiple of 8.
+// What a clip is started with, its block size cut down to a multiple of 8, and zeros for no loop.
 pub(crate) fn cut(g: Start) -> Start
     ensures { λ r. ⌜ r ≡ cut g ⌝ }
 {
     let coefficients = g.coefficients;
     let history = g.history;
+    let looped = told_loop(g.looped);
     Start {
         total: g.total,
         rate: g.rate,
@@ -29,6 +34,7 @@ pub(crate) fn cut(g: Start) -> Start
         gain: g.gain,
         coefficients: coefficients,
         history: history,
+        looped: looped,
     }
 }
 
@@ -38,6 +44,8 @@ pub(crate) fn begun(g: Start) -> Encoder
 {
     let coefficients = g.coefficients;
     let history = g.history;
+    let looped = g.looped;
+    let context = FrameContext::new();
     Encoder {
         total: g.total,
         rate: g.rate,
@@ -49,6 +57,8 @@ pub(crate) fn begun(g: Start) -> Encoder
         frame: [0i16; 14],
         passes: 0,
         closed: false,
+        looped: looped,
+        context: context,
     }
 }
 
@@ -60,6 +70,12 @@ pub(crate) fn no_encoder() -> Encoder
         newest: 0,
         older: 0,
     };
+    let looped = Loop {
+        start: 0,
+        end: 0,
+        present: false,
+    };
+    let context = FrameContext::new();
     Encoder {
         total: 0,
         rate: 0,
@@ -71,5 +87,7 @@ pub(crate) fn no_encoder() -> Encoder
         frame: [0i16; 14],
         passes: 0,
         closed: false,
+        looped: looped,
+        context: context,
     }
 }

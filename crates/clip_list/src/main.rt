@@ -1,10 +1,12 @@
 // Replays a list of calls on clips of which the Rust's answers are known. A line of the input is a letter and numbers in hexadecimal digits
 // of lower case, here with their first digit's place: 1 the length of the image buffer that the call is playing (four digits), 5 whether the
-// answer has the buffer's bytes, 7 how many samples there are, or whether the clip is closed (two each); at 9 the samples, or 9 N, 17
-// rate, 25 block size (eight each), 33 gain, 37 coefficients, 101 the newest and the older history sample (four each), 109 n, 117 passes
-// (eight each), 125 the unfinished frame. n fills the buffer, byte i with i modulo 251; p puts a state; s starts a clip; b adds the samples
-// to the piece that is to come; f does the same and feeds that piece; c closes. s, f and c are answered by a line: 00 or the refusal's
-// number, the state's fields from N on, closed, the digest of the lent buffer, and its bytes where the line asks for them.
+// answer has the buffer's bytes, 7 how many samples there are, whether the clip is closed, or whether there is a loop (two each); at 9 the
+// samples, or 9 N, 17 rate, 25 block size (eight each), 33 gain, 37 coefficients, 101 the newest and the older history sample (four each),
+// 109 n, 117 passes (eight each), 125 the unfinished frame; or 9 a loop's start, 17 its end (eight each), 25 header, 29 newest and older
+// history sample of the context at its start (four each). n fills the buffer, byte i with i modulo 251; p puts a state with no loop; l puts a
+// loop into the state; s starts a clip, with the state's loop where 7 says so; b adds the samples to the piece that is to come; f does the
+// same and feeds that piece; c closes. s, f and c are answered by a line: 00 or the refusal's number, the state's fields from N on, closed,
+// the loop and its context where one of their numbers is not zero, the digest of the lent buffer, and its bytes where the line asks for them.
 mod record;
 mod text;
 
@@ -12,10 +14,14 @@ use clip::Answer;
 use clip::Encoder;
 use clip::Encoding;
 use clip::starting::Start;
+use layout::Loop;
 use record::add;
 use record::coefficients_of;
+use record::context_of;
 use record::encoder_of;
 use record::history_of;
+use record::loop_of;
+use record::no_loop;
 use replay::byte;
 use replay::double_word;
 use replay::least;
@@ -55,8 +61,18 @@ fn answered(done: Encoding, image: &[u8], shown: bool) -> State {
     }
 }
 
+// The loop that the clip of a line is started with: the state's, or none.
+fn given_loop(line: &[u8; 182], encoder: Encoder) -> Loop {
+    if byte(line, 7) != 0 {
+        let looped = encoder.looped;
+        return looped;
+    }
+    no_loop()
+}
+
 // Starts the clip of a line.
-fn start(line: &[u8; 182], image: &mut [u8], shown: bool) -> State {
+fn start(line: &[u8; 182], encoder: Encoder, image: &mut [u8], shown: bool) -> State {
+    let looped = given_loop(line, encoder);
     let coefficients = coefficients_of(line);
     let history = history_of(line);
     let given = Start {
@@ -66,6 +82,7 @@ fn start(line: &[u8; 182], image: &mut [u8], shown: bool) -> State {
         gain: word(line, 33),
         coefficients: coefficients,
         history: history,
+        looped: looped,
     };
     let done = clip::start(given, image);
     answered(done, image, shown)
@@ -96,7 +113,7 @@ fn call(
     let room = least(word(line, 1) as usize, image.len());
     let shown = byte(line, 5) != 0;
     if letter == b's' {
-        return start(line, &mut image[..room], shown);
+        return start(line, encoder, &mut image[..room], shown);
     }
     if letter == b'f' {
         return feed(encoder, piece, pending, &mut image[..room], shown);
@@ -121,6 +138,11 @@ fn turn(
         fill(image);
     } else if letter == b'p' {
         encoder = encoder_of(line);
+    } else if letter == b'l' {
+        let looped = loop_of(line);
+        let context = context_of(line);
+        encoder.looped = looped;
+        encoder.context = context;
     } else {
         pending = add(line, piece, pending);
         if letter == b'f' {

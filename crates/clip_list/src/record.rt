@@ -1,5 +1,7 @@
 // What a line has.
+use block::FrameContext;
 use clip::Encoder;
+use layout::Loop;
 use replay::add_samples;
 use replay::byte;
 use replay::double_word;
@@ -31,11 +33,43 @@ fn frame_of(line: &[u8; 182]) -> [i16; 14] {
     xs
 }
 
-// The state of a line.
+// The loop of a line.
+pub(crate) fn loop_of(line: &[u8; 182]) -> Loop {
+    Loop {
+        start: double_word(line, 9),
+        end: double_word(line, 17),
+        present: byte(line, 7) != 0,
+    }
+}
+
+// No loop.
+pub(crate) fn no_loop() -> Loop {
+    Loop {
+        start: 0,
+        end: 0,
+        present: false,
+    }
+}
+
+// The context at the loop start of a line.
+pub(crate) fn context_of(line: &[u8; 182]) -> FrameContext {
+    let last_samples = History {
+        newest: sample(line, 29),
+        older: sample(line, 33),
+    };
+    FrameContext {
+        predictor_and_scale: word(line, 25),
+        last_samples: last_samples,
+    }
+}
+
+// The state of a line, with no loop.
 pub(crate) fn encoder_of(line: &[u8; 182]) -> Encoder {
     let coefficients = coefficients_of(line);
     let history = history_of(line);
     let frame = frame_of(line);
+    let looped = no_loop();
+    let context = FrameContext::new();
     Encoder {
         total: double_word(line, 9),
         rate: double_word(line, 17),
@@ -47,6 +81,8 @@ pub(crate) fn encoder_of(line: &[u8; 182]) -> Encoder {
         frame: frame,
         passes: double_word(line, 117),
         closed: byte(line, 7) != 0,
+        looped: looped,
+        context: context,
     }
 }
 

@@ -97,6 +97,35 @@ fn put_start(text: &mut [u8; 8704], at: usize, e: Encoder) -> usize
     put_samples(text, gain, &e.coefficients)
 }
 
+// Whether one of the numbers of the loop and its context is not zero.
+fn has_loop(e: Encoder) -> bool {
+    let looped = e.looped;
+    let context = e.context;
+    let history = context.last_samples;
+    let start = looped.start;
+    let end = looped.end;
+    let header = context.predictor_and_scale;
+    let newest = history.newest;
+    let older = history.older;
+    looped.present || start != 0 || end != 0 || header != 0 || newest != 0 || older != 0
+}
+
+// Puts the loop and the context at its start.
+fn put_loop(text: &mut [u8; 8704], at: usize, e: Encoder) -> usize
+    ensures { λ r. ⌜ r ≤ 8704 ⌝ }
+{
+    let looped = e.looped;
+    let context = e.context;
+    let history = context.last_samples;
+    let before = [history.newest, history.older];
+    let present = if looped.present { 1 } else { 0 };
+    let start = put_field(text, at, looped.start as u64, 8);
+    let end = put_field(text, start, looped.end as u64, 8);
+    let flag = put_field(text, end, present, 2);
+    let header = put_field(text, flag, context.predictor_and_scale as u64, 4);
+    put_samples(text, header, &before)
+}
+
 // Puts the state.
 fn put_encoder(text: &mut [u8; 8704], at: usize, e: Encoder) -> usize
     ensures { λ r. ⌜ r ≤ 8704 ⌝ }
@@ -109,7 +138,11 @@ fn put_encoder(text: &mut [u8; 8704], at: usize, e: Encoder) -> usize
     let passes = put_field(text, fed, e.passes as u64, 8);
     let frame = put_samples(text, passes, &e.frame);
     let closed = if e.closed { 1 } else { 0 };
-    put_field(text, frame, closed, 2)
+    let end = put_field(text, frame, closed, 2);
+    if has_loop(e) {
+        return put_loop(text, end, e);
+    }
+    end
 }
 
 // Writes the first bytes of a text.

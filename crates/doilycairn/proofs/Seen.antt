@@ -16,18 +16,20 @@ use Rattle.frame.specs.declared.OneFrame.{OneFrame}
 use Rattle.frame.specs.Frame as OneFrames
 use Rattle.image.specs.Bodies.{blockAnswer, bodyIn, blockBody}
 use Rattle.image.specs.declared.Head.{Head}
-use Rattle.image.specs.Reading.{offsetIn, lengthIn}
-use Rattle.image.specs.Playing.{contextIn}
+use Rattle.image.specs.Opening.{Told, told}
+use Rattle.layout.specs.declared.Loop.{Loop}
+use Rattle.image.specs.Reading.{offsetIn, lengthIn, contextIn}
 use Rattle.doilycairn.specs.declared.blocks.Joining.{Joining}
 use Rattle.doilycairn.specs.declared.blocks.Playback.{Playback}
 use Rattle.doilycairn.specs.declared.reading.Body.{Body}
 use Rattle.doilycairn.specs.declared.reading.Opening.{Opening}
 use Rattle.doilycairn.specs.declared.reading.Part.{Part}
+use Rattle.doilycairn.specs.declared.reading.Turns.{Turns}
 use Rattle.doilycairn.specs.declared.writing.Frame.{Frame}
 use Rattle.doilycairn.specs.Blocks as Blocks
 use Rattle.doilycairn.specs.Blocks.{joinedAnswer, playSeen, joinSeen}
 use Rattle.doilycairn.specs.Measuring.{processSeen, finishSeen}
-use Rattle.doilycairn.specs.Reading.{openSeen, bodyAt, handed, bodyInC, partAnswer, partSeen}
+use Rattle.doilycairn.specs.Reading.{openSeen, bodyAt, handed, bodyInC, partAnswer, partSeen, turnsAnswer, turnsSeen}
 use Rattle.doilycairn.specs.Writing.{frameCode, frameSeen, clipSeen}
 
 -- ---- measuring
@@ -52,9 +54,10 @@ clip-seen o e l p q = ap (λ (k : ℕ). effect (record { code = k; encoder = e }
 
 -- ---- an image
 
-pub open-seen : (o : Outcome Unit) (h : Head) {e : Effect (Outcome Unit) Head} {k j : ℕ}
-    → k ≡ outcomeCode o → j ≡ outcomeEntry o → effect o h ≡ e → _≡_ {A = Opening} (record { code = k; entry = j; head = h }) (openSeen e)
-open-seen o h p r q = ap₂ (λ (k j : ℕ). record { code = k; entry = j; head = h }) p r ∙ ap openSeen q
+pub open-seen : (o : Outcome Unit) (h : Head) (x : Loop) (c : FrameContext) {e : Effect (Outcome Unit) Told} {k j : ℕ}
+    → k ≡ outcomeCode o → j ≡ outcomeEntry o → effect o (told h x c) ≡ e
+    → _≡_ {A = Opening} (record { code = k; entry = j; head = h; looped = x; context = c }) (openSeen e)
+open-seen o h x c p r q = ap₂ (λ (k j : ℕ). record { code = k; entry = j; head = h; looped = x; context = c }) p r ∙ ap openSeen q
 
 pub play-seen : (o : Outcome ℕ) (c : FrameContext) (out : List ℤ) {e : Effect (Outcome ℕ) Playing} {r : Playback}
     → r ≡ Blocks.playedAnswer o c → effect o (playing c out) ≡ e → effect r out ≡ playSeen e
@@ -62,6 +65,9 @@ play-seen o c out p q = ap (λ (r : Playback). effect r out) p ∙ ap playSeen q
 
 pub part-seen : (o : Outcome (ℕ × ℕ)) (out : List ℤ) {e : Effect (Outcome (ℕ × ℕ)) (List ℤ)} {r : Part} → r ≡ partAnswer o → effect o out ≡ e → effect r out ≡ partSeen e
 part-seen o out p q = ap (λ (r : Part). effect r out) p ∙ ap partSeen q
+
+pub turns-seen : (o : Outcome ℕ) (out : List ℤ) {e : Effect (Outcome ℕ) (List ℤ)} {r : Turns} → r ≡ turnsAnswer o → effect o out ≡ e → effect r out ≡ turnsSeen e
+turns-seen o out p q = ap (λ (r : Turns). effect r out) p ∙ ap turnsSeen q
 
 -- the entry's numbers, and two nibbles a byte
 pub body-told : (l : List ℕ) (k offset bytes nibbles : ℕ) (c : FrameContext) → offset ≡ offsetIn l k → nibbles ≡ lengthIn l k → bytes ≡ (nibbles + 1) / 2 → c ≡ contextIn l k

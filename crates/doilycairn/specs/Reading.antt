@@ -7,16 +7,15 @@ use lib.ListN.{take, drop}
 use Rattle.whole.specs.Outcome.{Outcome, valueOr, ifAccepted, outcomeCode, outcomeEntry, Effect, effect}
 use Rattle.block.specs.Context.{newContext}
 use Rattle.image.specs.declared.Answer.{Answer}
-use Rattle.image.specs.declared.Head.{Head}
 use Rattle.image.specs.Bodies.{blockAnswer, blockBody}
-use Rattle.image.specs.Opening.{outcome}
-use Rattle.image.specs.Reading.{offsetIn, lengthIn}
+use Rattle.image.specs.Opening.{outcome, Told}
+use Rattle.image.specs.Reading.{offsetIn, lengthIn, contextIn}
 use Rattle.image.specs.Part.{samplesOf, blocksOf}
-use Rattle.image.specs.Playing.{contextIn}
 use Rattle.doilycairn.specs.declared.reading.Body.{Body}
 use Rattle.doilycairn.specs.declared.reading.Comparison.{Comparison}
 use Rattle.doilycairn.specs.declared.reading.Opening.{Opening}
 use Rattle.doilycairn.specs.declared.reading.Part.{Part}
+use Rattle.doilycairn.specs.declared.reading.Turns.{Turns}
 
 -- the number of an answer
 abbrev pub codeOf : Answer → ℕ
@@ -29,8 +28,10 @@ entryOf a = outcomeEntry (outcome a)
 -- ---- opening
 
 -- what C sees of opening
-abbrev pub openSeen : Effect (Outcome Unit) Head → Opening
-openSeen e = record { code = outcomeCode (e .outcome); entry = outcomeEntry (e .outcome); head = e .left }
+abbrev pub openSeen : Effect (Outcome Unit) Told → Opening
+openSeen e =
+    let t = e .left in
+    record { code = outcomeCode (e .outcome); entry = outcomeEntry (e .outcome); head = t .head; looped = t .looped; context = t .context }
 
 -- ---- the body of a block
 
@@ -57,6 +58,16 @@ partAnswer o = record { code = outcomeCode o; entry = outcomeEntry o; samples = 
 -- what C sees of it
 abbrev pub partSeen : Effect (Outcome (ℕ × ℕ)) (List ℤ) → Effect Part (List ℤ)
 partSeen e = effect (partAnswer (e .outcome)) (e .left)
+
+-- ---- playing the loop
+
+-- how many samples, with code 0, or no samples, the refusal's number and the block that it names
+abbrev pub turnsAnswer : Outcome ℕ → Turns
+turnsAnswer o = record { code = outcomeCode o; entry = outcomeEntry o; samples = valueOr o 0 }
+
+-- what C sees of it
+abbrev pub turnsSeen : Effect (Outcome ℕ) (List ℤ) → Effect Turns (List ℤ)
+turnsSeen e = effect (turnsAnswer (e .outcome)) (e .left)
 
 -- ---- sameness
 

@@ -1,14 +1,15 @@
-// Reading an image: opening, the place of a block's body, playing a block, the whole or a part, sameness (sections 4 and 5).
+// Reading an image: opening, the place of a block's body, playing a block, the whole, a part or the loop, sameness (sections 4 and 5).
 ghost use mathlib.Core.Path.{_≡_};
 ghost use Rattle.image.specs.inner.Asked.{Found};
 ghost use Rattle.image.specs.Opening.{openImage};
+ghost use Rattle.image.specs.Looping.{playLoop};
 ghost use Rattle.image.specs.Part.{partOutcome, playFrom};
 ghost use Rattle.image.specs.Playing.{playOutcome, play};
 ghost use Rattle.image.specs.Sameness.{sameOutcome, same};
 ghost use Rattle.image.specs.WholeImage.{playAll};
 ghost use Rattle.whole.specs.Outcome.{effect};
 ghost use Rattle.doilycairn.specs.Blocks.{playedAnswer, playSeen};
-ghost use Rattle.doilycairn.specs.Reading.{codeOf, entryOf, openSeen, bodyAt, handed, bodyInC, partAnswer, partSeen, comparedAnswer};
+ghost use Rattle.doilycairn.specs.Reading.{codeOf, entryOf, openSeen, bodyAt, handed, bodyInC, partAnswer, partSeen, turnsAnswer, turnsSeen, comparedAnswer};
 use crate::blocks::Playback;
 use block::FrameContext;
 use image::Answer;
@@ -17,6 +18,7 @@ use image::PartAnswer;
 use image::PlayAnswer;
 use image::SameAnswer;
 use image::bodies::read_entry;
+use layout::Loop;
 
 // What opening returns. `entry` is here and below the block whose entry is bad, with codes 20, 21 and 22; else 0.
 #[repr(C)]
@@ -24,6 +26,8 @@ pub struct Opening {
     pub code: u32,
     pub entry: u32,
     pub head: Head,
+    pub looped: Loop,
+    pub context: FrameContext,
 }
 
 // Where a block's body stands in the image, and its entry's length and context.
@@ -44,6 +48,14 @@ pub struct Part {
     pub entry: u32,
     pub samples: u64,
     pub blocks: u32,
+}
+
+// What playing the loop returns: how many samples were played.
+#[repr(C)]
+pub struct Turns {
+    pub code: u32,
+    pub entry: u32,
+    pub samples: u64,
 }
 
 // What comparing returns.
@@ -114,6 +126,24 @@ fn part_answer(answer: PartAnswer) -> Part
     }
 }
 
+// The sample count of the loop's turns, or the refusal's number and the block that it names.
+fn turns_answer(answer: PlayAnswer) -> Turns
+    ensures { λ r. ⌜ r ≡ turnsAnswer (playOutcome answer) ⌝ }
+{
+    match answer {
+        PlayAnswer::Played(samples) => Turns {
+            code: 0,
+            entry: 0,
+            samples: samples,
+        },
+        PlayAnswer::Refused(why) => Turns {
+            code: image::code(why),
+            entry: image::bad_block(why),
+            samples: 0,
+        },
+    }
+}
+
 // Whether an answer is `Same`, or its number and the block that it names.
 fn compared_answer(answer: SameAnswer) -> Comparison
     ensures { λ r. ⌜ r ≡ comparedAnswer (sameOutcome answer) ⌝ }
@@ -163,10 +193,14 @@ pub extern "C" fn doilycairn_open(image: &[u8]) -> Opening
     let done = image::open(image);
     let answer = done.answer;
     let head = done.head;
+    let looped = done.looped;
+    let context = done.context;
     Opening {
         code: code_of(answer),
         entry: entry_of(answer),
         head: head,
+        looped: looped,
+        context: context,
     }
 }
 
@@ -221,6 +255,15 @@ pub extern "C" fn doilycairn_play_from(image: &[u8], first: u32, out: &mut [i16]
 {
     let answer = image::play_from(image, first, out);
     part_answer(answer)
+}
+
+// Plays the loop of an image some number of times.
+#[no_mangle]
+pub extern "C" fn doilycairn_play_loop(image: &[u8], times: u32, out: &mut [i16]) -> Turns
+    ensures { λ r. ⌜ effect r (now (out .exit)) ≡ turnsSeen (playLoop (now (image .entry)) times (now (out .entry))) ⌝ }
+{
+    let answer = image::play_loop(image, times, out);
+    turns_answer(answer)
 }
 
 // Compares two images.

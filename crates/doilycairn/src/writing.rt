@@ -1,13 +1,15 @@
 // Encoding a frame, and starting, feeding and closing a clip (sections 2 and 3).
 ghost use mathlib.Core.Path.{_≡_};
-ghost use Rattle.doilycairn.specs.Writing.{frameCode, codeOf, frameSeen, clipSeen, given};
+ghost use Rattle.doilycairn.specs.Writing.{frameCode, codeOf, frameSeen, clipSeen, given, between};
 ghost use Rattle.whole.specs.Outcome.{effect};
 ghost use Rattle.frame.specs.Frame.{encodeOneFrame};
+ghost use Rattle.layout.specs.Sizes.{noLoop};
 ghost use Rattle.clip.specs.Encoding.{start, feed, close};
 use clip::Answer;
 use clip::Encoder;
 use clip::starting::Start;
 use frame::Verdict;
+use layout::Loop;
 use whole::History;
 
 // What encoding one frame returns.
@@ -67,7 +69,7 @@ pub extern "C" fn doilycairn_encode_frame(
     }
 }
 
-// Starts a clip.
+// Starts a clip without a loop.
 #[no_mangle]
 pub extern "C" fn doilycairn_start(
     total: u32,
@@ -78,7 +80,7 @@ pub extern "C" fn doilycairn_start(
     history: History,
     image: &mut [u8],
 ) -> Encoding
-    ensures { λ r. ⌜ effect r (now (image .exit)) ≡ clipSeen (start (given total rate «block_size» gain (now (coefficients .entry)) history) (now (image .entry))) ⌝ }
+    ensures { λ r. ⌜ effect r (now (image .exit)) ≡ clipSeen (start (given total rate «block_size» gain (now (coefficients .entry)) history noLoop) (now (image .entry))) ⌝ }
 {
     let given = Start {
         total: total,
@@ -87,6 +89,48 @@ pub extern "C" fn doilycairn_start(
         gain: gain,
         coefficients: *coefficients,
         history: history,
+        looped: Loop {
+            start: 0,
+            end: 0,
+            present: false,
+        },
+    };
+    let done = clip::start(given, image);
+    let answer = done.answer;
+    let encoder = done.encoder;
+    Encoding {
+        code: code_of(answer),
+        encoder: encoder,
+    }
+}
+
+// Starts a clip with a loop.
+#[no_mangle]
+pub extern "C" fn doilycairn_start_loop(
+    total: u32,
+    rate: u32,
+    block_size: u32,
+    gain: u16,
+    coefficients: &[i16; 16],
+    history: History,
+    loop_start: u32,
+    loop_end: u32,
+    image: &mut [u8],
+) -> Encoding
+    ensures { λ r. ⌜ effect r (now (image .exit)) ≡ clipSeen (start (given total rate «block_size» gain (now (coefficients .entry)) history (between «loop_start» «loop_end»)) (now (image .entry))) ⌝ }
+{
+    let given = Start {
+        total: total,
+        rate: rate,
+        block: block_size,
+        gain: gain,
+        coefficients: *coefficients,
+        history: history,
+        looped: Loop {
+            start: loop_start,
+            end: loop_end,
+            present: true,
+        },
     };
     let done = clip::start(given, image);
     let answer = done.answer;

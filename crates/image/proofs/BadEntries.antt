@@ -1,4 +1,4 @@
--- A refused opening names the first bad entry, by the first code that applies in it; and every call on that image names it too.
+-- A refused opening names the first bad entry, by the first code that applies in it, or tells that the loop is bad; and every call on that image says the same.
 use mathlib.Core.Bool.{Bool, true, false, not, cond, _&&_}
 use mathlib.Core.List.{List}
 use mathlib.Core.Logic.{inl, inr}
@@ -13,15 +13,17 @@ use Rattle.whole.specs.Outcome.{Outcome, accepted, refusedAt, refused, withValu
 use Rattle.whole.proofs.Outcomes.{not-both, same-number, same-block}
 use Rattle.layout.specs.declared.Shape.{Shape}
 use Rattle.layout.specs.Sizes.{blockCount, blockOffset, blockLength}
-use Rattle.image.specs.Reading.{shapeIn, offsetIn, lengthIn, headerIn, entryZeroIn}
-use Rattle.image.specs.FirstBad.{FirstCode, bad-offset, bad-length, bad-header, FirstBad, NotOpened, bad-head, bad-entry, RefusedAlike}
-use Rattle.image.specs.Opening.{andThen, EntryFits, headOk, entryAnswer, entriesAnswer, openAnswer, openImage}
+use Rattle.image.specs.Reading.{shapeIn, blocksIn, offsetIn, lengthIn, headerIn, entryZeroIn}
+use Rattle.image.specs.FirstBad.{FirstCode, bad-offset, bad-length, bad-header, FirstBad, NotOpened, bad-head, bad-entry, bad-loop, RefusedAlike}
+use Rattle.image.specs.Opening.{andThen, EntryFits, headOk, entryAnswer, entriesAnswer, loopFits, openAnswer, openImage}
 use Rattle.image.specs.Bodies.{blockAnswer, blockBody}
+use Rattle.image.specs.Looping.{loopAnswer, playLoop}
 use Rattle.image.specs.Part.{fromAnswer, playFrom}
 use Rattle.image.specs.Playing.{playAnswer, play}
 use Rattle.image.specs.WholeImage.{allAnswer, playAll}
 use Rattle.image.specs.Sameness.{compareAnswer, bothAnswer, sameSound, same}
-use Rattle.image.proofs.OpenImages.{head-says, entry-says, entry-fits}
+use Rattle.image.proofs.OpenImages.{head-says, entry-says, entry-fits, entries-say, entries-fit}
+use Rattle.image.proofs.LawsLoop.{loop-refused, loop-wrong}
 use Rattle.image.proofs.TestsInTurn.{first-refused, next-asked}
 
 module _ (l : List ℕ) (s : Shape) where
@@ -115,28 +117,54 @@ entries-bad l n j h p =
     let r = entries-named l (shapeIn l) 0 (blockCount (shapeIn l)) n j p in
     record { head = h; block = omega (arith, r .1, head-says l h .blocks); before = λ i lt. r .2 i (omega arith) lt; code = r .3 }
 
+-- the entries that are right, by the number of blocks that the head says
+entries-right : (l : List ℕ) → headOk l ≡ true → entriesAnswer l (shapeIn l) 0 (blockCount (shapeIn l)) ≡ accepted tt → (j : ℕ) → j < blocksIn l → EntryFits l (shapeIn l) j
+entries-right l h e j lt = let b = head-says l h .blocks in entries-say l (shapeIn l) 0 (blockCount (shapeIn l)) e j (omega arith) (omega (arith, lt, b))
+
+entries-accepted : (l : List ℕ) → headOk l ≡ true → ((j : ℕ) → j < blocksIn l → EntryFits l (shapeIn l) j) → entriesAnswer l (shapeIn l) 0 (blockCount (shapeIn l)) ≡ accepted tt
+entries-accepted l h f = let b = head-says l h .blocks in entries-fit l (shapeIn l) 0 (blockCount (shapeIn l)) (λ i p q. f i (omega (arith, q, b)))
+
 -- Where opening is refused, by n and with block j, either the head is refused, by 15 and with no block; or the head is as it should be, block j's entry is
--- the first bad one, every entry before it is as it should be, and n is the first code that applies in that entry.
+-- the first bad one, every entry before it is as it should be, and n is the first code that applies in that entry; or head and entries are as they should
+-- be, there is a loop whose entry is not, n is 24 and there is no block.
 pub first-bad : (l : List ℕ) (n j : ℕ) → openAnswer l ≡ refusedAt n j → NotOpened l n j
 unfolding openAnswer
 first-bad l n j p = go (headOk l) refl p
   where
-    go : (t : Bool) → headOk l ≡ t → cond (not t) (refused 15) (entriesAnswer l (shapeIn l) 0 (blockCount (shapeIn l))) ≡ refusedAt n j → NotOpened l n j
-    go true h e = bad-entry (entries-bad l n j h e)
-    go false h e = subst (λ (m : ℕ). NotOpened l m j) (same-number e) (subst (NotOpened l 15) (same-block e) (bad-head h))
+    named : (m : ℕ) → NotOpened l m 0 → _≡_ {A = Outcome Unit} (refused m) (refusedAt n j) → NotOpened l n j
+    named m w e = subst (λ (k : ℕ). NotOpened l k j) (same-number e) (subst (NotOpened l m) (same-block e) w)
+
+    looped : (t : Bool) → loopFits l ≡ t → headOk l ≡ true → entriesAnswer l (shapeIn l) 0 (blockCount (shapeIn l)) ≡ accepted tt
+        → _≡_ {A = Outcome Unit} (cond (not t) (refused 24) (accepted tt)) (refusedAt n j) → NotOpened l n j
+    looped true f h e q = absurd (not-both (sym q))
+    looped false f h e q = let w = loop-refused l f in named 24 (bad-loop h (entries-right l h e) (w .0) (w .1)) q
+
+    listed : (a : Outcome Unit) → entriesAnswer l (shapeIn l) 0 (blockCount (shapeIn l)) ≡ a → headOk l ≡ true
+        → andThen a (cond (not (loopFits l)) (refused 24) (accepted tt)) ≡ refusedAt n j → NotOpened l n j
+    listed (accepted tt) e h q = looped (loopFits l) refl h e q
+    listed (refusedAt m i) e h q = bad-entry (entries-bad l n j h (e ∙ q))
+
+    go : (t : Bool) → headOk l ≡ t
+        → cond (not t) (refused 15) (andThen (entriesAnswer l (shapeIn l) 0 (blockCount (shapeIn l))) (cond (not (loopFits l)) (refused 24) (accepted tt))) ≡ refusedAt n j → NotOpened l n j
+    go true h e = listed (entriesAnswer l (shapeIn l) 0 (blockCount (shapeIn l))) refl h e
+    go false h e = named 15 (bad-head h) e
 
 -- And so it is refused.
 pub bad-named : (l : List ℕ) (n j : ℕ) → NotOpened l n j → openAnswer l ≡ refusedAt n j
 unfolding openAnswer
 bad-named l n j (bad-head h) = rw h
 bad-named l n j (bad-entry f) =
-    rw (f .head) (entries-refused l (shapeIn l) 0 (blockCount (shapeIn l)) n j (omega arith) (omega (arith, f .block, head-says l (f .head) .blocks)) (λ i a lt. f .before i lt) (f .code))
+    rw (
+      f .head,
+      entries-refused l (shapeIn l) 0 (blockCount (shapeIn l)) n j (omega arith) (omega (arith, f .block, head-says l (f .head) .blocks)) (λ i a lt. f .before i lt) (f .code),
+    )
+bad-named l n j (bad-loop h f e w) = rw (h, entries-accepted l h f, loop-wrong l e w)
 
 -- ---- every call
 
 -- What opening is refused by, every call on the image is refused by, and names the same entry.
 pub refused-alike : (l m : List ℕ) (n j k : ℕ) (out : List ℤ) → openAnswer l ≡ refusedAt n j → RefusedAlike l m n j k out
-unfolding openImage blockAnswer blockBody play playAnswer playAll allAnswer playFrom fromAnswer same bothAnswer compareAnswer
+unfolding openImage blockAnswer blockBody play playAnswer playAll allAnswer playFrom fromAnswer playLoop loopAnswer same bothAnswer compareAnswer
 refused-alike l m n j k out p =
     record {
       opening = p;
@@ -145,6 +173,7 @@ refused-alike l m n j k out p =
       playing = rw p;
       playing-all = rw p;
       playing-from = λ first. rw p;
+      playing-loop = λ times. rw p;
       comparing = rw p;
       comparing-second = λ e. ap (λ (o : Outcome Unit). withValues o (sameSound m l)) (next-asked (compareAnswer m) (compareAnswer l) e ∙ first-refused (openAnswer l) _ p);
     }

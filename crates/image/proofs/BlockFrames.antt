@@ -13,10 +13,9 @@ use Rattle.block.specs.Play.{takeHeader, play}
 use Rattle.block.proofs.LawsPlay.{onto, frame-onto, repeats}
 use Rattle.layout.specs.Sizes.{blockOffset, blockCount}
 use Rattle.layout.proofs.SizeLaws.{block-place}
-use Rattle.image.specs.Reading.{shapeIn, totalIn, blockIn, coefficientsIn, offsetIn, lengthIn}
+use Rattle.image.specs.Reading.{shapeIn, totalIn, blockIn, coefficientsIn, offsetIn, lengthIn, contextIn}
 use Rattle.image.specs.inner.Asked.{Found}
 use Rattle.image.specs.Bodies.{bodyIn}
-use Rattle.image.specs.Playing.{contextIn}
 use Rattle.image.specs.inner.ByFrames.{frameSamples, framePlaceIn, contextBefore, framesIn}
 use Rattle.image.specs.Sameness.{blockSamples}
 use Rattle.image.proofs.FramePlaces.{count-whole}

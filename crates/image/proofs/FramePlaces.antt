@@ -7,8 +7,7 @@ use native.Mathlib.Omega.{arith}
 use borrow.Author.Tests.{ltb-true, ltb-false, lt-ltb, le-ltb}
 use lib.Dec.{ltb}
 use lib.ListN.{length}
-use Rattle.layout.specs.Limits.{Limits}
-use Rattle.layout.specs.Sizes.{shape, bodiesPlace, lastSamples, blockCount, bodyBytes, imageSize}
+use Rattle.layout.specs.Sizes.{bodiesPlace, lastSamples, blockCount, bodyBytes, imageSize}
 use Rattle.whole.specs.Frames.{frameCount}
 use Rattle.layout.proofs.SizeLaws.{frames-some, frames-le, blocks-most, first-block}
 use Rattle.image.specs.declared.Head.{Head}
@@ -73,18 +72,13 @@ module _ (l : List ℕ) (block bodies i : ℕ) (s : Source l block bodies i) whe
         block = subst (λ (b : ℕ). i / (b / 8) < blockCount (shapeIn l)) (sym (s .size)) (first-block (shapeIn l) i (s .opens .head .limits) (s .frame) q);
       }
 
--- B and where the bodies begin, as they follow from the head that was read
-pub turn-source : (l : List ℕ) (head : Head) (i count bodies : ℕ) → Turn l head i count → bodies ≡ bodiesPlace (shape (head .total) (head .block)) → Source l (head .block) bodies i
+-- B, as it follows from the head that was read, and where the bodies begin
+pub turn-source : (l : List ℕ) (head : Head) (i count bodies : ℕ) → Turn l head i count → bodies ≡ bodiesPlace (shapeIn l) → Source l (head .block) bodies i
 unfolding headIn
 turn-source l head i count bodies t e =
     record {
       opens = t .opens;
       size = ap (λ (h : Head). h .block) (t .read);
-      bodies = e ∙ ap (λ (h : Head). bodiesPlace (shape (h .total) (h .block))) (t .read);
+      bodies = e;
       frame = t .frame;
     }
-
--- the shape that follows from the head that was read is within the limits
-pub turn-limits : (l : List ℕ) (head : Head) (i count : ℕ) → Turn l head i count → Limits (shape (head .total) (head .block))
-unfolding headIn
-turn-limits l head i count t = subst (λ (h : Head). Limits (shape (h .total) (h .block))) (sym (t .read)) (t .opens .head .limits)

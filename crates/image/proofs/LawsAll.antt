@@ -18,10 +18,10 @@ use Rattle.layout.proofs.SizeLaws.{frames-some, blocks-all}
 use Rattle.whole.specs.Outcome.{Outcome, accepted, Effect, effect}
 use Rattle.whole.proofs.Stores.{spread, part-sets, part-all, part-end}
 use Rattle.image.specs.Opening.{openAnswer}
-use Rattle.image.specs.Reading.{shapeIn, totalIn, blockIn, blocksIn, coefficientsIn, lengthIn}
+use Rattle.image.specs.Reading.{shapeIn, totalIn, blockIn, blocksIn, coefficientsIn, lengthIn, contextIn}
 use Rattle.image.specs.inner.Asked.{Opens, Found, Playable, AllPlayable}
 use Rattle.image.specs.Bodies.{bodyIn}
-use Rattle.image.specs.Playing.{contextIn, roomAnswer}
+use Rattle.image.specs.Playing.{roomAnswer}
 use Rattle.image.specs.inner.Played.{playAllBy}
 use Rattle.image.specs.Sameness.{blockSamples, samplesFrom, samplesIn}
 use Rattle.image.specs.WholeImage.{allAnswer, contextAfter, allInto, playAll}

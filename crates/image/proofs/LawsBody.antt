@@ -17,15 +17,15 @@ use Rattle.block.specs.Context.{historyWith, contextWith}
 use Rattle.block.specs.Refusals.{badLength, lowestPair}
 use Rattle.layout.specs.declared.Shape.{Shape}
 use Rattle.layout.specs.Limits.{Limits}
-use Rattle.layout.specs.Sizes.{bodiesPlace, lastSamples, blockCount, bodyBytes, imageSize, blockOffset, blockLength}
+use Rattle.layout.specs.Sizes.{entryPlace, bodiesPlace, lastSamples, blockCount, bodyBytes, imageSize, blockOffset, blockLength}
 use Rattle.whole.specs.Frames.{frameCount}
 use Rattle.layout.proofs.SizeLaws.{block-place, block-first}
 use Rattle.whole.specs.Outcome.{accepted, refusedAt}
-use Rattle.image.specs.Reading.{shapeIn, totalIn, blockIn, blocksIn, coefficientsIn, offsetIn, lengthIn, headerIn, newestIn, olderIn}
+use Rattle.image.specs.Reading.{shapeIn, totalIn, blockIn, blocksIn, coefficientsIn, offsetIn, lengthIn, headerIn, newestIn, olderIn, contextIn}
 use Rattle.image.specs.Opening.{openAnswer}
 use Rattle.image.specs.inner.Asked.{Found, Playable}
 use Rattle.image.specs.Bodies.{blockAnswer, bodyIn, blockBody}
-use Rattle.image.specs.Playing.{contextIn, roomAnswer, playAnswer}
+use Rattle.image.specs.Playing.{roomAnswer, playAnswer}
 use Rattle.whole.proofs.Outcomes.{failed}
 use Rattle.image.proofs.TestsInTurn.{and-then}
 use Rattle.image.proofs.OpenImages.{opened, opens}
@@ -121,6 +121,10 @@ context-made l k h x y f g p q r = rw (toZ-ofZ f, toZ-ofZ g, p, q, r)
 module _ (l : List ℕ) (k : ℕ) (f : Found l k) where
   pub found-within : Within (shapeIn l) k (length l)
   found-within = within (shapeIn l) k (length l) (f .opens .head .limits) (f .block) (f .opens .head .size)
+
+  -- its entry, as reading a context asks for it
+  pub found-entry : (k ≤ 1048576) × (entryPlace k + 16 ≤ length l)
+  found-entry = let w = found-within in let a = w .all in let b = f .block in (omega (arith, a, b), w .entry)
 
   pub found-offset : offsetIn l k ≡ blockOffset (shapeIn l) k
   found-offset = f .opens .entries k (f .block) .offset

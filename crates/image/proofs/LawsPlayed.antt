@@ -12,10 +12,10 @@ use Rattle.block.specs.Play.{playInto}
 use Rattle.block.proofs.LawsCalls.{play-out}
 use Rattle.block.proofs.LawsPlay.{play-count}
 use Rattle.whole.specs.Outcome.{Outcome, accepted, Effect, effect}
-use Rattle.image.specs.Reading.{coefficientsIn, lengthIn}
+use Rattle.image.specs.Reading.{coefficientsIn, lengthIn, contextIn}
 use Rattle.image.specs.inner.Asked.{Found, Playable}
 use Rattle.image.specs.Bodies.{bodyIn}
-use Rattle.image.specs.Playing.{contextIn, roomAnswer, playAnswer, play}
+use Rattle.image.specs.Playing.{roomAnswer, playAnswer, play}
 use Rattle.image.specs.inner.Played.{playBy}
 use Rattle.image.specs.Sameness.{blockSamples}
 use Rattle.image.proofs.LawsBody.{room-accepts, play-accepts, found-some}

@@ -23,13 +23,13 @@ use Rattle.layout.proofs.SizeLaws.{frames-some, blocks-most, blocks-all, block-
 use Rattle.whole.specs.Frames.{frameCount}
 use Rattle.whole.specs.Outcome.{accepted, effect}
 use Rattle.whole.proofs.Stores.{part-then}
-use Rattle.image.specs.Reading.{shapeIn, totalIn, blockIn, blocksIn, coefficientsIn, lengthIn}
+use Rattle.image.specs.Reading.{shapeIn, totalIn, blockIn, blocksIn, coefficientsIn, lengthIn, contextIn}
 use Rattle.image.specs.inner.Asked.{Opens, Found, SomeOf, Later, Run}
 use Rattle.image.specs.inner.ByFrames.{framesIn}
-use Rattle.image.specs.inner.Runs.{restIn, contextAtSample, samplesOn, partOf}
+use Rattle.image.specs.inner.Runs.{contextAtSample, partOf}
+use Rattle.image.specs.Looping.{restIn, samplesOn}
 use Rattle.image.specs.Bodies.{bodyIn}
 use Rattle.image.specs.Part.{runCount, perBlock, touched}
-use Rattle.image.specs.Playing.{contextIn}
 use Rattle.image.specs.Sameness.{blockSamples, samplesFrom, samplesIn}
 use Rattle.image.proofs.Joined.{samples-snoc, frames-blocks, frames-all, frames-before, samples-count}
 use Rattle.image.proofs.LawsAll.{block-there}
@@ -339,6 +339,20 @@ module _ (l : List ℕ) (first n : ℕ) (r : Run l first n) where
   rest-length : (c : FrameContext) → length (restIn l start from c) + from ≡ addressToSample (lengthIn l start)
   unfolding restIn
   rest-length c = rest-count (bodyIn l start) (coefficientsIn l) (lengthIn l start) from from-before c
+
+  -- from the first sample on there are all that follow it in the clip
+  pub on-length : (c : FrameContext) → length (samplesOn l first c) + first ≡ totalIn l
+  unfolding samplesOn
+  on-length c =
+      let a = length-append (restIn l start from c) (samplesFrom l (suc start) (blocksIn l - suc start)) in
+      let k = rest-length c in
+      let t = start-there in
+      let m = samples-between l (r .opens) (suc start) (blocksIn l - suc start) (omega (arith, t)) in
+      let z : suc start + (blocksIn l - suc start) ≡ blocksIn l = omega (arith, t) in
+      let b = block-samples l (r .opens) start start-there in
+      let h = blocks-hold l (r .opens) in
+      let d = from-place in
+      omega (arith, a, k, rw z at m, b, h, d)
 
   -- the first turn's samples and the later ones are the run's
   run-stored : (c : FrameContext) (done : ℕ) → done ≡ min (perBlock l - from) n

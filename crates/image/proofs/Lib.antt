@@ -18,7 +18,10 @@ pub mod LawsAll
 pub mod BlocksPlayed
 pub mod Touched
 pub mod LawsRun
+pub mod LawsLoop
 pub mod PartOfAll
+pub mod LoopPlayed
+pub mod UnloopedOpens
 pub mod BlocksTouched
 pub mod BadEntries
 pub mod WhereSixteenStood

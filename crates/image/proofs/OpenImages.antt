@@ -15,8 +15,8 @@ use Rattle.layout.specs.Sizes.{shape, blockCount, imageSize, blockOffset, block
 use Rattle.whole.specs.Frames.{most}
 use Rattle.layout.proofs.LimitLaws.{both-true, numbers-sound}
 use Rattle.whole.specs.Outcome.{accepted}
-use Rattle.image.specs.Reading.{shapeIn, totalIn, rateIn, blockIn, zeroIn, blocksIn, offsetIn, lengthIn, headerIn, entryZeroIn}
-use Rattle.image.specs.Opening.{EntryFits, markOk, numbersFit, headOk, entryAnswer, entriesAnswer, openAnswer}
+use Rattle.image.specs.Reading.{shapeIn, totalIn, rateIn, blockIn, loopsIn, blocksIn, offsetIn, lengthIn, headerIn, entryZeroIn}
+use Rattle.image.specs.Opening.{EntryFits, markOk, numbersFit, headOk, entryAnswer, entriesAnswer, loopFits, openAnswer}
 use Rattle.image.specs.inner.Asked.{Headed, Opens}
 use Rattle.image.proofs.TestsInTurn.{and-then}
 
@@ -35,9 +35,9 @@ numbers-rate n b rate h =
     some zero e = absurd (let z : _≡_ {A = ℕ} 0 1 = cc in omega arith)
     some (suc r) e = omega arith
 
-numbers-right : (n b rate : ℕ) → Limits (shape n b) → 1 ≤ rate → numbersOk 0 n b rate ≡ true
+numbers-right : (n b x rate : ℕ) → Limits (shape n b x) → 1 ≤ rate → numbersOk 0 n b rate ≡ true
 unfolding numbersOk
-numbers-right n b rate L r =
+numbers-right n b x rate L r =
     rw (
       le-leb 0 n (omega arith),
       le-leb 1 n (L .some),
@@ -58,16 +58,17 @@ head-says l h =
     let p = both-true (leb 56 (length l)) _ h in
     let m = both-true (markOk l) _ (p .1) in
     let k = both-true (numbersOk 0 n b (rateIn l)) _ (m .1) in
-    let d = both-true (eqb (blocksIn l) (blockCount (shapeIn l))) _ (k .1) in
-    let z = both-true (eqb (zeroIn l) 0) _ (d .1) in
+    let x = both-true (leb (loopsIn l) 1) _ (k .1) in
+    let d = both-true (eqb (blocksIn l) (blockCount (shapeIn l))) _ (x .1) in
+    let few = leb-true (loopsIn l) 1 (x .0) in
     record {
       long = leb-true 56 (length l) (p .0);
       marked = m .0;
-      limits = numbers-sound 0 n b (rateIn l) (k .0) .limits;
+      limits = numbers-sound 0 n b (rateIn l) (k .0) .limits (loopsIn l) few;
       rate = numbers-rate n b (rateIn l) (k .0);
       blocks = eqb-true (blocksIn l) (blockCount (shapeIn l)) (d .0);
-      zeros = eqb-true (zeroIn l) 0 (z .0);
-      size = leb-true (imageSize (shapeIn l)) (length l) (z .1);
+      loops = few;
+      size = leb-true (imageSize (shapeIn l)) (length l) (d .1);
     }
 
 pub head-right : (l : List ℕ) → Headed l → headOk l ≡ true
@@ -78,9 +79,9 @@ head-right l h =
     rw (
       le-leb 56 (length l) (h .long),
       h .marked,
-      numbers-right n b (rateIn l) (h .limits) (h .rate),
+      numbers-right n b (loopsIn l) (rateIn l) (h .limits) (h .rate),
+      le-leb (loopsIn l) 1 (h .loops),
       eq-eqb (blocksIn l) (blockCount (shapeIn l)) (h .blocks),
-      eq-eqb (zeroIn l) 0 (h .zeros),
       le-leb (imageSize (shapeIn l)) (length l) (h .size),
     )
 
@@ -132,10 +133,12 @@ unfolding openAnswer
 opened l p =
     let k = blockCount (shapeIn l) in
     let h = passed (headOk l) 15 _ p in
-    record { head = head-says l (h .0); entries = λ j lt. entries-say l (shapeIn l) 0 k (h .1) j (omega arith) (omega arith) }
+    let e = and-then (entriesAnswer l (shapeIn l) 0 k) _ (h .1) in
+    let f = passed (loopFits l) 24 (accepted tt) (e .1) in
+    record { head = head-says l (h .0); entries = λ j lt. entries-say l (shapeIn l) 0 k (e .0) j (omega arith) (omega arith); looping = f .0 }
 
 pub opens : (l : List ℕ) → Opens l → openAnswer l ≡ accepted tt
 unfolding openAnswer
 opens l o =
     let k = blockCount (shapeIn l) in
-    rw (head-right l (o .head), entries-fit l (shapeIn l) 0 k (λ i p q. o .entries i (omega arith)))
+    rw (head-right l (o .head), entries-fit l (shapeIn l) 0 k (λ i p q. o .entries i (omega arith)), o .looping)

@@ -1,4 +1,4 @@
--- 20, 21 and 22 are given where 16 stood and nowhere else; what opens is what opened; 16 is never given.
+-- 20, 21 and 22 are given where 16 stood and nowhere else; what opens is what opens with 16 in their place; 16 is never given.
 use mathlib.Core.Bool.{Bool, true, false, not, cond, _&&_}
 use mathlib.Core.List.{List}
 use mathlib.Core.Logic.{_≢_}
@@ -14,8 +14,9 @@ use Rattle.block.specs.Refusals.{lowestPair}
 use Rattle.layout.specs.declared.Shape.{Shape}
 use Rattle.layout.specs.Sizes.{blockCount, blockOffset, blockLength}
 use Rattle.image.specs.Reading.{shapeIn, blocksIn, totalIn, coefficientsIn, offsetIn, lengthIn, headerIn, entryZeroIn}
-use Rattle.image.specs.Opening.{andThen, headOk, entryAnswer, entriesAnswer, openAnswer, openImage}
+use Rattle.image.specs.Opening.{andThen, headOk, entryAnswer, entriesAnswer, loopFits, openAnswer, openImage}
 use Rattle.image.specs.Bodies.{blockAnswer}
+use Rattle.image.specs.Looping.{loopAnswer, playLoop}
 use Rattle.image.specs.Part.{fromAnswer, playFrom}
 use Rattle.image.specs.Playing.{roomAnswer, playAnswer, play}
 use Rattle.image.specs.WholeImage.{allAnswer, playAll}
@@ -59,14 +60,6 @@ entries-16 l s j (suc k) =
     ∙ ap₂ andThen (entry-16 l s j) (entries-16 l s (suc j) k)
     ∙ or16-then (entryOk l s j) (entriesOk l s (suc j) k)
 
-open-16 : (l : List ℕ) → as16 (openAnswer l) ≡ openAnswer16 l
-unfolding openAnswer openAnswer16
-open-16 l = go (headOk l)
-  where
-    go : (t : Bool) → as16 (cond (not t) (refused 15) (entriesAnswer l (shapeIn l) 0 (blockCount (shapeIn l)))) ≡ cond (not t) (refused 15) (or16 (entriesOk l (shapeIn l) 0 (blockCount (shapeIn l))))
-    go true = entries-16 l (shapeIn l) 0 (blockCount (shapeIn l))
-    go false = refl
-
 -- tests in turn
 then-16 : (a b : Outcome Unit) {c d : Outcome Unit} → as16 a ≡ c → as16 b ≡ d → as16 (andThen a b) ≡ andThen c d
 then-16 a b p q = as16-then a b ∙ ap₂ andThen p q
@@ -85,6 +78,25 @@ cond-16 : (t : Bool) (a b : Outcome Unit) → as16 a ≡ a → as16 b ≡ b → 
 cond-16 true a b p q = p
 cond-16 false a b p q = q
 
+-- the tests after 16
+or16-next : (t : Bool) (b : Outcome Unit) → andThen (or16 t) b ≡ cond (not t) (refused 16) b
+or16-next true b = refl
+or16-next false b = refl
+
+open-16 : (l : List ℕ) → as16 (openAnswer l) ≡ openAnswer16 l
+unfolding openAnswer openAnswer16
+open-16 l = go (headOk l)
+  where
+    looped : Outcome Unit
+    looped = cond (not (loopFits l)) (refused 24) (accepted tt)
+
+    go : (t : Bool) → as16 (cond (not t) (refused 15) (andThen (entriesAnswer l (shapeIn l) 0 (blockCount (shapeIn l))) looped))
+        ≡ cond (not t) (refused 15) (cond (not (entriesOk l (shapeIn l) 0 (blockCount (shapeIn l)))) (refused 16) looped)
+    go true =
+        then-16 (entriesAnswer l (shapeIn l) 0 (blockCount (shapeIn l))) looped (entries-16 l (shapeIn l) 0 (blockCount (shapeIn l))) (cond-16 (not (loopFits l)) _ _ refl refl)
+        ∙ or16-next (entriesOk l (shapeIn l) 0 (blockCount (shapeIn l))) looped
+    go false = refl
+
 module _ (l : List ℕ) where
   block-16 : (k : ℕ) → as16 (blockAnswer l k) ≡ blockAnswer16 l k
   unfolding blockAnswer blockAnswer16
@@ -98,8 +110,8 @@ module _ (l : List ℕ) where
   unfolding roomAnswer
   room-16 n room = cond-16 (lowestPair (coefficientsIn l)) _ _ refl (cond-16 (ltb room n) _ _ refl refl)
 
--- With 16 for 20, 21 and 22 every call answers as document 01 has it, playing all by 15, 16, 13 and 14: they stand where 16 stood and nowhere else,
--- every other answer is as it was, and beside every other code no block is named.
+-- With 16 for 20, 21 and 22 every call of document 01 answers as document 01 has it, with 15, S, offsets and 24 as change 5/13 has them: 20, 21 and 22 stand where 16 stood
+-- and nowhere else, and beside every other code no block is named.
 pub where-16-stood : (l m : List ℕ) (k : ℕ) (out : List ℤ) → Where16Stood l m k out
 unfolding openImage play playAnswer playAll allAnswer same bothAnswer
 where-16-stood l m k out =
@@ -119,7 +131,7 @@ accepted-16 (refusedAt n j) = go (leb 20 n && leb n 22)
     go true = refl
     go false = refl
 
--- What opens is what opened.
+-- What opens is what opens with 16 in their place.
 pub opens-as-before : (l : List ℕ) → ifAccepted (openImage l .outcome) true false ≡ ifAccepted (openAnswer16 l) true false
 unfolding openImage
 opens-as-before l = sym (accepted-16 (openAnswer l)) ∙ ap (λ (o : Outcome Unit). ifAccepted o true false) (open-16 l)
@@ -160,7 +172,8 @@ never-entries l s j (suc k) =
 module _ (l : List ℕ) where
   never-opening : by16 (openAnswer l) ≡ false
   unfolding openAnswer
-  never-opening = never-cond (not (headOk l)) _ _ refl (never-entries l (shapeIn l) 0 (blockCount (shapeIn l)))
+  never-opening = never-cond (not (headOk l)) _ _ refl
+      (never-then (entriesAnswer l (shapeIn l) 0 (blockCount (shapeIn l))) _ (never-entries l (shapeIn l) 0 (blockCount (shapeIn l))) (never-cond (not (loopFits l)) _ _ refl refl))
 
   never-room : (n room : ℕ) → by16 (roomAnswer (coefficientsIn l) n room) ≡ false
   unfolding roomAnswer
@@ -176,7 +189,7 @@ module _ (l : List ℕ) where
 
 -- No call on an image is refused by 16.
 pub never-16 : (l m : List ℕ) (k : ℕ) (out : List ℤ) → Never16 l m k out
-unfolding openImage play playAnswer playAll allAnswer playFrom fromAnswer same bothAnswer
+unfolding openImage play playAnswer playAll allAnswer playFrom fromAnswer playLoop loopAnswer same bothAnswer
 never-16 l m k out =
     record {
       opening = not-by16 (openAnswer l) (never-opening l);
@@ -184,5 +197,6 @@ never-16 l m k out =
       playing = not-by16 _ (never-with (playAnswer l k (length out)) _ (never-then (blockAnswer l k) _ (never-block l k) (never-room l _ (length out))));
       playing-all = not-by16 _ (never-with (allAnswer l (length out)) _ (never-then (openAnswer l) _ (never-opening l) (never-room l (totalIn l) (length out))));
       playing-from = λ first. not-by16 _ (never-with (fromAnswer l first) _ (never-then (compareAnswer l) _ (never-compare l) (never-cond (leb (totalIn l) first) _ _ refl refl)));
+      playing-loop = λ times. not-by16 _ (never-with (loopAnswer l times (length out)) _ (never-then (openAnswer l) _ (never-opening l) (never-room l _ (length out))));
       comparing = not-by16 _ (never-with (bothAnswer l m) (sameSound l m) (never-then (compareAnswer l) _ (never-compare l) (never-compare m)));
     }

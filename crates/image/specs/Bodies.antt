@@ -8,7 +8,7 @@ use Rattle.whole.specs.Outcome.{Outcome, accepted, refused, ifAccepted, Effect,
 use Rattle.image.specs.Reading.{blocksIn, offsetIn, lengthIn}
 use Rattle.image.specs.Opening.{andThen, openAnswer}
 
--- codes 15; 20, 21, 22; 17: "block number K or more"
+-- codes 15; 20, 21, 22; 24; 17: "block number K or more"
 unfoldable pub blockAnswer : List ℕ → ℕ → Outcome Unit
 blockAnswer l k = andThen (openAnswer l) (cond (leb (blocksIn l) k) (refused 17) (accepted tt))
 

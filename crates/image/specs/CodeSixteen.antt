@@ -13,8 +13,9 @@ use Rattle.block.specs.Refusals.{lowestPair}
 use Rattle.layout.specs.declared.Shape.{Shape}
 use Rattle.layout.specs.Sizes.{blockCount, blockOffset, blockLength}
 use Rattle.image.specs.Reading.{shapeIn, blocksIn, totalIn, coefficientsIn, offsetIn, lengthIn, headerIn, entryZeroIn}
-use Rattle.image.specs.Opening.{andThen, headOk, openImage}
+use Rattle.image.specs.Opening.{andThen, headOk, loopFits, openImage}
 use Rattle.image.specs.Bodies.{blockAnswer}
+use Rattle.image.specs.Looping.{playLoop}
 use Rattle.image.specs.Part.{playFrom}
 use Rattle.image.specs.Playing.{roomAnswer, play}
 use Rattle.image.specs.WholeImage.{playAll}
@@ -29,12 +30,13 @@ unfoldable pub entriesOk : List ℕ → Shape → ℕ → ℕ → Bool
 entriesOk l s j zero = true
 entriesOk l s j (suc k) = entryOk l s j && entriesOk l s (suc j) k
 
--- codes 15, 16: opening as document 01 has it
+-- codes 15, 16, 24: opening as document 01 has it, but that 15, S and the offsets are as change 5/13 has them and that its 24 follows
 unfoldable pub openAnswer16 : List ℕ → Outcome Unit
 openAnswer16 l =
     cond (not (headOk l)) (refused 15)
     (cond (not (entriesOk l (shapeIn l) 0 (blockCount (shapeIn l)))) (refused 16)
-    (accepted tt))
+    (cond (not (loopFits l)) (refused 24)
+    (accepted tt)))
 
 -- "Calls on an image run 15, 16 and 17 first; of two images the first is tested through 13 before the second"
 unfoldable pub blockAnswer16 : List ℕ → ℕ → Outcome Unit
@@ -48,7 +50,7 @@ abbrev pub as16 : {A : Type 0} → Outcome A → Outcome A
 as16 (accepted a) = accepted a
 as16 (refusedAt n j) = cond (leb 20 n && leb n 22) (refused 16) (refusedAt n j)
 
--- with 16 for 20, 21 and 22 every call of document 01 on image l, or on l and m, answers as document 01 has it, playing all by 15, 16, 13 and 14, and names no block
+-- with 16 for 20, 21 and 22 every call of document 01 on image l, or on l and m, answers by opening as `openAnswer16` has it, playing all by that and 13 and 14, and names no block
 pub record Where16Stood (l m : List ℕ) (k : ℕ) (out : List ℤ) : Type 0 where
   pub opening : as16 (openImage l .outcome) ≡ openAnswer16 l
   pub finding : as16 (blockAnswer l k) ≡ blockAnswer16 l k
@@ -63,4 +65,5 @@ pub record Never16 (l m : List ℕ) (k : ℕ) (out : List ℤ) : Type 0 where
   pub playing : (j : ℕ) → play l k out .outcome ≢ refusedAt 16 j
   pub playing-all : (j : ℕ) → playAll l out .outcome ≢ refusedAt 16 j
   pub playing-from : (first j : ℕ) → playFrom l first out .outcome ≢ refusedAt 16 j
+  pub playing-loop : (times j : ℕ) → playLoop l times out .outcome ≢ refusedAt 16 j
   pub comparing : (j : ℕ) → same l m ≢ refusedAt 16 j

@@ -7,7 +7,9 @@ pub mod Sameness
 pub mod WholeImage
 pub mod Part
 pub mod PartCut
+pub mod Looping
 pub mod BlocksInTurn
 pub mod FirstBad
 pub mod CodeSixteen
+pub mod Unlooped
 pub mod inner

@@ -2,21 +2,24 @@
 use mathlib.Core.Bool.{Bool, true, not, cond, _&&_}
 use mathlib.Core.List.{List, [], _∷_}
 use mathlib.Core.Path.{_≡_}
-use Prim.Native.Nat.{ℕ, zero, suc}
+use Prim.Native.Nat.{ℕ, zero, suc, _/_, _≤_, _<_}
 use lib.Dec.{eqb, leb}
 use lib.IntN.{pos}
 use lib.ListN.{length, getD, replicate}
 use Rattle.whole.specs.Outcome.{Outcome, accepted, refusedAt, refused, ifAccepted, Effect, effect}
+use Rattle.block.specs.declared.FrameContext.{FrameContext}
+use Rattle.block.specs.Context.{newContext}
+use Rattle.layout.specs.declared.Loop.{Loop}
 use Rattle.layout.specs.declared.Shape.{Shape}
 use Rattle.layout.specs.Fields.{mark}
-use Rattle.layout.specs.Limits.{numbersOk}
-use Rattle.layout.specs.Sizes.{shape, blockCount, imageSize, blockOffset, blockLength}
+use Rattle.layout.specs.Limits.{numbersOk, loopOk}
+use Rattle.layout.specs.Sizes.{shape, noLoop, blockCount, imageSize, blockOffset, blockLength, framePlace}
 use Rattle.image.specs.declared.Answer.{Answer}
 use Rattle.image.specs.declared.Answer.the-variants.{Accepted, Refused}
 use Rattle.image.specs.declared.Head.{Head}
 use Rattle.image.specs.declared.Refusal.{Refusal}
-use Rattle.image.specs.declared.Refusal.the-variants.{LowestPair, OutputTooShort, BadHead, NoSuchBlock, NoSuchSample, BadOffset, BadLength, BadHeader}
-use Rattle.image.specs.Reading.{totalIn, rateIn, blockIn, zeroIn, blocksIn, shapeIn, headIn, offsetIn, lengthIn, headerIn, entryZeroIn}
+use Rattle.image.specs.declared.Refusal.the-variants.{LowestPair, OutputTooShort, BadHead, NoSuchBlock, NoSuchSample, BadOffset, BadLength, BadHeader, BadLoop}
+use Rattle.image.specs.Reading.{totalIn, rateIn, blockIn, loopsIn, blocksIn, shapeIn, headIn, offsetIn, lengthIn, headerIn, entryZeroIn, loopIn, loopContextIn}
 
 -- ---- answers
 
@@ -30,6 +33,7 @@ code NoSuchSample = 19
 code (BadOffset j) = 20
 code (BadLength j) = 21
 code (BadHeader j) = 22
+code BadLoop = 24
 
 -- the block whose entry is bad, 0 where none is named
 abbrev pub badBlock : Refusal → ℕ
@@ -41,6 +45,7 @@ badBlock NoSuchSample = 0
 badBlock (BadOffset j) = j
 badBlock (BadLength j) = j
 badBlock (BadHeader j) = j
+badBlock BadLoop = 0
 
 -- a refusal's number, and the block that it names
 abbrev pub refusal : {A : Type 0} → Refusal → Outcome A
@@ -67,13 +72,15 @@ holds l i (v ∷ vs) = eqb (getD l i 0) v && holds l (suc i) vs
 unfoldable pub markOk : List ℕ → Bool
 markOk l = holds l 0 mark
 
--- "N, rate, B, K or the zero bytes not as in 2 or outside the limits of 1, 4 and 5, or under S bytes"
+-- "N, rate, B, K or the zero bytes not as in 2 or outside the limits of 1, 4 and 5, or under S bytes"; "15 allows 0 or 1 at 50", and uses "the new S"
 unfoldable pub numbersFit : ℕ → ℕ → ℕ → ℕ → ℕ → ℕ → Bool
-numbersFit total rate block kk zeros len = numbersOk 0 total block rate && (eqb kk (blockCount (shape total block)) && (eqb zeros 0 && leb (imageSize (shape total block)) len))
+numbersFit total rate block kk loops len =
+    let s = shape total block loops in
+    numbersOk 0 total block rate && (leb loops 1 && (eqb kk (blockCount s) && leb (imageSize s) len))
 
 -- "under 56 bytes", and the rest
 unfoldable pub headOk : List ℕ → Bool
-headOk l = leb 56 (length l) && (markOk l && numbersFit (totalIn l) (rateIn l) (blockIn l) (blocksIn l) (zeroIn l) (length l))
+headOk l = leb 56 (length l) && (markOk l && numbersFit (totalIn l) (rateIn l) (blockIn l) (blocksIn l) (loopsIn l) (length l))
 
 -- ---- 20, 21, 22
 
@@ -97,16 +104,46 @@ unfoldable pub entriesAnswer : List ℕ → Shape → ℕ → ℕ → Outcome Un
 entriesAnswer l s j zero = accepted tt
 entriesAnswer l s j (suc k) = andThen (entryAnswer l s j) (entriesAnswer l s (suc j) k)
 
+-- ---- 24
+
+-- a loop whose start and end keep the rule of 23, with the header byte of the frame that holds the start, and two zero bytes
+pub record LoopRight (l : List ℕ) : Type 0 where
+  pub below : loopIn l .start < loopIn l .end
+  pub within : loopIn l .end ≤ totalIn l
+  pub header : headerIn l (blocksIn l) ≡ getD l (framePlace (shapeIn l) (loopIn l .start / 14)) 0
+  pub zeros : entryZeroIn l (blocksIn l) ≡ 0
+
+-- not "24 when the stored start and end break that rule, the stored header byte isn't that frame's or the last two bytes aren't zero": the rule of 23
+-- first, by which there is a frame that holds the start
+unfoldable pub loopFits : List ℕ → Bool
+loopFits l =
+    let p = loopIn l in
+    let kk = blocksIn l in
+    loopOk p (totalIn l) && cond (p .present) (eqb (headerIn l kk) (getD l (framePlace (shapeIn l) (p .start / 14)) 0) && eqb (entryZeroIn l kk) 0) true
+
 -- ---- opening
 
--- codes 15; 20, 21, 22
+-- codes 15; 20, 21, 22; 24, "after 22"
 unfoldable pub openAnswer : List ℕ → Outcome Unit
-openAnswer l = cond (not (headOk l)) (refused 15) (entriesAnswer l (shapeIn l) 0 (blockCount (shapeIn l)))
+openAnswer l =
+    cond (not (headOk l)) (refused 15)
+    (andThen (entriesAnswer l (shapeIn l) 0 (blockCount (shapeIn l)))
+    (cond (not (loopFits l)) (refused 24)
+    (accepted tt)))
+
+-- what opening tells: the head's values, the loop and the context at its start
+pub record Told : Type 0 where
+  pub head : Head
+  pub looped : Loop
+  pub context : FrameContext
+
+abbrev pub told : Head → Loop → FrameContext → Told
+told h p c = record { head = h; looped = p; context = c }
 
 -- what a refused opening gives: all zeros
 abbrev pub noHead : Head
 noHead = record { total = 0; rate = 0; block = 0; gain = 0; coefficients = replicate 16 (pos 0); blocks = 0 }
 
--- an image is opened: the outcome, and the head's values
-unfoldable pub openImage : List ℕ → Effect (Outcome Unit) Head
-openImage l = let o = openAnswer l in effect o (ifAccepted o (headIn l) noHead)
+-- an image is opened: the outcome, and what it tells
+unfoldable pub openImage : List ℕ → Effect (Outcome Unit) Told
+openImage l = let o = openAnswer l in effect o (ifAccepted o (told (headIn l) (loopIn l) (loopContextIn l)) (told noHead noLoop newContext))

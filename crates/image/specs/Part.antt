@@ -13,7 +13,7 @@ use Rattle.image.specs.Reading.{totalIn, blockIn, blocksIn}
 use Rattle.image.specs.Opening.{refusal, andThen}
 use Rattle.image.specs.Sameness.{samplesIn, compareAnswer}
 
--- codes 15; 20, 21, 22; 13; "19 when the first sample is N or more, after 13"
+-- codes 15; 20, 21, 22; 24; 13; "19 when the first sample is N or more, after 13"
 unfoldable pub fromAnswer : List ℕ → ℕ → Outcome Unit
 fromAnswer l first = andThen (compareAnswer l) (cond (leb (totalIn l) first) (refused 19) (accepted tt))
 

@@ -6,22 +6,17 @@ use lib.Dec.{ltb}
 use lib.IntN.{ℤ}
 use lib.ListN.{length}
 use Rattle.whole.specs.Outcome.{Outcome, accepted, refused, withValues, ifAccepted, Effect, effect}
-use Rattle.block.specs.declared.FrameContext.{FrameContext}
 use Rattle.block.specs.Address.{addressToSample}
-use Rattle.block.specs.Context.{historyWith, contextWith, newContext}
+use Rattle.block.specs.Context.{newContext}
 use Rattle.block.specs.Frame.{Playing, playing}
 use Rattle.block.specs.Play.{playInto}
 use Rattle.block.specs.Refusals.{lowestPair}
 use Rattle.image.specs.declared.bodies.Entry.{Entry}
 use Rattle.image.specs.declared.PlayAnswer.{PlayAnswer}
 use Rattle.image.specs.declared.PlayAnswer.the-variants.{Played, Refused}
-use Rattle.image.specs.Reading.{coefficientsIn, offsetIn, lengthIn, headerIn, newestIn, olderIn}
+use Rattle.image.specs.Reading.{coefficientsIn, offsetIn, lengthIn, contextIn}
 use Rattle.image.specs.Opening.{refusal, andThen}
 use Rattle.image.specs.Bodies.{blockAnswer, bodyIn}
-
--- the context of block k's entry
-unfoldable pub contextIn : List ℕ → ℕ → FrameContext
-contextIn l k = contextWith (headerIn l k) (historyWith (newestIn l k) (olderIn l k))
 
 -- what block k's entry says, its context put together
 abbrev pub readEntry : List ℕ → ℕ → Entry
@@ -31,7 +26,7 @@ readEntry l k = record { offset = offsetIn l k; nibbles = lengthIn l k; context 
 unfoldable pub roomAnswer : List ℤ → ℕ → ℕ → Outcome Unit
 roomAnswer cs n room = cond (lowestPair cs) (refused 13) (cond (ltb room n) (refused 14) (accepted tt))
 
--- codes 15; 20, 21, 22; 17, 13, 14
+-- codes 15; 20, 21, 22; 24; 17, 13, 14
 unfoldable pub playAnswer : List ℕ → ℕ → ℕ → Outcome Unit
 playAnswer l k room = andThen (blockAnswer l k) (roomAnswer (coefficientsIn l) (addressToSample (lengthIn l k)) room)
 

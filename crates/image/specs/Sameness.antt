@@ -9,10 +9,9 @@ use Rattle.block.specs.Play as Block
 use Rattle.block.specs.Refusals as Tests
 use Rattle.image.specs.declared.SameAnswer.{SameAnswer}
 use Rattle.image.specs.declared.SameAnswer.the-variants.{Same, Different, Refused}
-use Rattle.image.specs.Reading.{totalIn, blocksIn, coefficientsIn, lengthIn}
+use Rattle.image.specs.Reading.{totalIn, blocksIn, coefficientsIn, lengthIn, contextIn}
 use Rattle.image.specs.Opening.{refusal, andThen, openAnswer}
 use Rattle.image.specs.Bodies.{bodyIn}
-use Rattle.image.specs.Playing.{contextIn}
 
 -- block k's samples, played from its entry
 unfoldable pub blockSamples : List ℕ → ℕ → List ℤ
@@ -38,7 +37,7 @@ equalSamples (x ∷ xs) (y ∷ ys) = Tests.equal x y && equalSamples xs ys
 unfoldable pub sameSound : List ℕ → List ℕ → Bool
 sameSound a b = eqb (totalIn a) (totalIn b) && equalSamples (samplesIn a) (samplesIn b)
 
--- codes 15; 20, 21, 22; 13
+-- codes 15; 20, 21, 22; 24; 13
 unfoldable pub compareAnswer : List ℕ → Outcome Unit
 compareAnswer l = andThen (openAnswer l) (cond (Tests.lowestPair (coefficientsIn l)) (refused 13) (accepted tt))
 

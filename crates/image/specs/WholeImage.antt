@@ -8,13 +8,13 @@ use Rattle.whole.specs.Outcome.{Outcome, Effect}
 use Rattle.block.specs.declared.FrameContext.{FrameContext}
 use Rattle.block.specs.Frame.{Playing, playing}
 use Rattle.block.specs.Play as Block
-use Rattle.image.specs.Reading.{totalIn, blocksIn, coefficientsIn, lengthIn}
+use Rattle.image.specs.Reading.{totalIn, blocksIn, coefficientsIn, lengthIn, contextIn}
 use Rattle.image.specs.Opening.{andThen, openAnswer}
 use Rattle.image.specs.Bodies.{bodyIn}
-use Rattle.image.specs.Playing.{contextIn, roomAnswer, played}
+use Rattle.image.specs.Playing.{roomAnswer, played}
 use Rattle.image.specs.Sameness.{samplesIn}
 
--- codes 15; 20, 21, 22; 13, 14
+-- codes 15; 20, 21, 22; 24; 13, 14
 unfoldable pub allAnswer : List ℕ → ℕ → Outcome Unit
 allAnswer l room = andThen (openAnswer l) (roomAnswer (coefficientsIn l) (totalIn l) room)
 

@@ -2,8 +2,10 @@
 ghost use mathlib.Core.Path.{_≡_};
 ghost use Prim.Native.Nat.{_+_, _/_, _≤_};
 ghost use lib.ListN.{length, take, drop};
+ghost use Rattle.layout.specs.Sizes.{entryPlace};
 ghost use Rattle.image.specs.inner.Asked.{Found};
-ghost use Rattle.image.specs.Playing.{contextIn, readEntry};
+ghost use Rattle.image.specs.Reading.{contextIn};
+ghost use Rattle.image.specs.Playing.{readEntry};
 use crate::heading::signed_at;
 use crate::heading::word_at;
 use block::FrameContext;
@@ -18,9 +20,9 @@ pub struct Entry {
     pub context: FrameContext,
 }
 
-// The context of block k's entry.
+// The context of entry k: a block's, or after those the loop's.
 pub(crate) fn read_context(image: &[u8], k: usize) -> FrameContext
-    requires { ⌜ Found (now image) k ⌝ }
+    requires { ⌜ (k ≤ 1048576) × (entryPlace k + 16 ≤ length (now image)) ⌝ }
     ensures { λ r. ⌜ r ≡ contextIn (now (image .entry)) k ⌝ }
 {
     let at = entry_place(k);

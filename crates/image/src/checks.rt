@@ -9,19 +9,28 @@ use crate::Refusal;
 use crate::entries::entries_answer;
 use crate::heading::head_ok;
 use crate::heading::read_coefficients;
+use crate::heading::read_shape;
+use crate::loops::loop_fits;
 use block::coefficients::lowest_pair;
 use layout::fields::get32;
-use layout::sizes::shape_of;
 
-// Codes 15, 20, 21 and 22.
+// Codes 15, 20, 21, 22 and 24.
 pub(crate) fn open_answer(image: &[u8]) -> Answer
     ensures { λ r. ⌜ outcome r ≡ openAnswer (now (image .entry)) ⌝ }
 {
     if !head_ok(image) {
         return Answer::Refused(Refusal::BadHead);
     }
-    let shape = shape_of(get32(image, 4), get32(image, 12));
-    entries_answer(image, shape)
+    let answer = entries_answer(image, read_shape(image));
+    match answer {
+        Answer::Accepted => {
+            if !loop_fits(image) {
+                return Answer::Refused(Refusal::BadLoop);
+            }
+            Answer::Accepted
+        }
+        Answer::Refused(why) => Answer::Refused(why),
+    }
 }
 
 // Codes 13 and 14, for so many samples and an output of some room.
@@ -37,7 +46,7 @@ pub(crate) fn room_answer(coefficients: [i16; 16], samples: u64, room: usize) ->
     Answer::Accepted
 }
 
-// Codes 15, 20, 21, 22 and 13.
+// Codes 15, 20, 21, 22, 24 and 13.
 fn compare_answer(image: &[u8]) -> Answer
     ensures { λ r. ⌜ outcome r ≡ compareAnswer (now (image .entry)) ⌝ }
 {
@@ -54,7 +63,7 @@ fn compare_answer(image: &[u8]) -> Answer
     }
 }
 
-// Codes 15, 20, 21, 22 and 13 of the first image, then of the second.
+// Codes 15, 20, 21, 22, 24 and 13 of the first image, then of the second.
 pub(crate) fn both_answer(a: &[u8], b: &[u8]) -> Answer
     ensures { λ r. ⌜ outcome r ≡ bothAnswer (now (a .entry)) (now (b .entry)) ⌝ }
 {
@@ -65,7 +74,7 @@ pub(crate) fn both_answer(a: &[u8], b: &[u8]) -> Answer
     }
 }
 
-// Codes 15, 20, 21, 22, 13 and 19.
+// Codes 15, 20, 21, 22, 24, 13 and 19.
 pub(crate) fn from_answer(image: &[u8], first: u32) -> Answer
     ensures { λ r. ⌜ outcome r ≡ fromAnswer (now (image .entry)) first ⌝ }
 {

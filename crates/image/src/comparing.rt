@@ -10,13 +10,13 @@ ghost use Rattle.image.specs.Sameness.{equalSamples, samplesIn, sameSoun
 use crate::Head;
 use crate::bodies::read_entry;
 use crate::heading::read_head;
+use crate::heading::read_shape;
 use block::FrameContext;
 use block::coefficients::equal;
 use block::play_frame;
 use layout::sizes::bodies_place;
 use layout::sizes::frame_count;
 use layout::sizes::last_samples;
-use layout::sizes::shape_of;
 use whole::BYTES_PER_FRAME;
 use whole::SAMPLES_PER_FRAME;
 
@@ -84,7 +84,7 @@ fn next_frame(image: &[u8], head: Head, i: usize, count: usize, before: FrameCon
     ensures { λ r. ⌜ r ≡ nextFrame (now (image .entry)) i before ⌝ }
 {
     let block = head.block as usize;
-    let bodies = bodies_place(shape_of(head.total, head.block));
+    let bodies = bodies_place(read_shape(image));
     let coefficients = head.coefficients;
     let context = context_before(image, block, bodies, i, before);
     played_frame(

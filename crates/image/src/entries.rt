@@ -16,7 +16,7 @@ use layout::sizes::bodies_place;
 use layout::sizes::entry_place;
 
 // The number that a byte is.
-fn byte(x: u8) -> u32
+pub(crate) fn byte(x: u8) -> u32
     ensures { λ r. ⌜ r ≡ x ⌝ }
 {
     x as u32

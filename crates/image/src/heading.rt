@@ -3,11 +3,12 @@ ghost use mathlib.Core.Path.{_≡_};
 ghost use Prim.Native.Nat.{_+_, _≤_};
 ghost use lib.ListN.{length};
 ghost use Rattle.layout.specs.Fields.{at16};
-ghost use Rattle.image.specs.Reading.{signedAt, coefficientsIn, headIn};
+ghost use Rattle.image.specs.Reading.{signedAt, coefficientsIn, headIn, shapeIn};
 ghost use Rattle.image.specs.Opening.{markOk, numbersFit, headOk};
 use crate::Head;
 use layout::HEAD_BYTES;
 use layout::MARK;
+use layout::Shape;
 use layout::fields::get16;
 use layout::fields::get32;
 use layout::fields::signed16;
@@ -34,18 +35,18 @@ fn mark_ok(image: &[u8]) -> bool
     image[3] == m[3]
 }
 
-// Whether N, rate, B, K and the zero bytes are right, and an image of `len` bytes has all of its bytes.
-fn numbers_fit(total: u32, rate: u32, block: u32, blocks: u32, zero: u32, len: usize) -> bool
-    ensures { λ r. ⌜ r ≡ numbersFit total rate block blocks zero len ⌝ }
+// Whether N, rate, B, K and the number of loops are right, and an image of `len` bytes has all of its bytes.
+fn numbers_fit(total: u32, rate: u32, block: u32, blocks: u32, loops: u32, len: usize) -> bool
+    ensures { λ r. ⌜ r ≡ numbersFit total rate block blocks loops len ⌝ }
 {
     if !numbers_ok(0, total, block, rate) {
         return false;
     }
-    let shape = shape_of(total, block);
-    if blocks as usize != block_count(shape) {
+    if loops > 1 {
         return false;
     }
-    if zero != 0 {
+    let shape = shape_of(total, block, loops);
+    if blocks as usize != block_count(shape) {
         return false;
     }
     len >= image_size(shape)
@@ -65,8 +66,16 @@ pub(crate) fn head_ok(image: &[u8]) -> bool
     let rate = get32(image, 8);
     let block = get32(image, 12);
     let blocks = get32(image, 52);
-    let zero = get16(image, 50);
-    numbers_fit(total, rate, block, blocks, zero, image.len())
+    let loops = get16(image, 50);
+    numbers_fit(total, rate, block, blocks, loops, image.len())
+}
+
+// The shape that N, B and the number of loops say.
+pub(crate) fn read_shape(image: &[u8]) -> Shape
+    requires { ⌜ 56 ≤ length (now image) ⌝ }
+    ensures { λ r. ⌜ r ≡ shapeIn (now (image .entry)) ⌝ }
+{
+    shape_of(get32(image, 4), get32(image, 12), get16(image, 50))
 }
 
 // The number of 16 bits that two bytes are.

@@ -1,9 +1,10 @@
-// Reading a clip image: opening, the body of a block, playing a block, the whole or a part, sameness.
+// Reading a clip image: opening, the body of a block, playing a block, the whole, a part or the loop, sameness.
 ghost use mathlib.Core.Path.{_≡_};
 ghost use Rattle.block.specs.Frame.{playing};
-ghost use Rattle.image.specs.Opening.{code, badBlock, outcome, noHead, openImage};
+ghost use Rattle.image.specs.Opening.{code, badBlock, outcome, told, noHead, openImage};
 ghost use Rattle.whole.specs.Outcome.{effect};
 ghost use Rattle.image.specs.Bodies.{blockAnswer, blockPart};
+ghost use Rattle.image.specs.Looping.{playLoop};
 ghost use Rattle.image.specs.Part.{partOutcome, playFrom};
 ghost use Rattle.image.specs.Playing.{playOutcome, play};
 ghost use Rattle.image.specs.Sameness.{sameOutcome, same};
@@ -14,6 +15,7 @@ mod checks;
 mod comparing;
 mod entries;
 mod heading;
+mod loops;
 mod playing;
 mod running;
 
@@ -25,13 +27,18 @@ use checks::from_answer;
 use checks::open_answer;
 use comparing::same_sound;
 use heading::read_head;
+use layout::Loop;
 use layout::fields::get32;
+use loops::loop_context;
+use loops::no_loop;
+use loops::play_loop_opened;
+use loops::read_loop;
 use playing::play_found;
 use playing::play_opened;
 use playing::refused_playback;
 use running::play_part;
 
-// Why a call is refused; the last three name the block whose entry is bad.
+// Why a call is refused; three of them name the block whose entry is bad.
 pub enum Refusal {
     LowestPair,
     OutputTooShort,
@@ -41,6 +48,7 @@ pub enum Refusal {
     BadOffset(u32),
     BadLength(u32),
     BadHeader(u32),
+    BadLoop,
 }
 
 pub enum Answer {
@@ -59,10 +67,12 @@ pub struct Head {
     pub blocks: u32,
 }
 
-// What opening answers, and the head's values or, where it is refused, zeros.
+// What opening answers, the head's values, and the loop with the context at its start, zeros where there is none; refused, all zeros.
 pub struct Opening {
     pub answer: Answer,
     pub head: Head,
+    pub looped: Loop,
+    pub context: FrameContext,
 }
 
 // Playing's answer: the sample count, or the refusal.
@@ -103,6 +113,7 @@ pub fn code(refusal: Refusal) -> u32
         Refusal::BadOffset(_) => 20,
         Refusal::BadLength(_) => 21,
         Refusal::BadHeader(_) => 22,
+        Refusal::BadLoop => 24,
     }
 }
 
@@ -119,6 +130,7 @@ pub fn bad_block(refusal: Refusal) -> u32
         Refusal::BadOffset(j) => j,
         Refusal::BadLength(j) => j,
         Refusal::BadHeader(j) => j,
+        Refusal::BadLoop => 0,
     }
 }
 
@@ -136,30 +148,38 @@ fn no_head() -> Head
     }
 }
 
-// Opens an image: checks its head and its entries, and gives the head's values.
+// Opens an image: checks its head, its entries and its loop, and tells the head's values, the loop and the context at its start.
 pub fn open(image: &[u8]) -> Opening
-    ensures { λ r. ⌜ effect (outcome (r .answer)) (r .head) ≡ openImage (now (image .entry)) ⌝ }
+    ensures { λ r. ⌜ effect (outcome (r .answer)) (told (r .head) (r .looped) (r .context)) ≡ openImage (now (image .entry)) ⌝ }
 {
     let answer = open_answer(image);
     match answer {
         Answer::Accepted => {
             let head = read_head(image);
+            let looped = read_loop(image);
+            let context = loop_context(image, looped);
             Opening {
                 answer: Answer::Accepted,
                 head: head,
+                looped: looped,
+                context: context,
             }
         }
         Answer::Refused(why) => {
             let head = no_head();
+            let looped = no_loop();
+            let context = FrameContext::new();
             Opening {
                 answer: Answer::Refused(why),
                 head: head,
+                looped: looped,
+                context: context,
             }
         }
     }
 }
 
-// Whether there is a block k, by codes 15, 20, 21, 22 and 17: what `block_body` and `play` ask first.
+// Whether there is a block k, by codes 15, 20, 21, 22, 24 and 17: what `block_body` and `play` ask first.
 pub fn block_answer(image: &[u8], k: u32) -> Answer
     ensures { λ r. ⌜ outcome r ≡ blockAnswer (now (image .entry)) k ⌝ }
 {
@@ -219,6 +239,17 @@ pub fn play_from(image: &[u8], first: u32, out: &mut [i16]) -> PartAnswer
     match answer {
         Answer::Accepted => play_part(image, first as usize, out),
         Answer::Refused(why) => PartAnswer::Refused(why),
+    }
+}
+
+// Plays the loop of an image so many times over to the output, each time from the stored context; without a loop, no samples.
+pub fn play_loop(image: &[u8], times: u32, out: &mut [i16]) -> PlayAnswer
+    ensures { λ r. ⌜ effect (playOutcome r) (now (out .exit)) ≡ playLoop (now (image .entry)) times (now (out .entry)) ⌝ }
+{
+    let answer = open_answer(image);
+    match answer {
+        Answer::Accepted => play_loop_opened(image, times, out),
+        Answer::Refused(why) => PlayAnswer::Refused(why),
     }
 }
 

@@ -1,10 +1,11 @@
 // Replays a list of calls on two images of which the answers are known. A line of the input is a letter and numbers in hexadecimal digits of
 // lower case, here with their first digit's place. b, f and g put bytes into both images, the first or the second: 1 the bytes' place
 // (four digits), 5 how many (two), 7 the bytes. The others are calls: 1 and 5 the lengths of the two images that are playing (four each), 9 the
-// block's number or that of the first sample (eight), 17 the output's length (four). o opens the first image, k finds the body of a block of
-// it, p plays that block, a plays all blocks, m plays from a sample on, s compares the first with the second, r the second with the first. A
-// call is answered by a line: 00 or the refusal's number; the block whose entry is bad, or 0; then the head's values, the body, the count,
-// the context or the number of blocks touched, and the whole output, which has 5A in each byte at first, or 1 where the images are the same.
+// block's number, that of the first sample or the loop's turns (eight), 17 the output's length (four). o opens the first image, k finds the
+// body of a block of it, p plays that block, a plays all blocks, m plays from a sample on, t plays the loop, s compares the first with the
+// second, r the second with the first. A call is answered by a line: 00 or the refusal's number; the block whose entry is bad, or 0; then the
+// head's values and, where there is a loop, its start, end and context, the body, the count, the context or the number of blocks touched, and
+// the whole output, which has 5A in each byte at first, or 1 where the images are the same.
 mod text;
 
 ghost use mathlib.Core.Path.{_≡_};
@@ -36,13 +37,20 @@ fn print_answer(answer: Answer) {
     }
 }
 
-// Opens an image and writes its head.
+// Opens an image and writes its head, and its loop.
 fn open(image: &[u8]) {
     let done = image::open(image);
     let answer = done.answer;
     let head = done.head;
+    let looped = done.looped;
+    let context = done.context;
     print_answer(answer);
     print_head(head);
+    if looped.present {
+        print_field(looped.start as u64, 8);
+        print_field(looped.end as u64, 8);
+        print_context(context);
+    }
 }
 
 // Finds a block's body and writes it.
@@ -125,6 +133,24 @@ fn part(image: &[u8], first: u32, room: usize) {
     part_to(image, first, &mut out[..n]);
 }
 
+// Plays the loop to an output and writes what that leaves.
+fn loop_to(image: &[u8], times: u32, out: &mut [i16]) {
+    let answer = image::play_loop(image, times, out);
+    match answer {
+        PlayAnswer::Played(count) => print_value(count),
+        PlayAnswer::Refused(why) => print_no_value(why),
+    }
+    print_space();
+    print_samples(out);
+}
+
+// Plays the loop to the first samples of an output.
+fn play_loop(image: &[u8], times: u32, room: usize) {
+    let n = least(room, 512);
+    let mut out = fresh_samples();
+    loop_to(image, times, &mut out[..n]);
+}
+
 // Compares two images.
 fn same(first: &[u8], second: &[u8]) {
     let answer = image::same(first, second);
@@ -146,6 +172,8 @@ fn call(letter: u8, line: &[u8; 56], first: &[u8], second: &[u8]) -> bool {
         play(letter, first, k, word(line, 17) as usize);
     } else if letter == b'm' {
         part(first, k, word(line, 17) as usize);
+    } else if letter == b't' {
+        play_loop(first, k, word(line, 17) as usize);
     } else if letter == b's' {
         same(first, second);
     } else {

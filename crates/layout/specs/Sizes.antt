@@ -1,13 +1,26 @@
 -- The sizes of a clip and the places in its image. Definitions only.
-use mathlib.Core.Bool.{cond}
+use mathlib.Core.Bool.{false, cond}
 use Prim.Native.Nat.{ℕ, _+_, _-_, _*_, _/_}
 use lib.Dec.{ltb}
 use Rattle.whole.specs.Frames.{frameCount}
 use Rattle.layout.specs.declared.Shape.{Shape}
+use Rattle.layout.specs.declared.Loop.{Loop}
 
--- a clip of N samples in blocks of B bytes, with no entries after those of its blocks
-abbrev pub shape : ℕ → ℕ → Shape
-shape n b = record { total = n; block = b; extra = 0 }
+-- a clip of N samples in blocks of B bytes, with x entries after those of its blocks
+abbrev pub shape : ℕ → ℕ → ℕ → Shape
+shape n b x = record { total = n; block = b; extra = x }
+
+-- no loop
+abbrev pub noLoop : Loop
+noLoop = record { start = 0; end = 0; present = false }
+
+-- a loop; zeros where there is none
+abbrev pub toldLoop : Loop → Loop
+toldLoop p = cond (p .present) p noLoop
+
+-- how many entries a loop adds
+abbrev pub loopCount : Loop → ℕ
+loopCount p = cond (p .present) 1 0
 
 -- "m = N − 14(F−1) the samples in its last frame"
 unfoldable pub lastSamples : ℕ → ℕ
@@ -29,7 +42,7 @@ entryPlace j = 56 + 16 * j
 abbrev pub bodiesPlace : Shape → ℕ
 bodiesPlace s = entryPlace (blockCount s + s .extra)
 
--- "Image size S = 56 + 16K + T"
+-- "Image size S = 56 + 16K + T"; with a loop "S grows by 16"
 unfoldable pub imageSize : Shape → ℕ
 imageSize s = bodiesPlace s + bodyBytes (s .total)
 
@@ -37,7 +50,7 @@ imageSize s = bodiesPlace s + bodyBytes (s .total)
 unfoldable pub cutDown : ℕ → ℕ
 cutDown size = size / 8 * 8
 
--- where block j's body begins: the bodies stand back to back
+-- where block j's body begins: the bodies stand back to back; with a loop "body offsets move"
 unfoldable pub blockOffset : Shape → ℕ → ℕ
 blockOffset s j = bodiesPlace s + j * s .block
 

@@ -11,6 +11,14 @@ pub const HEAD_BYTES: usize = 56;
 
 pub const ENTRY_BYTES: usize = 16;
 
+// A loop: the sample that it starts at, and the one after its last; or none.
+#[repr(C)]
+pub struct Loop {
+    pub start: u32,
+    pub end: u32,
+    pub present: bool,
+}
+
 // What fixes the sizes and places of a clip: N, B, and how many entries follow those of its K blocks.
 pub struct Shape {
     pub total: usize,

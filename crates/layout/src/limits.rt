@@ -1,6 +1,7 @@
 // The limits of a clip's numbers.
 ghost use mathlib.Core.Path.{_≡_};
-ghost use Rattle.layout.specs.Limits.{numbersOk};
+ghost use Rattle.layout.specs.Limits.{numbersOk, loopOk};
+use crate::Loop;
 use whole::MOST_SAMPLES;
 
 // Whether N, B, the rate and n are within their limits. It is internal: crate image calls it.
@@ -26,4 +27,20 @@ pub fn numbers_ok(n: u32, total: u32, block: u32, rate: u32) -> bool
         return false;
     }
     rate != 0
+}
+
+// Whether a loop is none, or has its start below its end and its end not above N. It is internal: clip and image call it.
+pub fn loop_ok(looped: Loop, total: u32) -> bool
+    ensures { λ r. ⌜ r ≡ loopOk looped total ⌝ }
+{
+    let start = looped.start;
+    let end = looped.end;
+    let present = looped.present;
+    if present {
+        if start >= end {
+            return false;
+        }
+        return end <= total;
+    }
+    true
 }

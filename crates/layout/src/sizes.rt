@@ -1,24 +1,48 @@
 // The sizes of a clip and the places in its image.
 ghost use Prim.Native.Nat.{_≤_, _<_};
 ghost use Rattle.layout.specs.Limits.{Limits};
-ghost use Rattle.layout.specs.Sizes.{shape, lastSamples, blockCount, bodyBytes, bodiesPlace, entryPlace, imageSize, cutDown, blockLength};
+ghost use Rattle.layout.specs.Sizes.{shape, toldLoop, loopCount, lastSamples, blockCount, bodyBytes, bodiesPlace, entryPlace, imageSize, cutDown, blockLength};
 ghost use mathlib.Core.Path.{_≡_};
 ghost use Rattle.whole.specs.Frames.{frameCount};
 use crate::ENTRY_BYTES;
 use crate::HEAD_BYTES;
+use crate::Loop;
 use crate::Shape;
 use whole::BYTES_PER_FRAME;
 use whole::SAMPLES_PER_FRAME;
 
-// The shape of a clip of N samples in blocks of B bytes, with no entries after those of its blocks. It is internal: clip and image call it.
-pub fn shape_of(total: u32, block: u32) -> Shape
-    ensures { λ r. ⌜ r ≡ shape total block ⌝ }
+// The shape of a clip of N samples in blocks of B bytes, with some entries after those of its blocks. It is internal: clip and image call it.
+pub fn shape_of(total: u32, block: u32, extra: u32) -> Shape
+    ensures { λ r. ⌜ r ≡ shape total block extra ⌝ }
 {
     Shape {
         total: total as usize,
         block: block as usize,
-        extra: 0,
+        extra: extra as usize,
     }
+}
+
+// A loop; zeros where there is none. It is internal: clip calls it.
+pub fn told_loop(looped: Loop) -> Loop
+    ensures { λ r. ⌜ r ≡ toldLoop looped ⌝ }
+{
+    let present = looped.present;
+    if present {
+        return looped;
+    }
+    Loop {
+        start: 0,
+        end: 0,
+        present: false,
+    }
+}
+
+// How many entries a loop adds. It is internal: clip calls it.
+pub fn loop_count(looped: Loop) -> u32
+    ensures { λ r. ⌜ r ≡ loopCount looped ⌝ }
+{
+    let present = looped.present;
+    if present { 1 } else { 0 }
 }
 
 // Frames of n samples, the last one filled. It is internal: clip and image call it.

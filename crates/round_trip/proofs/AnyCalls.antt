@@ -52,7 +52,7 @@ asked-after store ms cs e =
 -- ---- the theorem
 
 -- Take any store and any list of measurings and askings on it, from the fresh state, refused ones included, then an asking that is accepted. Start a clip
--- with the coefficients that it answers, with any N, rate, block size, gain, starting history and buffer that starting accepts, then take any list of
+-- with the coefficients that it answers, with any N, rate, block size, gain, starting history, loop or none, and buffer that starting accepts, then take any list of
 -- feedings and closings on that buffer, refused ones included. Every call answers as document 01's plain machines, the coefficients are those of
 -- what was accepted for measuring, and if the clip is closed, state and image are those of what was accepted for encoding: the image opens and plays as many samples,
 -- each within its distance of the original.

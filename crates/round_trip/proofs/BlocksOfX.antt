@@ -3,14 +3,15 @@ use mathlib.Core.Path.{_≡_, refl, sym, ap, ap₂, _∙_, subst}
 use mathlib.Core.List.{List, [], _++_, append-assoc}
 use mathlib.Core.Bool.{Bool, true, false, cond}
 use Prim.Native.Nat.{ℕ, zero, suc, _+_, _-_, _*_, _/_, _%_, _^_, _≤_, _<_}
-use native.Mathlib.Nat.{suc-mul, zero-mul, zero-add}
+use native.Mathlib.Nat.{suc-mul, zero-mul, zero-add, mul-assoc, mul-comm, mul-le-mul, le-refl, div-add-mod', mod-lt}
+use native.Mathlib.Decide.{decLt}
 use native.Mathlib.Omega.{arith}
 use borrow.Author.Tests.{ltb-true, ltb-false, lt-ltb, le-ltb}
 use lib.Dec.{ltb}
 use lib.IntN.{ℤ, pos, natAbs, _-ℤ_}
 use lib.ListN.{length, getD, take, length-append, List·getD-append}
 use lib.Seq.{take-all, getD-append-add, length-take-le, getD-take}
-use Rattle.block.specs.Frame.{playing}
+use Rattle.block.specs.Frame.{Playing, playing}
 use Rattle.block.specs.Play.{play}
 use Rattle.layout.specs.Sizes.{shape, bodiesPlace, lastSamples, blockCount, bodyBytes, blockOffset, blockLength}
 use Rattle.whole.specs.Frames.{frameCount}
@@ -18,7 +19,7 @@ use Rattle.layout.specs.Fields.{mark}
 use Rattle.layout.specs.Limits.{Limits}
 use Rattle.clip.specs.Image.{startShape}
 use Rattle.clip.specs.declared.starting.Start.{Start}
-use Rattle.clip.specs.Runs.{encodedAt}
+use Rattle.clip.specs.Runs.{encodedAt, loopEntry}
 use Rattle.layout.proofs.SizeLaws.{block-first, block-place, blocks-all, frames-some}
 use Rattle.clip.proofs.ImageByFrames.{Fine, built}
 use Rattle.round_trip.proofs.FieldsReadBack.{body-at}
@@ -46,9 +47,9 @@ body-is : (n : ℕ) → bodyBytes n ≡ 8 * (frameCount n - 1) + (lastSamples n 
 unfolding bodyBytes frameCount lastSamples
 body-is n = omega arith
 
-module _ (n b j : ℕ) (L : Limits (shape n b)) (few : j < blockCount (shape n b)) where
+module _ (n b x j : ℕ) (L : Limits (shape n b x)) (few : j < blockCount (shape n b x)) where
   -- what block j is, where another comes after it and where it is the last
-  pub block-parts : (blockLength (shape n b) j ≡ 16 * wholes n b j + (ending n b j + 2)) × (ending n b j ≤ 14) × (8 * (j * (b / 8)) + (8 * wholes n b j + (ending n b j + 3) / 2) ≤ bodyBytes n)
+  pub block-parts : (blockLength (shape n b x) j ≡ 16 * wholes n b j + (ending n b j + 2)) × (ending n b j ≤ 14) × (8 * (j * (b / 8)) + (8 * wholes n b j + (ending n b j + 3) / 2) ≤ bodyBytes n)
       × (j * (b / 8) + wholes n b j < frameCount n)
   unfolding blockLength wholes ending frameCount lastSamples
   block-parts = go (ltb (j * (b / 8) + b / 8) (frameCount n)) refl
@@ -64,7 +65,7 @@ module _ (n b j : ℕ) (L : Limits (shape n b)) (few : j < blockCount (shape n b
           let m = last-few n in
           (omega arith, omega arith, omega (arith, body-is n), omega arith)
       go false e =
-          let f = block-first (shape n b) j L few in
+          let f = block-first (shape n b x) j L few in
           let m = last-few n in
           (refl, m, omega (arith, body-is n), omega arith)
 
@@ -77,6 +78,60 @@ frame-of n i h = omega arith
 last-place : (n i : ℕ) → i < n → frameCount n - 1 ≤ i / 14 → (i / 14 ≡ frameCount n - 1) × (i % 14 < lastSamples n)
 unfolding lastSamples frameCount
 last-place n i h l = (omega arith, omega arith)
+
+-- the block of a sample, and the frame and place in it
+module _ (n b x s : ℕ) (L : Limits (shape n b x)) (lt : s < n) where
+  abbrev c : ℕ
+  c = b / 8
+
+  abbrev at : ℕ
+  at = s / (14 * (b / 8))
+
+  abbrev r : ℕ
+  r = s % (14 * (b / 8))
+
+  counted : s ≡ 14 * (at * c) + r
+  counted =
+      let d = div-add-mod' s (14 * c) in
+      let e : at * (14 * c) ≡ 14 * (at * c) = sym (mul-assoc at 14 c) ∙ ap (λ (k : ℕ). k * c) (mul-comm at 14) ∙ mul-assoc 14 at c in
+      omega (arith, d, e)
+
+  below : r < 14 * c
+  below = mod-lt s (omega (arith, L .wide))
+
+  pub sample-block : at < blockCount (shape n b x)
+  unfolding frameCount
+  sample-block =
+      let f = frame-of n s lt in
+      let a = blocks-all (shape n b x) L in
+      mul-lt-cancel at (blockCount (shape n b x)) c (omega (arith, f, a, counted))
+    where
+      mul-lt-cancel : (i k d : ℕ) → i * d < k * d → i < k
+      mul-lt-cancel i k d h = go (decLt i k)
+        where
+          go : Dec (i < k) → i < k
+          go (yes q) = q
+          go (no q) = absurd (let m : k * d ≤ i * d = mul-le-mul (omega arith) (le-refl d) in omega (arith, m, h))
+
+  pub sample-frame : (at * c + r / 14 ≡ s / 14) × (r % 14 ≡ s % 14)
+  sample-frame = (omega (arith, counted), omega (arith, counted))
+
+  pub sample-inside : 8 * (r / 14) + (r % 14 + 3) / 2 ≤ 8 * wholes n b at + (ending n b at + 3) / 2
+  unfolding wholes ending
+  sample-inside = go (ltb (at * c + c) (frameCount n)) refl
+    where
+      go : (t : Bool) → ltb (s / (14 * (b / 8)) * (b / 8) + b / 8) (frameCount n) ≡ t
+          → 8 * (r / 14) + (r % 14 + 3) / 2 ≤ 8 * cond t (b / 8 - 1) (frameCount n - 1 - s / (14 * (b / 8)) * (b / 8)) + (cond t 14 (lastSamples n) + 3) / 2
+      go true e = omega (arith, below)
+      go false e = rest (ltb (s / 14) (frameCount n - 1)) refl
+        where
+          rest : (u : Bool) → ltb (s / 14) (frameCount n - 1) ≡ u → 8 * (r / 14) + (r % 14 + 3) / 2 ≤ 8 * (frameCount n - 1 - at * c) + (lastSamples n + 3) / 2
+          rest true u = let a = ltb-true (s / 14) (frameCount n - 1) u in omega (arith, a, counted)
+          rest false u =
+              let a = last-place n s lt (ltb-false (s / 14) (frameCount n - 1) u) in
+              let p = a .0 in
+              let m = a .1 in
+              omega (arith, p, m, counted)
 
 -- ---- a block
 
@@ -95,19 +150,19 @@ module _ (g : Start) (F : Fine g) (xs : List ℤ) (rest : List ℕ) where
   b = g .block
 
   abbrev image : List ℕ
-  image = built g mark xs (frameCount (g .total)) ++ rest
+  image = built g mark (loopEntry g xs true) xs (frameCount (g .total)) ++ rest
 
   module _ (j : ℕ) (few : j < blockCount (startShape g)) (bytes : List ℕ)
-      (same : (i : ℕ) → i < (blockLength (startShape g) j + 1) / 2 → getD bytes i 0 ≡ getD (built g mark xs (frameCount (g .total)) ++ rest) (blockOffset (startShape g) j + i) 0) where
+      (same : (i : ℕ) → i < (blockLength (startShape g) j + 1) / 2 → getD bytes i 0 ≡ getD (built g mark (loopEntry g xs true) xs (frameCount (g .total)) ++ rest) (blockOffset (startShape g) j + i) 0) where
     -- its bytes hold its frames
     holds : Holding g xs bytes (j * (g .block / 8)) (8 * wholes (g .total) (g .block) j + (ending (g .total) (g .block) j + 3) / 2)
     unfolding blockOffset blockCount frameCount
     holds =
         record {
           at = λ i r l h.
-              let p = block-parts n b j (F .limits) few in
+              let p = block-parts n b (startShape g .extra) j (F .limits) few in
               let q = j * (b / 8) in
-              let e : bodiesPlace (shape n b) + j * b + (8 * i + r) ≡ bodiesPlace (shape n b) + (8 * (j * (b / 8) + i) + r) = omega (arith, block-place b j (F .limits .eights)) in
+              let e : bodiesPlace (startShape g) + j * b + (8 * i + r) ≡ bodiesPlace (startShape g) + (8 * (j * (b / 8) + i) + r) = omega (arith, block-place b j (F .limits .eights)) in
               same (8 * i + r) (omega (arith, p .0))
               ∙ ap (λ (k : ℕ). getD image k 0) e
               ∙ body-at g F xs (frameCount n) rest (j * (b / 8) + i) r (omega (arith, p .1, p .3)) l (omega (arith, p .2));
@@ -115,13 +170,19 @@ module _ (g : Start) (F : Fine g) (xs : List ℤ) (rest : List ℕ) where
 
     -- it plays its frames
     pub block-played : Audible g xs
-        → play bytes (g .coefficients) (blockLength (shape n b) j) (contextBefore g xs (j * (b / 8)))
+        → play bytes (g .coefficients) (blockLength (startShape g) j) (contextBefore g xs (j * (b / 8)))
         ≡ playing (contextWithin g xs (j * (b / 8) + wholes n b j) (ending n b j)) (blockSound g xs j)
     unfolding blockSound
     block-played A =
-        let p = block-parts n b j (F .limits) few in
+        let p = block-parts n b (startShape g .extra) j (F .limits) few in
         ap (λ (k : ℕ). play bytes (g .coefficients) k (contextBefore g xs (j * (b / 8)))) (p .0)
         ∙ block-held g xs bytes (j * (b / 8)) (8 * wholes n b j + (ending n b j + 3) / 2) holds A (wholes n b j) (ending n b j) (p .1) (omega arith)
+
+    -- up to sample m of its frame w it leaves the context there
+    pub block-until : Audible g xs → (w m : ℕ) → m ≤ 14 → 8 * w + (m + 3) / 2 ≤ 8 * wholes n b j + (ending n b j + 3) / 2
+        → play bytes (g .coefficients) (16 * w + (m + 2)) (contextBefore g xs (j * (b / 8))) .context ≡ contextWithin g xs (j * (b / 8) + w) m
+    block-until A w m l h =
+        ap (λ (p : Playing). p .context) (block-held g xs bytes (j * (b / 8)) (8 * wholes n b j + (ending n b j + 3) / 2) holds A w m l h)
 
 -- ---- all blocks
 

@@ -1,5 +1,6 @@
 -- What the bytes of X's image say.
 use mathlib.Core.Path.{_≡_, refl, sym, ap, ap₂, _∙_}
+use mathlib.Core.Bool.{Bool, true, cond}
 use mathlib.Core.List.{List, [], _∷_, _++_, append-assoc}
 use Prim.Native.Nat.{ℕ, zero, suc, _+_, _-_, _*_, _/_, _%_, _<_}
 use native.Mathlib.Nat.{add-zero}
@@ -11,16 +12,17 @@ use lib.Seq.{getD-append-add, getD-take}
 use mir.Syntax.{w16}
 use mir.Val.{ofZ}
 use Rattle.layout.specs.declared.Shape.{Shape}
-use Rattle.layout.specs.Sizes.{blockCount, bodyBytes, entryPlace, bodiesPlace, blockOffset, blockLength, lastSamples}
+use Rattle.block.specs.declared.FrameContext.{FrameContext}
+use Rattle.layout.specs.Sizes.{loopCount, blockCount, bodyBytes, entryPlace, bodiesPlace, blockOffset, blockLength, lastSamples}
 use Rattle.layout.specs.Fields.{be16, be32, at16, at32, sample16, mark}
-use Rattle.clip.specs.Image.{startShape, coefficientBytes, headBytes, contextBytes, entryBytes, tableBytes}
+use Rattle.clip.specs.Image.{startShape, coefficientBytes, headBytes, contextBytes, entryBytes, tableBytes, loopBytes}
 use Rattle.clip.specs.declared.starting.Start.{Start}
-use Rattle.clip.specs.Runs.{historyAt, encodedAt, bodies, contextAt}
+use Rattle.clip.specs.Runs.{historyAt, encodedAt, bodies, contextAt, loopContextAt, loopEntry}
 use Rattle.clip.proofs.FieldRuns.{coefficient-length}
 use Rattle.round_trip.proofs.EqualParts.{row, row-at}
 use Rattle.clip.proofs.Tables.{table-length}
 use Rattle.clip.proofs.LaterSamples.{encoded-length, bodies-length, context-length}
-use Rattle.clip.proofs.ImageByFrames.{Fine, headed, listed, filled, headed-length, listed-length, filled-length, regroup, built}
+use Rattle.clip.proofs.ImageByFrames.{Fine, headed, listed, filled, headed-length, contents-length, listed-length, filled-length, entry-last, regroup, built}
 use Rattle.whole.specs.Frames.{frameCount}
 
 -- ---- fields after a known part
@@ -66,7 +68,7 @@ module _ (g : Start) (l : List ℕ) (sixteen : length (g .coefficients) ≡ 16) 
   leading = mark ++ (be32 (g .total) ++ (be32 (g .rate) ++ be32 (g .block)))
 
   abbrev trailing : List ℕ
-  trailing = be16 (g .gain) ++ (0 ∷ 0 ∷ be32 (blockCount (startShape g)))
+  trailing = be16 (g .gain) ++ (be16 (loopCount (g .looped)) ++ be32 (blockCount (startShape g)))
 
   split : image ≡ leading ++ (coefficientBytes cs ++ (trailing ++ l))
   unfolding headBytes coefficientBytes blockCount frameCount
@@ -102,8 +104,8 @@ module _ (g : Start) (l : List ℕ) (sixteen : length (g .coefficients) ≡ 16) 
   pub head-gain : at16 image 48 ≡ g .gain
   head-gain = ap (λ (r : List ℕ). at16 r 48) split-after ∙ shift16 front (trailing ++ l) 48 0 (after-coefficients 0) ∙ whole16 (g .gain)
 
-  pub head-zeros : at16 image 50 ≡ 0
-  head-zeros = ap (λ (r : List ℕ). at16 r 50) split-after ∙ shift16 front (trailing ++ l) 50 2 (after-coefficients 2)
+  pub head-loops : at16 image 50 ≡ loopCount (g .looped)
+  head-loops = ap (λ (r : List ℕ). at16 r 50) split-after ∙ shift16 front (trailing ++ l) 50 2 (after-coefficients 2) ∙ whole16 (loopCount (g .looped))
 
   pub head-blocks : at32 image 52 ≡ blockCount (startShape g)
   head-blocks = ap (λ (r : List ℕ). at32 r 52) split-after ∙ shift32 front (trailing ++ l) 52 4 (after-coefficients 4) ∙ whole32 (blockCount (startShape g))
@@ -141,11 +143,21 @@ bodies-at g xs k i r h l =
 module _ (g : Start) (F : Fine g) (xs : List ℤ) (k : ℕ) (rest : List ℕ) where
   -- the image with k frames encoded, closed, and what is after it
   abbrev all : List ℕ
-  all = built g mark xs k ++ rest
+  all = built g mark (loopEntry g xs true) xs k ++ rest
 
-  pub parts : all ≡ headed g mark ++ (listed g xs k ++ (filled g xs k ++ rest))
+  -- the contents, and what follows the contents
+  abbrev table : List ℕ
+  table = tableBytes (contextAt g xs k) (startShape g) 0 (blockCount (startShape g))
+
+  abbrev follows : List ℕ
+  follows = loopEntry g xs true ++ (filled g xs k ++ rest)
+
+  pub parts : all ≡ headed g mark ++ (listed g (loopEntry g xs true) xs k ++ (filled g xs k ++ rest))
   unfolding built
-  parts = regroup (headed g mark) (listed g xs k) (filled g xs k) rest
+  parts = regroup (headed g mark) (listed g (loopEntry g xs true) xs k) (filled g xs k) rest
+
+  around : all ≡ headed g mark ++ (table ++ follows)
+  around = parts ∙ ap (λ (l : List ℕ). headed g mark ++ l) (append-assoc table (loopEntry g xs true) (filled g xs k ++ rest))
 
   module _ (j : ℕ) (few : j < blockCount (startShape g)) (some : j * (g .block / 8) < k) where
     abbrev first : ℕ
@@ -162,7 +174,7 @@ module _ (g : Start) (F : Fine g) (xs : List ℤ) (k : ℕ) (rest : List ℕ) wh
     before = headed g mark ++ tableBytes (contextAt g xs k) (startShape g) 0 j
 
     abbrev after : List ℕ
-    after = tableBytes (contextAt g xs k) (startShape g) (suc j) (blockCount (startShape g) - suc j) ++ (filled g xs k ++ rest)
+    after = tableBytes (contextAt g xs k) (startShape g) (suc j) (blockCount (startShape g) - suc j) ++ follows
 
     before-length : length before ≡ entryPlace j
     before-length =
@@ -175,11 +187,11 @@ module _ (g : Start) (F : Fine g) (xs : List ℤ) (k : ℕ) (rest : List ℕ) wh
         let s = startShape g in
         let z : 0 + j ≡ j = omega arith in
         let t = tableBytes f s 0 j in
-        parts
-        ∙ ap (λ (l : List ℕ). headed g mark ++ (l ++ (filled g xs k ++ rest))) (table-split f s 0 (blockCount s) j few
+        around
+        ∙ ap (λ (l : List ℕ). headed g mark ++ (l ++ follows)) (table-split f s 0 (blockCount s) j few
         ∙ ap (λ (i : ℕ). t ++ (entryBytes s i (f i) ++ tableBytes f s (suc i) (blockCount s - suc j))) z)
-        ∙ ap (λ (c : List ℕ). headed g mark ++ ((t ++ (entryBytes s j c ++ tableBytes f s (suc j) (blockCount s - suc j))) ++ (filled g xs k ++ rest))) context-is
-        ∙ nested (headed g mark) t (entryBytes s j context) (tableBytes f s (suc j) (blockCount s - suc j)) (filled g xs k ++ rest)
+        ∙ ap (λ (c : List ℕ). headed g mark ++ ((t ++ (entryBytes s j c ++ tableBytes f s (suc j) (blockCount s - suc j))) ++ follows)) context-is
+        ∙ nested (headed g mark) t (entryBytes s j context) (tableBytes f s (suc j) (blockCount s - suc j)) follows
 
     pub entry-offset : at32 all (entryPlace j) ≡ blockOffset (startShape g) j
     unfolding entryBytes blockOffset blockLength blockCount frameCount lastSamples
@@ -216,6 +228,63 @@ module _ (g : Start) (F : Fine g) (xs : List ℤ) (k : ℕ) (rest : List ℕ) wh
     unfolding entryBytes blockOffset blockLength blockCount frameCount lastSamples
     entry-zeros = field 14
 
+  -- ---- the entry of the loop
+
+  module _ (here : g .looped .present ≡ true) where
+    abbrev kk : ℕ
+    kk = blockCount (startShape g)
+
+    abbrev stored : FrameContext
+    stored = loopContextAt g xs (frameCount (g .total))
+
+    abbrev fields : List ℕ
+    fields = be32 (g .looped .start) ++ (be32 (g .looped .end) ++ (contextBytes (stored .«predictor_and_scale») (stored .«last_samples») ++ (0 ∷ 0 ∷ [])))
+
+    fields-are : loopEntry g xs true ≡ fields
+    unfolding loopEntry loopBytes
+    fields-are = ap (λ (t : Bool). cond t fields []) here
+
+    abbrev earlier : List ℕ
+    earlier = headed g mark ++ table
+
+    earlier-length : length earlier ≡ entryPlace kk
+    earlier-length = length-append (headed g mark) table ∙ omega (arith, headed-length g F mark refl, contents-length g xs k)
+
+    at-loop : all ≡ earlier ++ (fields ++ (filled g xs k ++ rest))
+    at-loop =
+        around
+        ∙ sym (append-assoc (headed g mark) table follows)
+        ∙ ap (λ (l : List ℕ). earlier ++ (l ++ (filled g xs k ++ rest))) fields-are
+
+    pub loop-start : at32 all (entryPlace kk) ≡ g .looped .start
+    loop-start =
+        ap (λ (l : List ℕ). at32 l (entryPlace kk)) at-loop
+        ∙ shift32 earlier (fields ++ (filled g xs k ++ rest)) (entryPlace kk) 0 (omega (arith, earlier-length))
+        ∙ whole32 (g .looped .start)
+
+    pub loop-end : at32 all (entryPlace kk + 4) ≡ g .looped .end
+    loop-end =
+        ap (λ (l : List ℕ). at32 l (entryPlace kk + 4)) at-loop
+        ∙ shift32 earlier (fields ++ (filled g xs k ++ rest)) (entryPlace kk + 4) 4 (omega (arith, earlier-length))
+        ∙ whole32 (g .looped .end)
+
+    loop-field : (i : ℕ) → at16 all (entryPlace kk + i) ≡ at16 (fields ++ (filled g xs k ++ rest)) i
+    loop-field i =
+        ap (λ (l : List ℕ). at16 l (entryPlace kk + i)) at-loop
+        ∙ shift16 earlier (fields ++ (filled g xs k ++ rest)) (entryPlace kk + i) i (omega (arith, earlier-length))
+
+    pub loop-header : at16 all (entryPlace kk + 8) ≡ stored .«predictor_and_scale»
+    loop-header = loop-field 8 ∙ whole16 (stored .«predictor_and_scale»)
+
+    pub loop-newest : at16 all (entryPlace kk + 10) ≡ ofZ w16 (stored .«last_samples» .newest)
+    loop-newest = loop-field 10 ∙ whole16 (ofZ w16 (stored .«last_samples» .newest))
+
+    pub loop-older : at16 all (entryPlace kk + 12) ≡ ofZ w16 (stored .«last_samples» .older)
+    loop-older = loop-field 12 ∙ whole16 (ofZ w16 (stored .«last_samples» .older))
+
+    pub loop-zeros : at16 all (entryPlace kk + 14) ≡ 0
+    loop-zeros = loop-field 14
+
   -- ---- the bodies
 
   pub body-at : (i r : ℕ) → i < k → r < 8 → 8 * i + r < bodyBytes (g .total)
@@ -225,8 +294,8 @@ module _ (g : Start) (F : Fine g) (xs : List ℤ) (k : ℕ) (rest : List ℕ) wh
       let q = 16 * (blockCount (startShape g) + startShape g .extra) + (8 * i + r) in
       let t = bodyBytes (g .total) in
       ap (λ (l : List ℕ). getD l p 0) parts
-      ∙ shift (headed g mark) (listed g xs k ++ (filled g xs k ++ rest)) p q (omega (arith, headed-length g F mark refl))
-      ∙ shift (listed g xs k) (filled g xs k ++ rest) q (8 * i + r) (omega (arith, listed-length g xs k))
+      ∙ shift (headed g mark) (listed g (loopEntry g xs true) xs k ++ (filled g xs k ++ rest)) p q (omega (arith, headed-length g F mark refl))
+      ∙ shift (listed g (loopEntry g xs true) xs k) (filled g xs k ++ rest) q (8 * i + r) (omega (arith, listed-length g (loopEntry g xs true) (entry-last g xs true) xs k))
       ∙ List·getD-append (filled g xs k) rest 0 (8 * i + r) (omega (arith, filled-length g xs k))
       ∙ getD-take t (bodies g xs k ++ replicate t 0) (8 * i + r) 0 lt
       ∙ List·getD-append (bodies g xs k) (replicate t 0) 0 (8 * i + r) (omega (arith, bodies-length g xs k))

@@ -23,6 +23,7 @@ use Rattle.block.specs.inner.Frames.{nibblesFrom, playFrame, playFrames}
 use Rattle.block.specs.Play.{takeHeader, play}
 use Rattle.block.proofs.LawsPlay.{onto, frame-onto, repeats}
 use Rattle.clip.specs.declared.starting.Start.{Start}
+use Rattle.clip.specs.Encoding as encoding
 use Rattle.clip.specs.Runs.{historyAt, encodedAt}
 use Rattle.round_trip.specs.Job.{Sampled}
 use Rattle.round_trip.proofs.EqualParts.{row, row-at}
@@ -46,6 +47,13 @@ module _ (g : Start) (xs : List ℤ) (A : Audible g xs) where
       history-fits (historyAt g xs i) (encodeFrame (historyAt g xs i) (frameAt xs i) (g .coefficients) .samples) 14 (omega arith) (history-sampled i)
       (frame-fits (historyAt g xs i) (frameAt xs i) (g .coefficients))
 
+  -- and within a frame
+  pub within-sampled : (i m : ℕ) → m ≤ 14 → FitHistory (historyAfter (historyAt g xs i) (encodedAt g xs i .samples) m)
+  unfolding encodedAt historyAt
+  within-sampled i m l =
+      history-fits (historyAt g xs i) (encodeFrame (historyAt g xs i) (frameAt xs i) (g .coefficients) .samples) m l (history-sampled i)
+      (frame-fits (historyAt g xs i) (frameAt xs i) (g .coefficients))
+
 -- ---- what is heard
 
 -- the reconstructed samples of k frames from frame q on
@@ -59,9 +67,7 @@ contextBefore g xs i = contextWith (getD (encodedAt g xs i .bytes) 0 0) (history
 
 -- and that after m of its samples
 abbrev pub contextWithin : Start → List ℤ → ℕ → ℕ → FrameContext
-contextWithin g xs i m =
-    let h = historyAfter (historyAt g xs i) (encodedAt g xs i .samples) m in
-    contextWith (getD (encodedAt g xs i .bytes) 0 0) h
+contextWithin g xs i m = encoding.contextWithin (historyAt g xs i) (encodedAt g xs i) m
 
 module _ (g : Start) (xs : List ℤ) where
   pub samples-length : (i : ℕ) → length (encodedAt g xs i .samples) ≡ 14

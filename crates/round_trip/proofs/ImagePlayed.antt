@@ -21,11 +21,11 @@ use Rattle.round_trip.proofs.FieldsReadBack as read
 use Rattle.round_trip.proofs.FramesPlayed.{Audible}
 use Rattle.round_trip.proofs.BlocksOfX.{blockSound, blocksSound, soundOf, block-played, all-blocks, frame-place}
 use Rattle.whole.specs.Outcome.{Outcome, accepted, Effect}
-use Rattle.image.specs.Reading.{coefficientsIn, offsetIn, lengthIn}
+use Rattle.image.specs.Reading.{coefficientsIn, offsetIn, lengthIn, contextIn}
 use Rattle.image.specs.Bodies.{bodyIn}
 use Rattle.image.specs.inner.Asked.{Found, Playable, AllPlayable}
 use Rattle.image.specs.Part.{touched, playFrom}
-use Rattle.image.specs.Playing.{contextIn, play}
+use Rattle.image.specs.Playing.{play}
 use Rattle.image.specs.Sameness.{blockSamples, samplesFrom, samplesIn}
 use Rattle.image.specs.WholeImage.{playAll}
 use Rattle.image.proofs.Joined.{samples-snoc}
@@ -34,7 +34,7 @@ use Rattle.image.proofs.LawsPlayed.{play-leaves, play-output, block-count}
 use Rattle.image.proofs.PartOfAll.{from-accepts, part-answered, part-output}
 use Rattle.image.proofs.Parts.{part-at}
 use Rattle.round_trip.proofs.LowestPair.{bounded-lowest}
-use Rattle.round_trip.proofs.ImageOpens.{image, total-is, block-is, blocks-are, coefficients-are, entry-made, context-is, image-made}
+use Rattle.round_trip.proofs.ImageOpens.{image, total-is, block-is, loops-are, frame-header, blocks-are, coefficients-are, entry-made, context-is, image-made}
 
 -- ---- X's image
 
@@ -76,7 +76,7 @@ module _ (g : Start) (F : Fine g) (xs : List ℤ) (rest : List ℕ) (A : Audible
       n ≤ length out → (play l k out .outcome ≡ accepted n) × (length (blockSamples l k) ≡ n) × (play l k out .left .samples ≡ blockSamples l k ++ drop n out))
   block-plays k out few room =
       let e = entry-made g F xs rest k few in
-      let f : Found l k = record { opens = image-made g F xs rest; block = rw (total-is g F xs rest, block-is g F xs rest) few } in
+      let f : Found l k = record { opens = image-made g F xs rest; block = rw (total-is g F xs rest, block-is g F xs rest, loops-are g F xs rest) few } in
       let p : Playable l k (length out) =
       record { found = f; pairs = pairs-heard; enough = rw (e .nibbles) room } in (
         ap (λ (v : Effect (Outcome ℕ) Playing). v .outcome) (sym (play-leaves l k out p)) ∙ ap (λ (n : ℕ). accepted (addressToSample n)) (e .nibbles),
@@ -105,6 +105,4 @@ module _ (g : Start) (F : Fine g) (xs : List ℤ) (rest : List ℕ) (A : Audible
 
   -- a frame's header byte in the image
   pub header-heard : (q : ℕ) → q < frameCount (g .total) → getD l (framePlace (startShape g) q) 0 ≡ getD (encodedAt g xs q .bytes) 0 0
-  header-heard q h =
-      let e : framePlace (startShape g) q ≡ bodiesPlace (startShape g) + (8 * q + 0) = omega arith in
-      ap (λ (i : ℕ). getD l i 0) e ∙ read.body-at g F xs (frameCount (g .total)) rest q 0 h (omega arith) (frame-place (g .total) q h)
+  header-heard q h = frame-header g F xs rest q h

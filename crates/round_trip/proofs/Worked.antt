@@ -18,10 +18,11 @@ use Rattle.block.specs.Sample.{decodeSample}
 use Rattle.whole.specs.Whole.{signedNibble, clamp}
 use Rattle.block.proofs.Worked.{to-sample, to-address, header}
 use Rattle.whole.specs.Outcome.{accepted}
+use Rattle.layout.specs.Limits.{loopOk}
 use Rattle.layout.specs.Sizes.{shape, lastSamples, blockCount, bodyBytes, imageSize, cutDown, blockOffset, blockLength}
-use Rattle.clip.specs.Image.{cut, coefficientBytes, headBytes, entryBytes, tableBytes}
+use Rattle.clip.specs.Image.{cut, coefficientBytes, headBytes, entryBytes, tableBytes, loopBytes}
 use Rattle.clip.specs.Encoding.{Left, startAnswer, start}
-use Rattle.clip.specs.Runs.{historyAt, encodedAt, bodies, contextAt, imageAfter, leftAfter, feeds, closes, plainAfter, stateAfter, passesUpTo}
+use Rattle.clip.specs.Runs.{historyAt, encodedAt, bodies, contextAt, imageAfter, leftAfter, feeds, closes, plainAfter, stateAfter, passesUpTo, loopEntry}
 use Rattle.clip.proofs.WholeRuns.{encoding-states}
 use Rattle.image.proofs.Worked.{plays}
 use Rattle.round_trip.specs.Numbers.{silence, ofNine, nine, heard, WorkedNumbers}
@@ -38,20 +39,20 @@ one-block b h =
     let hi : (8 * 1 + b - 1) / b < 2 = div-lt-iff-lt-mul {x = 8 * 1 + b - 1} {y = 2} z .1 (omega arith) in
     omega arith
 
-sizes-any : (b : ℕ) → 8 ≤ b → (imageSize (shape 1 b) ≡ 74) × (imageSize (shape 14 b) ≡ 80)
+sizes-any : (b : ℕ) → 8 ≤ b → (imageSize (shape 1 b 0) ≡ 74) × (imageSize (shape 14 b 0) ≡ 80)
 unfolding imageSize bodyBytes blockCount lastSamples frameCount
 sizes-any b h = let k = one-block b h in (omega (arith, k), omega (arith, k))
 
-sizes-are : (imageSize (shape 15 8) ≡ 98) × (imageSize (shape 15 16) ≡ 82)
+sizes-are : (imageSize (shape 15 8 0) ≡ 98) × (imageSize (shape 15 16 0) ≡ 82)
 unfolding imageSize bodyBytes blockCount lastSamples frameCount
 sizes-are = (refl, refl)
 
 started : (l : List ℕ) → 74 ≤ length l → start ofNine l .outcome ≡ accepted tt
-unfolding start startAnswer coefficientsOk pairsOk pairOk imageSize bodyBytes blockCount lastSamples frameCount cutDown
+unfolding start startAnswer loopOk coefficientsOk pairsOk pairOk imageSize bodyBytes blockCount lastSamples frameCount cutDown
 started l h = rw (le-ltb (length l) 74 h)
 
 image-is : imageAfter (cut ofNine) (pos 9 ∷ []) true ≡ nine
-unfolding imageAfter headBytes coefficientBytes tableBytes entryBytes contextAt bodies encodedAt historyAt frameAt cutDown blockOffset blockLength imageSize bodyBytes blockCount lastSamples frameCount
+unfolding imageAfter loopEntry loopBytes headBytes coefficientBytes tableBytes entryBytes contextAt bodies encodedAt historyAt frameAt cutDown blockOffset blockLength imageSize bodyBytes blockCount lastSamples frameCount
 image-is = rw (frames .3)
 
 pub worked : WorkedNumbers

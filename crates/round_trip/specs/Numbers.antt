@@ -11,7 +11,7 @@ use Rattle.block.specs.Address.{addressToSample, sampleToAddress}
 use Rattle.block.specs.Context.{predictor, scale, contextWith}
 use Rattle.block.specs.Play.{play}
 use Rattle.whole.specs.Whole.{signedNibble}
-use Rattle.layout.specs.Sizes.{shape, imageSize}
+use Rattle.layout.specs.Sizes.{shape, noLoop, imageSize}
 use Rattle.clip.specs.declared.starting.Start.{Start}
 use Rattle.clip.specs.Encoding.{start}
 use Rattle.clip.specs.Runs.{feeds, closes, after}
@@ -23,7 +23,7 @@ silence = record { newest = pos 0; older = pos 0 }
 
 -- what the clip of that sample 9 is started with: "gain 0, rate 32,000, size 15"
 abbrev pub ofNine : Start
-ofNine = record { total = 1; rate = 32000; block = 15; gain = 0; coefficients = replicate 16 (pos 0); history = silence }
+ofNine = record { total = 1; rate = 32000; block = 15; gain = 0; coefficients = replicate 16 (pos 0); history = silence; looped = noLoop }
 
 -- "That sample 9 as a clip"
 abbrev pub nine : List ℕ
@@ -50,8 +50,8 @@ pub record WorkedNumbers : Type 0 where
   -- "(played −8)", "(played 8)"
   pub playing : (heard 0x00 0x80 ≡ negsuc 7 ∷ []) × (heard 0x01 0x40 ≡ pos 8 ∷ [])
   -- "S: N = 1, 74; N = 14, 80", with any B of 8 bytes or more; "N = 15, 98 with B = 8, 82 with B = 16"
-  pub sizes-any : (b : ℕ) → 8 ≤ b → (imageSize (shape 1 b) ≡ 74) × (imageSize (shape 14 b) ≡ 80)
-  pub sizes : (imageSize (shape 15 8) ≡ 98) × (imageSize (shape 15 16) ≡ 82)
+  pub sizes-any : (b : ℕ) → 8 ≤ b → (imageSize (shape 1 b 0) ≡ 74) × (imageSize (shape 14 b 0) ≡ 80)
+  pub sizes : (imageSize (shape 15 8 0) ≡ 98) × (imageSize (shape 15 16 0) ≡ 82)
   -- the image of that sample 9, in any buffer that has room for it; and what is heard of it
   pub image : (l : List ℕ) → 74 ≤ length l → after (start ofNine l .left) (feeds (pos 9 ∷ []) ∷ closes ∷ []) .bytes ≡ nine ++ drop 74 l
   pub sound : samplesIn nine ≡ pos 8 ∷ []

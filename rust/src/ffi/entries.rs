@@ -1,19 +1,35 @@
-//! The six calls that test a table name the same entry, and beside it an answer is as a refused one; beside every other code there is no entry.
+//! The seven calls that test a table name the same entry, and beside it an answer is as a refused one; beside every other code there is no entry.
 
 use super::*;
 
 /// A verdict: the code, and the block whose entry is bad.
 type Verdict = (u32, u32);
 
-/// The closed image of a clip of silence, in blocks of 8 bytes.
-fn silence(total: u32) -> Vec<u8> {
-    let (coefficients, history) = (Coefficients([0; 16]), History { newest: 0, older: 0 });
-    let clip = Start { total, rate: 32_000, block_size: 8, gain: 0, coefficients, history };
-    let mut image = vec![0; image_size(total, 8) as usize];
+/// The closed image of a clip of silence, in blocks of 8 bytes, with a loop or without.
+fn silent(total: u32, looped: Option<Loop>) -> Vec<u8> {
+    let clip = Start {
+        total,
+        rate: 32_000,
+        block_size: 8,
+        gain: 0,
+        coefficients: Coefficients([0; 16]),
+        history: History::default(),
+        looped,
+    };
+    let mut image = vec![0; clip.image_size().unwrap()];
     let started = start(&clip, &mut image).encoder;
     let fed = feed(started, &vec![0; total as usize], &mut image).encoder;
     assert_eq!(close(fed, &mut image).code, 0);
     image
+}
+
+fn silence(total: u32) -> Vec<u8> {
+    silent(total, None)
+}
+
+/// Fifteen samples with a loop in the last of them: the loop's entry stands at 88, bodies at 104 and 112.
+fn looped_silence() -> Vec<u8> {
+    silent(15, Some(Loop { start: 14, end: 15 }))
 }
 
 /// The image with the lowest bit of each of these bytes turned over.
@@ -26,11 +42,12 @@ fn altered(image: &[u8], places: &[usize]) -> Vec<u8> {
 }
 
 fn opening_says(image: &[u8]) -> Verdict {
-    let Opening { code, entry, head } = open(image);
+    let Opening { code, entry, head, looped, loop_context } = open(image);
     if code != 0 {
         let coefficients = Coefficients([0; 16]);
         let none = Head { total: 0, rate: 0, block: 0, gain: 0, coefficients, blocks: 0 };
         assert_eq!(head, none);
+        assert_eq!((looped, loop_context), (LoopState::default(), FrameContext::default()));
     }
     (code, entry)
 }
@@ -65,6 +82,17 @@ fn part_says(image: &[u8], first: u32, room: usize) -> Verdict {
     (code, entry)
 }
 
+/// What playing the loop says: a refused call writes nothing.
+fn turns_say(image: &[u8], times: u32, room: usize) -> Verdict {
+    let mut out = vec![0x5a5a; room];
+    let Turns { code, entry, samples } = play_loop(image, times, &mut out);
+    if code != 0 {
+        assert_eq!(samples, 0);
+        assert!(out.iter().all(|sample| *sample == 0x5a5a));
+    }
+    (code, entry)
+}
+
 fn comparison_says(first: &[u8], second: &[u8]) -> Verdict {
     let Comparison { code, entry, same } = same(first, second);
     assert!(code == 0 || !same);
@@ -86,6 +114,9 @@ fn verdict(damaged: &[u8], whole: &[u8]) -> Verdict {
         assert_eq!(playback_says(room, |out| play_all(damaged, out)), verdict);
         for first in [0, 14, 100, u32::MAX] {
             assert_eq!(part_says(damaged, first, room), verdict);
+        }
+        for times in [0, 1, u32::MAX] {
+            assert_eq!(turns_say(damaged, times, room), verdict);
         }
     }
     assert_eq!(comparison_says(damaged, whole), verdict);
@@ -132,8 +163,39 @@ fn every_pair_of_bytes_of_the_table() {
 }
 
 #[test]
+fn a_bad_loop_is_told_by_every_call_and_is_no_blocks() {
+    let whole = looped_silence();
+    assert_eq!((whole.len(), opening_says(&whole)), (114, (0, 0)));
+    for places in [&[91][..], &[88], &[95], &[96], &[97], &[102], &[103], &[91, 103]] {
+        assert_eq!(verdict(&altered(&whole, places), &whole), (24, 0), "{places:?}");
+    }
+    for (places, expected) in [
+        (&[103, 51][..], (20, 0)),
+        (&[103, 50], (15, 0)),
+        (&[103, 59], (20, 0)),
+        (&[103, 87], (21, 1)),
+        (&[97, 81], (22, 1)),
+        (&[112], (22, 1)),
+    ] {
+        assert_eq!(verdict(&altered(&whole, places), &whole), expected, "{places:?}");
+    }
+}
+
+#[test]
+fn the_loop_is_told_by_opening() {
+    let Opening { code, looped, loop_context, .. } = open(&looped_silence());
+    let expected = LoopState { start: 14, end: 15, present: true };
+    assert_eq!((code, looped, loop_context), (0, expected, FrameContext::default()));
+    let opening = open(&silence(15));
+    assert_eq!((opening.code, opening.looped), (0, LoopState::default()));
+    assert_eq!(opening.loop_context, FrameContext::default());
+}
+
+#[test]
 fn beside_an_accepted_call_there_is_none() {
     let whole = silence(15);
+    assert_eq!(turns_say(&whole, 1, 0), (0, 0));
+    assert_eq!(turns_say(&looped_silence(), 3, 3), (0, 0));
     assert_eq!(opening_says(&whole), (0, 0));
     assert_eq!(body_says(&whole, 1), (0, 0));
     assert_eq!(playback_says(14, |out| play(&whole, 1, out)), (0, 0));
@@ -153,6 +215,7 @@ fn beside_13_there_is_none() {
     assert_eq!(playback_says(14, |out| play(&lowest, 1, out)), (13, 0));
     assert_eq!(playback_says(15, |out| play_all(&lowest, out)), (13, 0));
     assert_eq!(part_says(&lowest, 13, 9), (13, 0));
+    assert_eq!(turns_say(&lowest, 0, 9), (13, 0));
     assert_eq!(comparison_says(&lowest, &altered(&whole, &[79])), (13, 0));
     assert_eq!(comparison_says(&altered(&whole, &[79]), &lowest), (21, 1));
     assert_eq!(comparison_says(&whole, &lowest), (13, 0));
@@ -175,5 +238,25 @@ fn playing_a_part_tests_in_sequence() {
         verdicts.push(part_says(&image, first, room));
         let last = if first < 15 { (0, 0) } else { (19, 0) };
         assert_eq!(verdicts, [(15, 0), (20, 0), (21, 1), (22, 1), (13, 0), last]);
+    }
+}
+
+/// Everything wrong at once, and mended in turn: the head, entries, a body, the loop, the lowest pair, the room.
+#[test]
+fn playing_the_loop_tests_in_sequence() {
+    let whole = looped_silence();
+    for times in [0, 1, 3, u32::MAX] {
+        let mut image = altered(&whole, &[55, 59, 79, 112, 103]);
+        image[16..20].copy_from_slice(&[0x80, 0, 0x80, 0]);
+        let mut verdicts = vec![];
+        for place in [55, 59, 79, 112, 103] {
+            verdicts.push(turns_say(&image, times, 0));
+            image[place] ^= 1;
+        }
+        verdicts.push(turns_say(&image, times, 0));
+        image[16..20].copy_from_slice(&whole[16..20]);
+        verdicts.push(turns_say(&image, times, 0));
+        let last = if times == 0 { (0, 0) } else { (14, 0) };
+        assert_eq!(verdicts, [(15, 0), (20, 0), (21, 1), (22, 1), (24, 0), (13, 0), last]);
     }
 }

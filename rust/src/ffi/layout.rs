@@ -8,11 +8,21 @@ use std::mem::{offset_of, size_of};
 use std::path::Path;
 use std::process::Command;
 
+/// The name of a field in C.
+macro_rules! name_in_c {
+    (looped) => {
+        "loop"
+    };
+    ($field:ident) => {
+        stringify!($field)
+    };
+}
+
 /// Writes a struct's size and its fields' offsets, as layout.c does.
 macro_rules! layout {
     ($text:ident, $name:literal, $type:ty, $($field:ident),+) => {
         writeln!($text, "{} {}", $name, size_of::<$type>()).unwrap();
-        $(writeln!($text, "{}.{} {}", $name, stringify!($field), offset_of!($type, $field)).unwrap();)+
+        $(writeln!($text, "{}.{} {}", $name, name_in_c!($field), offset_of!($type, $field)).unwrap();)+
     };
 }
 
@@ -20,6 +30,8 @@ fn rust_layouts() -> String {
     let mut text = String::new();
     layout!(text, "history", History, newest, older);
     layout!(text, "calculator", Calculator, samples, records, history);
+    layout!(text, "context", FrameContext, predictor_and_scale, last_samples);
+    layout!(text, "loop", LoopState, start, end, present);
     layout!(
         text,
         "encoder",
@@ -33,18 +45,20 @@ fn rust_layouts() -> String {
         history,
         frame,
         passes,
-        closed
+        closed,
+        looped,
+        loop_context
     );
-    layout!(text, "context", FrameContext, predictor_and_scale, last_samples);
     layout!(text, "head", Head, total, rate, block, gain, coefficients, blocks);
     layout!(text, "processed", Processed, code, calculator);
     layout!(text, "finished", Finished, code, coefficients, calculator);
     layout!(text, "frame", Frame, code, bytes, passes, history);
     layout!(text, "encoding", Encoding, code, encoder);
-    layout!(text, "opening", Opening, code, entry, head);
+    layout!(text, "opening", Opening, code, entry, head, looped, loop_context);
     layout!(text, "body", Body, code, entry, offset, bytes, nibbles, context);
     layout!(text, "playback", Playback, code, entry, samples, context);
     layout!(text, "part", Part, code, entry, samples, blocks);
+    layout!(text, "turns", Turns, code, entry, samples);
     layout!(text, "comparison", Comparison, code, entry, same);
     layout!(text, "joining", Joining, code, nibbles);
     text

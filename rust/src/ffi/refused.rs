@@ -14,6 +14,7 @@ fn started() -> (EncoderState, Vec<u8>) {
         gain: 5,
         coefficients: COEFFICIENTS,
         history: HISTORY,
+        looped: None,
     };
     let mut image = vec![0; image_size(20, 8) as usize];
     let encoding = start(&clip, &mut image);
@@ -49,6 +50,7 @@ fn a_start_gives_the_state_of_no_clip() {
         gain: 5,
         coefficients: state.coefficients,
         history: HISTORY,
+        looped: None,
     };
     let encoding = start(&clip, &mut image);
     let none = EncoderState {
@@ -62,8 +64,13 @@ fn a_start_gives_the_state_of_no_clip() {
         frame: [0; 14],
         passes: 0,
         closed: false,
+        looped: LoopState::default(),
+        loop_context: FrameContext::default(),
     };
     assert_eq!((encoding.code, encoding.encoder), (5, none));
+    let looped = Some(Loop { start: 3, end: 3 });
+    let encoding = start(&Start { rate: 1, looped, ..clip }, &mut image);
+    assert_eq!((encoding.code, encoding.encoder), (23, none));
     assert_eq!(feed(none, &[], &mut image).code, 1);
     assert_eq!(close(none, &mut image).code, 1);
 }
@@ -84,6 +91,8 @@ fn reading_gives_zeros() {
     let opening = open(&image);
     let none = Head { total: 0, rate: 0, block: 0, gain: 0, coefficients: COEFFICIENTS, blocks: 0 };
     assert_eq!((opening.code, opening.entry, opening.head), (15, 0, none));
+    assert_eq!(opening.looped, LoopState::default());
+    assert_eq!(opening.loop_context, FrameContext::default());
     let fed = feed(state, &[100; 20], &mut image).encoder;
     assert_eq!(close(fed, &mut image).code, 0);
     let body = block_body(&image, 2);
@@ -96,6 +105,8 @@ fn reading_gives_zeros() {
     }
     let part = play_from(&image, 20, &mut [0; 9]);
     assert_eq!((part.code, part.entry, part.samples, part.blocks), (19, 0, 0, 0));
+    let turns = play_loop(&[], 3, &mut [0; 9]);
+    assert_eq!((turns.code, turns.entry, turns.samples), (15, 0, 0));
     let comparison = same(&image, &[]);
     assert_eq!((comparison.code, comparison.entry, comparison.same), (15, 0, false));
 }

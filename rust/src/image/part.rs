@@ -33,8 +33,15 @@ impl Image<'_> {
     /// ```
     /// use doilycairn::{Coefficients, Encoder, History, Image, Part, Refusal, Start};
     ///
-    /// let (coefficients, history) = (Coefficients([0; 16]), History::default());
-    /// let start = Start { total: 20, rate: 32_000, block_size: 8, gain: 0, coefficients, history };
+    /// let start = Start {
+    ///     total: 20,
+    ///     rate: 32_000,
+    ///     block_size: 8,
+    ///     gain: 0,
+    ///     coefficients: Coefficients([0; 16]),
+    ///     history: History::default(),
+    ///     looped: None,
+    /// };
     /// let mut encoder = Encoder::start(&start)?;
     /// encoder.feed(&[0, 1, 2, 3, 4, 5, 6, 7, 6, 5, 4, 3, 2, 1, 0, 1, 2, 3, 4, 5])?;
     /// encoder.close()?;

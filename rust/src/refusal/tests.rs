@@ -14,7 +14,7 @@ fn each_number_gives_its_refusal_and_no_other_does() {
         let listed = Refusal::NUMBERS.contains(&number).then_some(number);
         assert_eq!(Refusal::from_number(number, 7).map(Refusal::number), listed);
     }
-    for unused in [0, 16, 23, u32::MAX] {
+    for unused in [0, 16, 25, u32::MAX] {
         assert_eq!(Refusal::from_number(unused, 0), None);
     }
 }
@@ -45,6 +45,8 @@ fn a_code_and_an_entry_are_checked() {
     assert_eq!(Refusal::check(20, 0), Err(Refusal::BadOffset { block: 0 }));
     assert_eq!(Refusal::check(21, 1), Err(Refusal::BadLength { block: 1 }));
     assert_eq!(Refusal::check(22, 1_048_575), Err(Refusal::BadHeader { block: 1_048_575 }));
+    assert_eq!(Refusal::check(23, 0), Err(Refusal::LoopOutside));
+    assert_eq!(Refusal::check(24, 0), Err(Refusal::BadLoop));
 }
 
 #[test]
@@ -73,6 +75,14 @@ fn words_name_the_number_and_the_block() {
         (
             Refusal::BadHeader { block: 1_048_575 },
             "block 1048575: the entry's predictor-and-scale is not the body's first byte (refusal 22)",
+        ),
+        (
+            Refusal::LoopOutside,
+            "the loop's start is not below its end, or its end is above the sample count (refusal 23)",
+        ),
+        (
+            Refusal::BadLoop,
+            "the loop's entry is wrong: its start or end, its header or its zero bytes (refusal 24)",
         ),
     ] {
         assert_eq!(refusal.to_string(), words);

@@ -1,8 +1,8 @@
 //! What the calls do with states and buffers that do not belong together, and with altered states that pass the test of code 1.
 
-use crate::clips::{Random, encode_from, noise, start_of, tone};
+use crate::clips::{Random, encode_from, noise, start_of, tone, with_loop};
 use doilycairn::{
-    Calculator, Coefficients, Encoder, EncoderState, Image, Refusal, Start, image_size,
+    Calculator, Coefficients, Encoder, EncoderState, Image, Loop, Refusal, Start, image_size,
 };
 
 /// A clip of 100 samples, its start, and the state and buffer after 50.
@@ -32,6 +32,30 @@ fn a_state_with_another_history_encodes_other_frames() {
     state.feed(&clip[50..], &mut image).unwrap().close(&mut image).unwrap();
     assert!(Image::open(&image).is_ok());
     assert_ne!(image, encode_from(&start, &clip));
+}
+
+/// Closes a clip of 100 samples with a loop, its state altered before.
+fn closed_with(alter: impl FnOnce(&mut EncoderState)) -> Vec<u8> {
+    let clip = tone(100);
+    let mut encoder = Encoder::start(&with_loop(start_of(&clip, 16), (40, 90))).unwrap();
+    encoder.feed(&clip).unwrap();
+    let (mut state, mut image) = encoder.into_parts();
+    alter(&mut state);
+    state.close(&mut image).unwrap();
+    image
+}
+
+#[test]
+fn a_state_with_another_loop_or_context_closes_to_what_it_says() {
+    let image = closed_with(|state| state.loop_context.last_samples = [7, -7]);
+    assert_eq!(Image::open(&image).unwrap().loop_context().unwrap().last_samples, [7, -7]);
+    let image = closed_with(|state| state.looped.end = 50);
+    assert_eq!(Image::open(&image).unwrap().looped(), Some(Loop { start: 40, end: 50 }));
+    let image = closed_with(|state| state.loop_context.predictor_and_scale ^= 0x100);
+    assert_eq!(Image::open(&image).unwrap_err(), Refusal::BadLoop);
+    // With none the frame that closing encodes goes 16 bytes before its place.
+    let image = closed_with(|state| state.looped.present = false);
+    assert_ne!(image, closed_with(|_| {}));
 }
 
 #[test]

@@ -1,6 +1,6 @@
 //! Clips to test with.
 
-use doilycairn::{Coefficients, Encoder, History, Start};
+use doilycairn::{Coefficients, Encoder, History, Loop, Start};
 
 /// Pseudo-random numbers.
 pub struct Random(pub u64);
@@ -49,7 +49,18 @@ pub fn start_of(clip: &[i16], block_size: u32) -> Start {
         gain: 7,
         coefficients: Coefficients::measure(clip).unwrap(),
         history: History { newest: 100, older: -200 },
+        looped: None,
     }
+}
+
+/// The same start with a loop.
+pub fn with_loop(start: Start, (loop_start, loop_end): (u32, u32)) -> Start {
+    Start { looped: Some(Loop { start: loop_start, end: loop_end }), ..start }
+}
+
+/// Every loop of a clip of so many samples.
+pub fn every_loop(total: u32) -> impl Iterator<Item = (u32, u32)> {
+    (0..total).flat_map(move |start| (start + 1..=total).map(move |end| (start, end)))
 }
 
 /// The closed image of a clip, fed in one piece.

@@ -1,6 +1,6 @@
 //! What docs/EDITOR.md says of a sound editor's screens.
 
-use crate::clips::{encode, encode_from, noise, start_of, tone};
+use crate::clips::{encode, encode_from, every_loop, noise, start_of, tone, with_loop};
 use doilycairn::{
     Block, Encoder, Image, Refusal, Start, address_to_sample, image_size, join, same,
 };
@@ -73,7 +73,8 @@ fn the_peak_of_a_largest_block() {
 
 /// The bytes of all bodies.
 fn bodies(bytes: &[u8]) -> &[u8] {
-    &bytes[56 + 16 * Image::open(bytes).unwrap().head().blocks as usize..]
+    let image = Image::open(bytes).unwrap();
+    &bytes[56 + 16 * (image.head().blocks as usize + usize::from(image.looped().is_some()))..]
 }
 
 #[test]
@@ -150,7 +151,7 @@ fn a_loop_repeats_what_was_heard() {
     let bytes = encode(&noise(60, 9000, 6), 16);
     let image = Image::open(&bytes).unwrap();
     let whole = image.play().unwrap();
-    for (start, end) in (0..60).flat_map(|start| (start + 1..=60).map(move |end| (start, end))) {
+    for (start, end) in every_loop(60) {
         let rounds = whole[start as usize..end as usize].iter().cycle();
         let heard = whole[..end as usize].iter().chain(rounds);
         for room in [1, 7, 28, 200] {
@@ -161,6 +162,28 @@ fn a_loop_repeats_what_was_heard() {
             assert!(heard.clone().take(200).eq(&played), "{start} {end} {room}");
         }
     }
+}
+
+#[test]
+fn a_stored_loop_repeats_what_was_heard() {
+    let clip = noise(60, 9000, 6);
+    for (start, end) in every_loop(60) {
+        let bytes = encode_from(&with_loop(start_of(&clip, 16), (start, end)), &clip);
+        let image = Image::open(&bytes).unwrap();
+        let whole = image.play().unwrap();
+        let (before, looped) = whole[..end as usize].split_at(start as usize);
+        for turns in [0, 1, 3] {
+            let heard = [before, &looped.repeat(turns)].concat();
+            assert_eq!(loop_example::heard(&image, turns as u32), Ok(heard), "{start} {end}");
+        }
+    }
+}
+
+#[test]
+fn of_a_clip_without_a_loop_all_is_heard() {
+    let bytes = encode(&noise(60, 9000, 6), 16);
+    let image = Image::open(&bytes).unwrap();
+    assert_eq!(loop_example::heard(&image, 3), image.play());
 }
 
 #[test]

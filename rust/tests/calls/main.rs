@@ -9,6 +9,8 @@ mod damage;
 mod editor;
 mod entries;
 mod lists;
+mod loop_entries;
+mod loops;
 mod older_banks;
 mod parts;
 mod reading;

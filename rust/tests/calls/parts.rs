@@ -107,8 +107,15 @@ fn the_worked_table_of_three_blocks() {
 fn ramp() -> Vec<u8> {
     let mut coefficients = Coefficients([0; 16]);
     coefficients.0[0] = 2048;
-    let history = History { newest: 1000, older: 990 };
-    let start = Start { total: 20, rate: 32_000, block_size: 8, gain: 0, coefficients, history };
+    let start = Start {
+        total: 20,
+        rate: 32_000,
+        block_size: 8,
+        gain: 0,
+        coefficients,
+        history: History { newest: 1000, older: 990 },
+        looped: None,
+    };
     let clip: Vec<i16> = (0..20).map(|i| 1000 + 6 * i).collect();
     encode_from(&start, &clip)
 }

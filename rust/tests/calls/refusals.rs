@@ -1,7 +1,7 @@
 //! Every refusal by its number, in the documents' sequence, with nothing written.
 
 use crate::banks::one_pair;
-use crate::clips::{encode, start_of, tone};
+use crate::clips::{encode, encode_from, start_of, tone, with_loop};
 use doilycairn::*;
 
 /// A refused call leaves a buffer as it was: runs it on a buffer that is not blank, and gives its refusal.
@@ -175,11 +175,74 @@ fn numbers_4_to_8() {
     }
 }
 
+/// Loops that a clip of 20 samples cannot have.
+const OUTSIDE_LOOPS: [(u32, u32); 9] = [
+    (0, 0),
+    (3, 3),
+    (4, 3),
+    (20, 20),
+    (0, 21),
+    (20, 21),
+    (19, u32::MAX),
+    (u32::MAX, 0),
+    (u32::MAX, u32::MAX),
+];
+
+#[test]
+fn number_23() {
+    for outside in OUTSIDE_LOOPS {
+        let bad = with_loop(start(), outside);
+        for room in [0, SIZE, SIZE + 16] {
+            assert_eq!(untouched(room, 0x5a, |image| EncoderState::start(&bad, image)), 23);
+        }
+        assert_eq!(Encoder::start(&bad).err(), Some(Refusal::LoopOutside));
+    }
+    for within in [(0, 1), (0, 20), (19, 20), (13, 14), (14, 15)] {
+        assert!(Encoder::start(&with_loop(start(), within)).is_ok());
+    }
+}
+
+#[test]
+fn number_1_with_a_loop() {
+    let mut encoder = Encoder::start(&with_loop(start(), (5, 17))).unwrap();
+    encoder.feed(&tone(20)).unwrap();
+    let state = encoder.state();
+    for (start, end) in OUTSIDE_LOOPS {
+        let looped = LoopState { start, end, present: true };
+        let bad = EncoderState { looped, ..state };
+        for room in [0, SIZE + 16] {
+            assert_eq!(untouched(room, 0x5a, |image| bad.feed(&[], image)), 1);
+            assert_eq!(untouched(room, 0x5a, |image| bad.close(image)), 1);
+        }
+        // Without a loop start and end are not looked at.
+        let none = EncoderState { looped: LoopState { present: false, ..looped }, ..state };
+        assert!(none.feed(&[], &mut [0; SIZE]).is_ok());
+        assert!(none.close(&mut [0; SIZE]).is_ok());
+    }
+}
+
+#[test]
+fn number_8_with_a_loop() {
+    let start = with_loop(start(), (5, 17));
+    let (begun, mut image) = Encoder::start(&start).unwrap().into_parts();
+    let full = begun.feed(&tone(20), &mut image).unwrap();
+    let closed = full.close(&mut image).unwrap();
+    for room in [0, 4, SIZE, SIZE + 15] {
+        assert_eq!(untouched(room, 0x5a, |image| EncoderState::start(&start, image)), 8);
+        for state in [begun, full, closed] {
+            assert_eq!(untouched(room, 0x5a, |image| state.feed(&[1; 99], image)), 8);
+            assert_eq!(untouched(room, 0x5a, |image| state.close(image)), 8);
+        }
+    }
+    assert!(full.close(&mut [0; SIZE + 16]).is_ok());
+}
+
 #[test]
 fn starting_tests_in_sequence() {
     let good = start();
     let coefficients = one_pair(3, (32_767, -28_674));
-    let mut bad = Start { total: 0, rate: 0, block_size: 7, coefficients, ..good };
+    let looped = Some(Loop { start: 0, end: 21 });
+    let mut bad = Start { total: 0, rate: 0, block_size: 7, coefficients, looped, ..good };
     let number = |bad: &Start| EncoderState::start(bad, &mut [0; 9]).unwrap_err().number();
     assert_eq!(number(&bad), 4);
     bad.total = good.total;
@@ -189,6 +252,10 @@ fn starting_tests_in_sequence() {
     bad.block_size = good.block_size;
     assert_eq!(number(&bad), 7);
     bad.coefficients = good.coefficients;
+    assert_eq!(number(&bad), 23);
+    bad.looped = Some(Loop { start: 0, end: 20 });
+    assert_eq!(number(&bad), 8);
+    bad.looped = None;
     assert_eq!(number(&bad), 8);
 }
 
@@ -249,6 +316,9 @@ fn number_13() {
             assert_eq!(image.play_from(first, &mut []), Err(Refusal::LowestPair));
             assert_eq!(image.part(first..first), Err(Refusal::LowestPair));
         }
+        for times in [0, 1, u32::MAX] {
+            assert_eq!(untouched(9, 0x5a5a, |out| image.play_loop_into(times, out)), 13);
+        }
         assert_eq!(image.same(&image), Err(Refusal::LowestPair));
         assert!(image.block(1).is_ok());
     }
@@ -290,6 +360,32 @@ fn numbers_15_20_21_22_and_17() {
         assert_eq!(image.block(k), Err(Refusal::NoSuchBlock));
         assert_eq!(untouched(28, 0x5a5a, |out| image.play_block(k, out)), 17);
         assert_eq!(image.play_block(k, &mut []), Err(Refusal::NoSuchBlock));
+    }
+}
+
+/// The loop has six samples; the needed ones are counted in 64 bits.
+#[test]
+fn number_14_with_a_loop() {
+    let bytes = encode_from(&with_loop(start_of(&tone(50), 16), (25, 31)), &tone(50));
+    let image = Image::open(&bytes).unwrap();
+    for (times, room) in (1..5).flat_map(|times| (0..6 * times).map(move |room| (times, room))) {
+        let play = |out: &mut [i16]| image.play_loop_into(times as u32, out);
+        assert_eq!(untouched(room, 0x5a5a, play), 14);
+    }
+    for times in [1 << 31, u32::MAX / 6 + 1, u32::MAX / 3 + 1, u32::MAX] {
+        assert_eq!(untouched(30, 0x5a5a, |out| image.play_loop_into(times, out)), 14);
+    }
+    assert_eq!(image.play_loop_into(0, &mut []), Ok(0));
+}
+
+#[test]
+fn number_24() {
+    let bytes = encode_from(&with_loop(start_of(&tone(50), 16), (25, 31)), &tone(50));
+    for place in [8, 9, 14, 15] {
+        let mut damaged = bytes.clone();
+        damaged[56 + 2 * 16 + place] ^= 1;
+        let why = Image::open(&damaged).unwrap_err();
+        assert_eq!((why, why.number(), why.block()), (Refusal::BadLoop, 24, None));
     }
 }
 

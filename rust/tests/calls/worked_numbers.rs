@@ -63,6 +63,7 @@ fn the_sample_9_as_a_clip() {
         gain: 0,
         coefficients: Coefficients::default(),
         history: History::default(),
+        looped: None,
     };
     let mut encoder = Encoder::start(&start).unwrap();
     encoder.feed(&[9]).unwrap();

@@ -50,9 +50,14 @@ impl Part {
         }
     }
 
+    /// How many of its samples are played at once, at most.
+    pub fn at_once(self) -> u32 {
+        self.count.min(PIECE)
+    }
+
     /// Room for each of its pieces.
     pub fn room(self) -> Result<Vec<i16>, Failure> {
-        memory::zeros(self.count.min(PIECE) as usize)
+        memory::zeros(self.at_once() as usize)
     }
 
     /// Plays it, a piece at a time, and tells how many blocks were touched.

@@ -39,6 +39,8 @@ impl Panel {
 
 pub struct Layout {
     total: f64,
+    /// Whether the largest jump has its label above the waveform.
+    jump: bool,
     pub wave: Panel,
     pub distance: Option<Panel>,
     pub exponent: Panel,
@@ -50,7 +52,9 @@ impl Layout {
     pub fn new(seen: &Seen, lines: usize) -> Self {
         let compared = seen.distance.is_some();
         let above = WORDS + LINE * lines as f64;
-        let top = above + if seen.odd.is_some() { 8.0 } else { -4.0 };
+        let jump = seen.odd.is_some();
+        let room = if seen.looped.is_some() { STRIP } else { 0.0 };
+        let top = above + room + if jump { 8.0 } else { -4.0 };
         let wave = Panel { top, height: if compared { 220.0 } else { 280.0 } };
         let clicks = seen.seams.largest.is_some();
         let distance = compared.then(|| wave.below(clicks, 60.0));
@@ -58,7 +62,12 @@ impl Layout {
         let labelled = if compared { far.is_some_and(|far| far.size > 0) } else { clicks };
         let exponent = distance.unwrap_or(wave).below(labelled, 78.0);
         let predictor = exponent.below(false, 96.0);
-        Self { total: seen.head.total.into(), wave, distance, exponent, predictor }
+        Self { total: seen.head.total.into(), jump, wave, distance, exponent, predictor }
+    }
+
+    /// The line of words for the loop: above the waveform, and above the jump's.
+    pub fn loop_line(&self) -> f64 {
+        self.wave.top - if self.jump { 3.0 + LINE } else { 3.0 }
     }
 
     /// Where a sample begins; half a sample on is its middle.

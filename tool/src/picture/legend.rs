@@ -2,6 +2,7 @@
 
 use super::frames::{EXPONENT, GROUND, PREDICTORS};
 use super::layout::{LEFT, Layout, RIGHT};
+use super::looped::LOOP;
 use super::marks::{CLICK, EDGE, JUMP};
 use super::path::Path;
 use super::samples::{DISTANCE, PEAKS, WAVE};
@@ -43,8 +44,9 @@ fn items(seen: &Seen) -> [Vec<Item>; 2] {
     items.push(item(EXPONENT, 1.0, "exponent of a frame"));
     items.push(item(GROUND, 1.0, "below the smallest exponent"));
     items.extend((seen.head.blocks > 1).then(|| item(EDGE, 1.0, "edge of a block")));
+    items.extend(seen.looped.map(|_| item(LOOP, 1.0, "loop")));
     items.extend(seen.odd.map(|_| item(JUMP, 1.0, "jump that stands out")));
-    items.extend(seen.seams.largest.map(|_| item(CLICK, 1.0, "click")));
+    items.extend(seen.clicks().then(|| item(CLICK, 1.0, "click")));
     [items, predictors(seen)]
 }
 

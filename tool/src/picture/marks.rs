@@ -1,6 +1,7 @@
-//! What is marked across the panels: edges of blocks, the largest jump, histories that are off, the axes below.
+//! What is marked across the panels: edges of blocks, the loop, the largest jump, histories that are off, the axes below.
 
 use super::layout::{LEFT, Layout, RIGHT};
+use super::looped;
 use super::path::Path;
 use super::seen::{Seen, step};
 use super::svg::{Anchor, Svg};
@@ -14,6 +15,7 @@ pub const CLICK: &str = "#c1121f";
 
 pub fn all(svg: &mut Svg, layout: &Layout, seen: &Seen) -> io::Result<()> {
     edges(svg, layout, seen)?;
+    looped::marks(svg, layout, seen)?;
     jump(svg, layout, seen)?;
     seams(svg, layout, seen)?;
     furthest(svg, layout, seen)?;
@@ -34,7 +36,7 @@ fn edges(svg: &mut Svg, layout: &Layout, seen: &Seen) -> io::Result<()> {
 }
 
 /// A label beside a mark, on the side that has more room.
-fn label(svg: &mut Svg, x: f64, y: f64, colour: &str, text: &str) -> io::Result<()> {
+pub fn label(svg: &mut Svg, x: f64, y: f64, colour: &str, text: &str) -> io::Result<()> {
     let left = x < (LEFT + RIGHT) / 2.0;
     let (x, anchor) = if left { (x + 8.0, Anchor::Start) } else { (x - 8.0, Anchor::End) };
     svg.styled(x, y, anchor, text, &format!(r#"fill="{colour}" font-weight="bold""#))

@@ -4,7 +4,7 @@ use super::layout::{LEFT, Layout, RIGHT};
 use super::path::Path;
 use super::seen::Seen;
 use super::svg::{Anchor, Svg};
-use super::{frames, samples};
+use super::{frames, looped, samples};
 use std::io;
 
 pub fn all(svg: &mut Svg, layout: &Layout, seen: &Seen) -> io::Result<()> {
@@ -13,6 +13,7 @@ pub fn all(svg: &mut Svg, layout: &Layout, seen: &Seen) -> io::Result<()> {
         panels.area(LEFT, panel.top, RIGHT - LEFT, panel.height);
     }
     svg.fill("panel", &panels, "#ffffff", 1.0)?;
+    looped::shade(svg, layout, seen)?;
     samples::wave(svg, layout, seen)?;
     if let Some(panel) = layout.distance {
         samples::distance(svg, layout, panel, seen)?;

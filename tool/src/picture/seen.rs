@@ -1,5 +1,6 @@
 //! What the picture shows.
 
+use crate::loops::Looped;
 use doilycairn::Head;
 
 /// The most columns that samples and frames are gathered in.
@@ -78,6 +79,7 @@ pub struct Seen {
     /// The largest that stands out: from the reference, or else from what is around it.
     pub odd: Option<Peak>,
     pub seams: Seams,
+    pub looped: Option<Looped>,
     pub distance: Option<Distance>,
 }
 
@@ -112,6 +114,11 @@ impl Seen {
     pub fn cell_start(&self, c: usize) -> u32 {
         let frame = (c as u64 * u64::from(self.frames)).div_ceil(self.cells.len() as u64) as u32;
         (14 * frame).min(self.head.total)
+    }
+
+    /// Whether a click is marked.
+    pub fn clicks(&self) -> bool {
+        self.seams.largest.is_some() || self.looped.is_some_and(|looped| looped.off().is_some())
     }
 
     /// Samples in a block that is not the last.

@@ -1,5 +1,6 @@
 //! Tests of the picture: well-formed and complete.
 
+mod loops;
 mod marks;
 
 use super::layout::{LEFT, RIGHT};
@@ -7,7 +8,7 @@ use super::path::units;
 use super::seen::COLUMNS;
 use super::xml::{self, Element};
 use super::{draw, walk::walk, words};
-use doilycairn::{Coefficients, Encoder, History, Image, Start};
+use doilycairn::{Coefficients, Encoder, History, Image, Loop, Start};
 
 /// Pseudo-random samples within 16 bits that become louder.
 fn noise(count: u32) -> Vec<i16> {
@@ -21,6 +22,10 @@ fn noise(count: u32) -> Vec<i16> {
 }
 
 fn encode(clip: &[i16], block_size: u32) -> Vec<u8> {
+    encode_with(clip, block_size, None)
+}
+
+fn encode_with(clip: &[i16], block_size: u32, looped: Option<Loop>) -> Vec<u8> {
     let start = Start {
         total: clip.len() as u32,
         rate: 32_000,
@@ -28,6 +33,7 @@ fn encode(clip: &[i16], block_size: u32) -> Vec<u8> {
         gain: 0,
         coefficients: Coefficients::measure(clip).unwrap(),
         history: History::default(),
+        looped,
     };
     let mut encoder = Encoder::start(&start).unwrap();
     encoder.feed(clip).unwrap();

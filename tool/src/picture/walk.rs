@@ -2,6 +2,7 @@
 
 use super::jumps::{Around, Beside};
 use super::seen::{COLUMNS, Cell, Column, Distance, Peak, Seams, Seen, bound};
+use crate::loops::Looped;
 use crate::seams::off;
 use doilycairn::{Block, Image, Refusal};
 
@@ -55,7 +56,9 @@ impl<'a> Walk<'a> {
         let seams = Seams { columns: vec![false; columns.len()], ..Seams::default() };
         let reference_len = reference.len();
         let distance = compared.then_some(Distance { largest: None, exponent: 0, reference_len });
-        let seen = Seen { head, frames, columns, cells, jump: None, odd: None, seams, distance };
+        let looped = Looped::of(image);
+        let (jump, odd) = (None, None);
+        let seen = Seen { head, frames, columns, cells, jump, odd, seams, looped, distance };
         let (around, beside) = (Around::default(), Beside::default());
         Self { seen, reference, at: 0, last: None, ended: None, played: vec![], around, beside }
     }

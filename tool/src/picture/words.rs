@@ -3,6 +3,7 @@
 use super::layout::{LEFT, LINE, WORDS};
 use super::seen::{Distance, Seen, bound};
 use super::svg::{Anchor, Svg};
+use crate::loops::{self, Looped};
 use crate::text::clip_length;
 use std::io;
 
@@ -91,6 +92,17 @@ fn edge_count(edges: u32) -> String {
     count(edges, "block edge")
 }
 
+/// Where the loop is, and whether it clicks.
+fn looped(looped: &Looped, rate: u32) -> String {
+    let click = match looped.off() {
+        None => String::new(),
+        Some(off) => {
+            format!(" Its stored history is not what was played before it, by {}.", number(off))
+        }
+    };
+    format!("Loop {}.{click}", loops::long_words(looped.points, rate))
+}
+
 /// How far the samples are from the reference.
 fn distance(distance: &Distance, total: u32) -> String {
     let Some(largest) = distance.largest else { return "The recording has no sample.".into() };
@@ -139,7 +151,9 @@ fn gathered(seen: &Seen) -> String {
 /// The lines above the panels, below the title.
 pub fn lines(seen: &Seen) -> Vec<String> {
     let distance = seen.distance.as_ref().map(|d| distance(d, seen.head.total));
-    let lines = [summary(seen), marks(seen), distance.unwrap_or_default(), gathered(seen)];
+    let looped = seen.looped.map(|points| looped(&points, seen.head.rate)).unwrap_or_default();
+    let distance = distance.unwrap_or_default();
+    let lines = [summary(seen), marks(seen), looped, distance, gathered(seen)];
     let lines = lines.into_iter().map(|line| line.trim().to_string());
     lines.filter(|line| !line.is_empty()).collect()
 }

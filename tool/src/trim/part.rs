@@ -2,8 +2,9 @@
 
 use crate::args::Args;
 use crate::failure::Failure;
+use crate::place::Place;
 use crate::text::{count, counted, shown};
-use doilycairn::Head;
+use doilycairn::{Head, Loop};
 
 /// Samples from the one up to the other, without that.
 #[derive(Clone, Copy, Debug, PartialEq, Eq)]
@@ -30,13 +31,19 @@ impl Part {
         }
         Ok(Self { from: from as u32, to: to as u32 })
     }
+
+    /// Where a loop is in the part, where the part has all of it.
+    pub fn shifted(&self, points: Loop) -> Option<Loop> {
+        let start = points.start.checked_sub(self.from)?;
+        (points.end <= self.to).then(|| Loop { start, end: points.end - self.from })
+    }
 }
 
 /// The value of an option as a sample.
 fn place(args: &Args, name: &str, head: &Head) -> Result<Option<u64>, Failure> {
     let Some(value) = args.value(name) else { return Ok(None) };
-    let place = value.to_str().and_then(|text| sample(text, head.rate));
-    place.map(Some).ok_or_else(|| {
+    let place = value.to_str().and_then(Place::of);
+    place.map(|place| Some(place.sample(head.rate))).ok_or_else(|| {
         let value = shown(value);
         Failure::usage(format!(
             "{name}: '{value}' is no sample's number and no time (12.5s or 1:02.5)"
@@ -44,39 +51,18 @@ fn place(args: &Args, name: &str, head: &Head) -> Result<Option<u64>, Failure> {
     })
 }
 
-/// A sample by its number, or the nearest one to a time.
-fn sample(text: &str, rate: u32) -> Option<u64> {
-    let seconds = match (text.strip_suffix('s'), text.split_once(':')) {
-        (Some(seconds), _) => decimal(seconds)?,
-        (_, Some((minutes, seconds))) => {
-            let seconds = decimal(seconds).filter(|seconds| *seconds < 60.0)?;
-            60.0 * f64::from(minutes.parse::<u16>().ok()?) + seconds
-        }
-        _ => return text.bytes().all(|b| b.is_ascii_digit()).then(|| text.parse().ok())?,
-    };
-    Some((seconds * f64::from(rate)).round() as u64)
-}
-
-/// A number of seconds.
-fn decimal(text: &str) -> Option<f64> {
-    let plain = text.bytes().all(|byte| byte.is_ascii_digit() || byte == b'.');
-    text.parse().ok().filter(|_| plain)
-}
-
 #[cfg(test)]
 mod tests {
     use super::*;
 
     #[test]
-    fn samples_and_times() {
-        let read = |text| sample(text, 32_000);
-        assert_eq!(
-            ["0", "1234", "1s", "0.5s", "1:02.5"].map(read),
-            [0, 1234, 32_000, 16_000, 2_000_000].map(Some)
-        );
-        for wrong in ["", "x", "-1", "1.5", "s", "-1s", "1e3s", "1:60", "1:2:3", ":5", "infs", "1:"]
-        {
-            assert_eq!(read(wrong), None, "{wrong}");
+    fn a_loop_moves_with_the_part_that_has_it() {
+        let points = |start, end| Loop { start, end };
+        let part = Part { from: 14, to: 50 };
+        assert_eq!(part.shifted(points(14, 50)), Some(points(0, 36)));
+        assert_eq!(part.shifted(points(20, 21)), Some(points(6, 7)));
+        for (start, end) in [(13, 50), (14, 51), (0, 14), (50, 60), (0, 100)] {
+            assert_eq!(part.shifted(points(start, end)), None, "{start} {end}");
         }
     }
 }

@@ -2,7 +2,10 @@
 
 use std::io::{self, Write};
 
-/// Writes the head of a WAV file with so many samples. A byte rate above 32 bits is written as the largest.
+/// The most samples that a WAV file has: its size is told in 32 bits, with 36 bytes that come before the samples.
+pub const MOST_SAMPLES: u32 = (u32::MAX - 36) / 2;
+
+/// Writes the head of a WAV file with so many samples, up to the most. A byte rate above 32 bits is written as the largest.
 pub fn write_head(samples: u32, rate: u32, out: &mut dyn Write) -> io::Result<()> {
     let bytes = 2 * samples;
     out.write_all(b"RIFF")?;

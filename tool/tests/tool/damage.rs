@@ -18,6 +18,7 @@ fn fields(refusal: Refusal) -> &'static [usize] {
         Refusal::BadOffset { .. } => &[0],
         Refusal::BadLength { .. } => &[4, 14],
         Refusal::BadHeader { .. } => &[8],
+        Refusal::BadLoop => &[0, 4, 8, 14],
         _ => &[],
     }
 }
@@ -39,8 +40,12 @@ pub fn checked(folder: &Folder, bytes: &[u8]) -> Value {
             let [first, ..] = json.list("findings") else { panic!("{refusal}: nothing found") };
             names(&json, refusal);
             names(first, refusal);
-            if let Some(block) = refusal.block() {
-                let place = first.number("byte") as usize - (56 + 16 * block as usize);
+            let entry = match refusal {
+                Refusal::BadLoop => Some(u32::from_be_bytes(bytes[52..56].try_into().unwrap())),
+                _ => refusal.block(),
+            };
+            if let Some(entry) = entry {
+                let place = first.number("byte") as usize - (56 + 16 * entry as usize);
                 assert!(fields(refusal).contains(&place), "{refusal}: {json:?}");
             }
         }
@@ -81,7 +86,7 @@ fn fields_of_the_head() {
         (4, &[0, 0xe0, 0, 1], "14,680,065 samples"),
         (8, &[0; 4], "the rate is 0"),
         (12, &[0, 0, 0, 12], "blocks of 12 bytes; they have 8 to 65,536, a multiple of 8"),
-        (51, &[3], "two bytes that are zero are 00 03"),
+        (51, &[3], "byte 50: 3 loops; an image has 0 or 1"),
         (52, &[0, 0, 0, 5], "5 blocks; 100 samples in blocks of 16 bytes make 4"),
     ];
     for (at, altered, words) in cases {

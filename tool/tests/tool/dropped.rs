@@ -1,19 +1,11 @@
 //! What a WAV file has that a clip does not keep.
 
 use crate::parse::Value;
-use crate::support::{Folder, chunk, format, image, raw, riff, sound};
+use crate::support::{Folder, chunk, format, image, raw, riff, sampler, sound};
 
-/// A smpl chunk with loops from sample 100 to 900.
-fn sampler(loops: u32) -> Vec<u8> {
-    let mut body = vec![0; 28];
-    body.extend(loops.to_le_bytes());
-    body.extend([0; 4]);
-    for _ in 0..loops {
-        for field in [0u32, 0, 100, 900, 0, 0] {
-            body.extend(field.to_le_bytes());
-        }
-    }
-    chunk(b"smpl", &body)
+/// A smpl chunk with so many loops from sample 100 to 900.
+fn loops(count: usize) -> Vec<u8> {
+    sampler(&vec![(0, 100, 900); count])
 }
 
 /// The standard error of encoding a file of these chunks.
@@ -32,16 +24,18 @@ fn parts() -> [Vec<u8>; 2] {
 #[test]
 fn loops_are_told_wherever_they_stand() {
     let [form, data] = parts();
-    let words = "note: in.wav: its loop, from sample 100 to 900 (smpl chunk), is left out";
-    assert!(told(&[form.clone(), sampler(1), data.clone()]).contains(words));
+    let words = "note: in.wav: its loop, from sample 100 to 900 (smpl chunk), is left out: --wav-loop takes it\n";
+    assert!(told(&[form.clone(), loops(1), data.clone()]).contains(words));
     let list = chunk(b"LIST", &[1; 7]);
-    let after = told(&[form.clone(), data.clone(), list, sampler(1)]);
+    let after = told(&[form.clone(), data.clone(), list, loops(1)]);
     assert!(after.contains(words), "{after}");
     assert!(
-        told(&[form.clone(), data.clone(), sampler(3)])
-            .contains("its 3 loops are left out (smpl chunk)")
+        told(&[form.clone(), data.clone(), loops(3)])
+            .contains("its 3 loops are left out (smpl chunk): --wav-loop takes the first that is played forwards\n")
     );
-    for none in [sampler(0), chunk(b"smpl", &[1; 9]), chunk(b"LIST", &[1; 5])] {
+    let back = told(&[form.clone(), data.clone(), sampler(&[(2, 100, 900)])]);
+    assert!(back.contains("note: in.wav: its 1 loop is left out (smpl chunk)\n"), "{back}");
+    for none in [loops(0), chunk(b"smpl", &[1; 9]), chunk(b"LIST", &[1; 5])] {
         assert!(!told(&[form.clone(), data.clone(), none]).contains("note"));
     }
 }
@@ -52,7 +46,7 @@ fn a_second_data_chunk_is_told() {
     let words = "a second data chunk, of 10 bytes, is left out";
     assert!(told(&[form.clone(), data.clone(), chunk(b"data", &[9; 10])]).contains(words));
     let folder = Folder::new();
-    folder.write("in.wav", riff(&[form, data, sampler(1)]));
+    folder.write("in.wav", riff(&[form, data, loops(1)]));
     let json = Value::of_line(&folder.done("encode --json in.wav out").out);
     assert_eq!(json.list("notes").len(), 1);
 }

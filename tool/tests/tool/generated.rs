@@ -74,6 +74,8 @@ fn bash_completes() {
     assert_eq!(completed(&folder, &["encode", "--blo"]), ["--block-size"]);
     assert_eq!(completed(&folder, &["decode", "--co"]), ["--count"]);
     assert_eq!(completed(&folder, &["decode", "--f"]), ["--from", "--force"]);
+    assert_eq!(completed(&folder, &["decode", "--l"]), ["--loop", "--lead-in"]);
+    assert_eq!(completed(&folder, &["trim", "--dr"]), ["--drop-loop"]);
     assert_eq!(completed(&folder, &["--json", "check", "--st"]), ["--strict"]);
     assert_eq!(completed(&folder, &["help", "ref"]), ["refusals"]);
     assert_eq!(completed(&folder, &["completions", ""]), ["bash", "zsh", "fish"]);
@@ -82,4 +84,5 @@ fn bash_completes() {
     assert!(completed(&folder, &["encode", "in"]).is_empty());
     assert!(completed(&folder, &["encode", "--gain", ""]).is_empty());
     assert!(completed(&folder, &["decode", "--count", ""]).is_empty());
+    assert!(completed(&folder, &["encode", "--loop", ""]).is_empty());
 }

@@ -40,6 +40,7 @@ fn help_lists_the_refusals() {
         assert_eq!(&line[4..], format!("  {}", Refusal::from_number(number, 0).unwrap().message()));
     }
     assert!(entries.starts_with("An entry is a block's") && entries.contains("gave 16"));
+    assert!(entries.contains("The loop has an entry of its"));
 }
 
 #[test]
@@ -48,13 +49,17 @@ fn help_tells_every_option() {
     let options = [
         ("encode", "--block-size --gain --history --coefficients --verify --raw --rate"),
         ("encode", "--after --ignore-length --force --quiet --json --help --into --jobs"),
-        ("encode", "--pad-to-frame --cut-to-frame"),
-        ("decode", "--block --from --count --raw --force --quiet --json --help --into --jobs"),
+        ("encode", "--pad-to-frame --cut-to-frame --loop --wav-loop"),
+        (
+            "decode",
+            "--block --from --count --loop --lead-in --raw --force --quiet --json --help --into --jobs",
+        ),
         ("info", "--blocks --against --raw --ignore-length --svg --force --quiet --json --help"),
         ("check", "--strict --jobs --quiet --json --help"),
         ("trim", "--from --to --recording --raw --ignore-length --force --quiet --json --help"),
+        ("trim", "--drop-loop"),
         ("same", "--quiet --json --help"),
-        ("join", "--gain --reencode --block-size --force --quiet --json --help"),
+        ("join", "--gain --reencode --block-size --drop-loop --force --quiet --json --help"),
     ];
     for (command, names) in options {
         let help = folder.done(&format!("help {command}")).out;

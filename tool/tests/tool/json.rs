@@ -2,7 +2,7 @@
 
 use crate::damage::names;
 use crate::parse::Value;
-use crate::support::{Folder, image, sound, wav};
+use crate::support::{Folder, image, looped, sound, wav};
 use doilycairn::Refusal;
 use std::ffi::OsStr;
 use std::os::unix::ffi::OsStrExt;
@@ -13,15 +13,22 @@ fn every_command_answers_one_object() {
     let clip = sound(280, 1);
     folder.write("in.wav", wav(&clip, 32_000));
     folder.write("a", image(&clip, 32_000, 80));
+    folder.write("loop", looped(&clip, 80, (5, 17)));
     folder.write("none", "x");
     let cases = [
         ("encode in.wav out", 0),
         ("encode --verify in.wav out", 0),
+        ("encode --loop 5,17 in.wav out", 0),
         ("decode a new", 0),
         ("decode --force --block 0 a new", 0),
         ("decode --force --from 100 --count 50 a new", 0),
         ("decode --force --count 0 a new", 0),
+        ("decode --force --loop 2 --lead-in loop new", 0),
         ("info a", 0),
+        ("info --blocks loop", 0),
+        ("check loop", 0),
+        ("trim loop out", 0),
+        ("join --drop-loop loop loop out", 0),
         ("info --blocks --against in.wav a", 0),
         ("check a", 0),
         ("check none", 1),
@@ -32,6 +39,13 @@ fn every_command_answers_one_object() {
         ("encode --what", 2),
         ("encode in.wav -", 2),
         ("encode none out", 3),
+        ("encode --wav-loop in.wav out", 3),
+        ("encode --loop 5,281 in.wav out", 4),
+        ("encode --loop 5 in.wav out", 2),
+        ("decode --loop 1 a new", 2),
+        ("decode --loop 1 a x", 3),
+        ("decode --lead-in loop x", 2),
+        ("join loop a out", 3),
         ("decode none x", 4),
         ("decode --from 280 a x", 4),
         ("decode --from 280 --block 0 a x", 2),

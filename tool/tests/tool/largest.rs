@@ -60,6 +60,12 @@ fn the_largest_clip() {
         ("decode --from 1 eight.dspc eight-rest.wav", 10, 32_000),
         ("decode --from 7340032 --count 200 out.dspc part.wav", 5, 16_000),
         ("decode --from 7340032 --count 200 eight.dspc eight-part.wav", 5, 32_000),
+        ("encode --loop 1,14680063 in.wav loop.dspc", 60, 64_000),
+        ("encode --block-size 8 --loop 1,14680063 in.wav eight-loop.dspc", 60, 64_000),
+        ("decode --loop 2 --lead-in loop.dspc turns.wav", 10, 48_000),
+        ("decode --loop 2 --lead-in eight-loop.dspc eight-turns.wav", 10, 64_000),
+        ("decode --loop 146 loop.dspc /dev/null", 30, 48_000),
+        ("check --strict eight-loop.dspc", 10, 32_000),
         ("info --against in.wav out.dspc", 10, 48_000),
         ("check eight.dspc", 10, 32_000),
         ("same out.dspc eight.dspc", 10, 48_000),
@@ -101,6 +107,10 @@ fn parts(folder: &Folder) {
     }
     for name in ["part.wav", "eight-part.wav"] {
         assert_eq!(folder.read(name)[44..], whole[2 * 7_340_032..][..400], "{name}");
+    }
+    for name in ["turns.wav", "eight-turns.wav"] {
+        let (turns, end) = (&folder.read(name)[44..], 2 * SAMPLES - 2);
+        assert!(turns[..end] == whole[..end] && turns[end..] == whole[2..end], "{name}");
     }
 }
 

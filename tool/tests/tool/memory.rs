@@ -1,6 +1,6 @@
 //! Short memory: a failure in words, nothing left behind.
 
-use crate::support::{Folder, Run, TOOL, image, sound, wav};
+use crate::support::{Folder, Run, TOOL, image, looped, sound, wav};
 use std::process::Command;
 
 /// Runs the tool with so many kilobytes of address space.
@@ -17,11 +17,13 @@ fn what_cannot_be_had_is_told() {
     let clip = sound(1_000_000, 1);
     folder.write("in.wav", wav(&clip, 32_000));
     folder.write("in.dspc", image(&clip, 32_000, 8192));
+    folder.write("loop.dspc", looped(&clip, 8192, (1, 1_000_000)));
     let lines = [
         "encode in.wav out",
         "trim --from 1 in.dspc out",
         "info --against in.wav in.dspc",
         "decode --raw --from 1 in.dspc raw",
+        "decode --raw --loop 3 --lead-in loop.dspc raw",
     ];
     for line in lines {
         // More and more, until it is enough; at first not even the program can be loaded.
@@ -35,7 +37,7 @@ fn what_cannot_be_had_is_told() {
         });
         assert!(done.is_some() && told > 0, "{line}");
     }
-    assert_eq!(folder.names(), ["in.dspc", "in.wav", "out", "raw"]);
+    assert_eq!(folder.names(), ["in.dspc", "in.wav", "loop.dspc", "out", "raw"]);
 }
 
 #[test]

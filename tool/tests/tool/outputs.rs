@@ -1,6 +1,6 @@
 //! What is left on the disk.
 
-use crate::support::{Folder, Run, TOOL, image, sound, wav};
+use crate::support::{Folder, Run, TOOL, image, looped, sound, wav};
 use std::fs::{self, File, Permissions};
 use std::os::unix::fs::{PermissionsExt, symlink};
 use std::process::{Command, Stdio};
@@ -10,6 +10,7 @@ fn folder() -> Folder {
     let folder = Folder::new();
     folder.write("in.wav", wav(&sound(20_000, 1), 32_000));
     folder.write("a", image(&sound(20_020, 1), 32_000, 80));
+    folder.write("loop", looped(&sound(20_020, 1), 80, (5, 17)));
     folder.write("out", "old");
     folder
 }
@@ -21,6 +22,7 @@ fn a_full_disk_leaves_the_old_output() {
         "encode in.wav out",
         "decode a out",
         "decode --from 1 a out",
+        "decode --loop 9999 loop out",
         "join a a out",
         "join --reencode a a out",
     ] {
@@ -30,7 +32,7 @@ fn a_full_disk_leaves_the_old_output() {
         let run = Run::of(&output.unwrap());
         run.expect(5, "cannot write out: File too large");
         assert_eq!(folder.read("out"), b"old", "{line}");
-        assert_eq!(folder.names(), ["a", "in.wav", "out"], "{line}");
+        assert_eq!(folder.names(), ["a", "in.wav", "loop", "out"], "{line}");
     }
 }
 
@@ -53,6 +55,7 @@ fn standard_output_that_fails() {
         "check a",
         "decode a -",
         "decode --from 9 a -",
+        "decode --loop 9999 loop -",
         "encode in.wav -",
         "--help",
     ] {
@@ -79,7 +82,7 @@ fn permissions_and_links_stay() {
     assert_eq!(folder.read("out"), image(&sound(20_000, 1), 32_000, 8192));
     let mode = fs::metadata(folder.path("out")).unwrap().permissions().mode();
     assert_eq!(mode & 0o7777, 0o640);
-    assert_eq!(folder.names(), ["a", "in.wav", "link", "out"]);
+    assert_eq!(folder.names(), ["a", "in.wav", "link", "loop", "out"]);
 }
 
 #[test]
@@ -124,5 +127,5 @@ fn places_that_cannot_be() {
     let long = "n".repeat(255);
     folder.done(&format!("decode a {long}"));
     folder.run(&format!("decode a {long}n")).expect(5, "cannot write ");
-    assert_eq!(folder.names(), ["a", "dir", "in.wav", &long, "out"]);
+    assert_eq!(folder.names(), ["a", "dir", "in.wav", "loop", &long, "out"]);
 }

@@ -1,6 +1,6 @@
 //! Every exit status, of every command that can give it.
 
-use crate::support::{Folder, image, sound, wav};
+use crate::support::{Folder, image, looped, sound, wav};
 
 #[test]
 fn every_status() {
@@ -11,6 +11,7 @@ fn every_status() {
     folder.write("a", image(&clip, 32_000, 80));
     folder.write("b", image(&sound(280, 2), 32_000, 80));
     folder.write("rate", image(&clip, 8000, 80));
+    folder.write("loop", looped(&clip, 80, (5, 17)));
     folder.write("bad", "x");
     let cases = [
         (0, "encode in.wav out"),
@@ -21,6 +22,11 @@ fn every_status() {
         (5, "encode absent out"),
         (5, "encode in.wav absent/out"),
         (5, "encode in.wav ."),
+        (0, "encode --loop 5,280 in.wav out"),
+        (2, "encode --loop 5 in.wav out"),
+        (2, "encode --loop 5,17 --wav-loop in.wav out"),
+        (3, "encode --wav-loop in.wav out"),
+        (4, "encode --loop 5,281 in.wav out"),
         (0, "decode a new"),
         (2, "decode a"),
         (4, "decode bad x"),
@@ -33,6 +39,13 @@ fn every_status() {
         (4, "decode --from 280 bad x"),
         (5, "decode --from 280 absent x"),
         (5, "decode --from 1 a /dev/full"),
+        (0, "decode --force --loop 3 --lead-in loop new"),
+        (2, "decode --loop 1 --from 5 loop x"),
+        (2, "decode --lead-in loop x"),
+        (2, "decode --loop 4294967295 loop x"),
+        (3, "decode --loop 1 a x"),
+        (4, "decode --loop 1 bad x"),
+        (5, "decode --loop 1 loop /dev/full"),
         (2, "decode a out"),
         (2, "decode a in.wav"),
         (2, "encode in.wav new"),
@@ -55,12 +68,17 @@ fn every_status() {
         (4, "same a bad"),
         (5, "same a absent"),
         (0, "join a a out"),
+        (0, "join --drop-loop loop a out"),
         (2, "join a a"),
+        (3, "join a loop out"),
+        (3, "join --reencode loop a out"),
         (3, "join a rate out"),
         (4, "join a b out"),
         (4, "join a bad out"),
         (5, "join a absent out"),
         (5, "join a a absent/out"),
+        (0, "trim --to 270 loop out"),
+        (0, "trim --drop-loop loop out"),
         (0, "trim --from 14 a out"),
         (2, "trim --from 280 a out"),
         (2, "trim --to 281 a out"),

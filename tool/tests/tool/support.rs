@@ -1,6 +1,6 @@
 //! Folders, clips, files and runs.
 
-use doilycairn::{Coefficients, Encoder, History, Start};
+use doilycairn::{Coefficients, Encoder, History, Loop, Start};
 use std::ffi::OsStr;
 use std::fs;
 use std::io::Write;
@@ -190,9 +190,63 @@ pub fn image_with(
     history: History,
 ) -> Vec<u8> {
     let total = samples.len() as u32;
-    let start = Start { total, rate, block_size, gain: 0, coefficients, history };
-    let mut encoder = Encoder::start(&start).unwrap();
-    encoder.feed(samples).unwrap();
+    encoded(
+        &Start { total, rate, block_size, gain: 0, coefficients, history, looped: None },
+        samples,
+    )
+}
+
+/// What the library encodes, measured, with a loop, at 32,000 Hz.
+pub fn looped(samples: &[i16], block_size: u32, points: (u32, u32)) -> Vec<u8> {
+    let coefficients = Coefficients::measure(samples).unwrap();
+    looped_with(samples, block_size, coefficients, History::default(), points)
+}
+
+pub fn looped_with(
+    samples: &[i16],
+    block_size: u32,
+    coefficients: Coefficients,
+    history: History,
+    (start, end): (u32, u32),
+) -> Vec<u8> {
+    let (total, looped) = (samples.len() as u32, Some(Loop { start, end }));
+    let start = Start { total, rate: 32_000, block_size, gain: 0, coefficients, history, looped };
+    encoded(&start, samples)
+}
+
+/// A ramp of 20 samples, whose played difference is its nibble.
+pub fn ramp() -> Vec<i16> {
+    (0..20).map(|i| 1000 + 6 * i).collect()
+}
+
+/// What the library encodes from the ramp.
+pub fn ramp_image(block_size: u32, points: Option<(u32, u32)>) -> Vec<u8> {
+    let mut coefficients = Coefficients::default();
+    coefficients.0[0] = 2048;
+    let history = History { newest: 1000, older: 990 };
+    let looped = points.map(|(start, end)| Loop { start, end });
+    let start =
+        Start { total: 20, rate: 32_000, block_size, gain: 7, coefficients, history, looped };
+    encoded(&start, &ramp())
+}
+
+/// What the library encodes from pieces of 77 samples.
+pub fn encoded(start: &Start, samples: &[i16]) -> Vec<u8> {
+    let mut encoder = Encoder::start(start).unwrap();
+    samples.chunks(77).for_each(|piece| encoder.feed(piece).unwrap());
     encoder.close().unwrap();
     encoder.into_parts().1
+}
+
+/// A smpl chunk of loops: how each is played (0 is forwards), its first and its last sample.
+pub fn sampler(loops: &[(u32, u32, u32)]) -> Vec<u8> {
+    let mut body = vec![0; 28];
+    body.extend((loops.len() as u32).to_le_bytes());
+    body.extend([0; 4]);
+    for (kind, first, last) in loops {
+        for field in [0, *kind, *first, *last, 0, 0] {
+            body.extend(field.to_le_bytes());
+        }
+    }
+    chunk(b"smpl", &body)
 }

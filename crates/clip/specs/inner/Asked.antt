@@ -1,6 +1,6 @@
 -- What the private functions ask of the state and the buffer.
 use Rattle.layout.specs.declared.Shape.{Shape}
-use Rattle.layout.specs.Limits.{Limits}
+use Rattle.layout.specs.Limits.{Limits, loopOk}
 use Prim.Native.Nat.{ℕ, _+_, _*_, _/_, _%_, _≤_, _<_}
 use mathlib.Core.Path.{_≡_}
 use mathlib.Core.Bool.{true}
@@ -23,6 +23,7 @@ pub record Room (s : Shape) (q k len : ℕ) : Type 0 where
 pub record Going (e : Encoder) (i m len : ℕ) : Type 0 where
   pub limits : Limits (encoderShape e)
   pub within : coefficientsOk (e .coefficients) ≡ true
+  pub looping : loopOk (e .looped) (e .total) ≡ true
   pub rest : e .fed + m ≤ e .total + i
   pub count : e .passes ≤ 104 * (e .fed / 14)
   pub size : imageSize (encoderShape e) ≤ len

@@ -11,8 +11,9 @@ use Rattle.layout.specs.Sizes.{blockCount, bodiesPlace, imageSize}
 use Rattle.whole.specs.Frames.{frameCount}
 use Rattle.image.specs.declared.Head.{Head}
 use Rattle.image.specs.inner.ByFrames.{frameSamples}
-use Rattle.image.specs.Reading.{totalIn, rateIn, blockIn, shapeIn, zeroIn, blocksIn, coefficientsIn, headIn, lengthIn}
-use Rattle.image.specs.Opening.{EntryFits, markOk}
+use Rattle.image.specs.Reading.{totalIn, rateIn, blockIn, shapeIn, loopsIn, blocksIn, coefficientsIn, headIn, lengthIn, loopIn}
+use Rattle.image.specs.Opening.{EntryFits, markOk, loopFits}
+use Rattle.image.specs.Looping.{loopLength}
 use Rattle.image.specs.Part.{perBlock}
 
 -- a head that 15 does not refuse
@@ -22,12 +23,13 @@ pub record Headed (l : List ℕ) : Type 0 where
   pub limits : Limits (shapeIn l)
   pub rate : 1 ≤ rateIn l
   pub blocks : blocksIn l ≡ blockCount (shapeIn l)
-  pub zeros : zeroIn l ≡ 0
+  pub loops : loopsIn l ≤ 1
   pub size : imageSize (shapeIn l) ≤ length l
 
 pub record Opens (l : List ℕ) : Type 0 where
   pub head : Headed l
   pub entries : (j : ℕ) → j < blockCount (shapeIn l) → EntryFits l (shapeIn l) j
+  pub looping : loopFits l ≡ true
 
 -- the image opens and has a block k
 pub record Found (l : List ℕ) (k : ℕ) : Type 0 where
@@ -84,3 +86,9 @@ pub record Run (l : List ℕ) (first n : ℕ) : Type 0 where
   pub opens : Opens l
   pub some : 0 < n
   pub inside : first + n ≤ totalIn l
+
+-- the image opens and has a loop, for so many turns of which there is room
+pub record Turns (l : List ℕ) (times room : ℕ) : Type 0 where
+  pub opens : Opens l
+  pub present : loopIn l .present ≡ true
+  pub enough : times * loopLength l ≤ room

@@ -13,8 +13,7 @@ use Rattle.block.specs.inner.Frames.{playFrame}
 use Rattle.layout.specs.Sizes.{lastSamples, framePlace}
 use Rattle.whole.specs.Frames.{frameCount}
 use Rattle.image.specs.declared.comparing.Frame.{Frame}
-use Rattle.image.specs.Reading.{totalIn, blockIn, shapeIn, coefficientsIn}
-use Rattle.image.specs.Playing.{contextIn}
+use Rattle.image.specs.Reading.{totalIn, blockIn, shapeIn, coefficientsIn, contextIn}
 
 -- the samples in frame i: fourteen, and m in the last
 unfoldable pub frameSamples : ℕ → ℕ → ℕ

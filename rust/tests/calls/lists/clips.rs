@@ -1,12 +1,14 @@
 //! The list of calls on clips.
 
 use super::{bytes, digits, digits_of, list, number, words};
-use doilycairn::{Coefficients, EncoderState, History, Refusal, Start};
+use doilycairn::{
+    Coefficients, EncoderState, FrameContext, History, Loop, LoopState, Refusal, Start,
+};
 
 /// The length of the list's image buffer.
 const ROOM: usize = 4096;
 
-/// The state that a record says.
+/// The state that a record says, with no loop.
 fn state(record: &[u8]) -> EncoderState {
     let [newest, older] = words(&record[50..]);
     EncoderState {
@@ -20,13 +22,25 @@ fn state(record: &[u8]) -> EncoderState {
         frame: words(&record[62..]),
         passes: number(&record[58..]),
         closed: record[3] == 1,
+        looped: LoopState::default(),
+        loop_context: FrameContext::default(),
     }
 }
 
-/// The start that a record says.
-fn start(record: &[u8]) -> Start {
+/// The state with the loop that a record says, and the context at its start.
+fn with_loop(state: EncoderState, record: &[u8]) -> EncoderState {
+    let (start, end) = (number(&record[4..]), number(&record[8..]));
+    let looped = LoopState { start, end, present: record[3] != 0 };
+    let predictor_and_scale = u16::from_be_bytes([record[12], record[13]]);
+    let loop_context = FrameContext { predictor_and_scale, last_samples: words(&record[14..]) };
+    EncoderState { looped, loop_context, ..state }
+}
+
+/// The start that a record says, with this loop if the record asks for it.
+fn start(record: &[u8], looped: Option<Loop>) -> Start {
     let EncoderState { total, rate, block, gain, coefficients, history, .. } = state(record);
-    Start { total, rate, block_size: block, gain, coefficients, history }
+    let looped = looped.filter(|_| record[3] != 0);
+    Start { total, rate, block_size: block, gain, coefficients, history, looped }
 }
 
 /// The state of no clip, which a refused start gives.
@@ -40,9 +54,20 @@ fn fields(state: &EncoderState) -> String {
     let coefficients = digits_of(&state.coefficients.0);
     let history = digits_of(&[state.history.newest, state.history.older]);
     let (frame, closed) = (digits_of(&state.frame), u8::from(state.closed));
+    let looped = loop_fields(state.looped, state.loop_context);
     format!(
-        "{total:08x} {rate:08x} {block:08x} {gain:04x} {coefficients} {history} {fed:08x} {passes:08x} {frame} {closed:02x}"
+        "{total:08x} {rate:08x} {block:08x} {gain:04x} {coefficients} {history} {fed:08x} {passes:08x} {frame} {closed:02x}{looped}"
     )
+}
+
+/// The words of a loop and its context, where one of their numbers is not zero.
+fn loop_fields(looped: LoopState, context: FrameContext) -> String {
+    if (looped, context) == Default::default() {
+        return String::new();
+    }
+    let LoopState { start, end, present } = looped;
+    let (header, history) = (context.predictor_and_scale, digits_of(&context.last_samples));
+    format!(" {start:08x} {end:08x} {:02x} {header:04x} {history}", u8::from(present))
 }
 
 /// Bytes as the digits of a number, modulo a prime.
@@ -73,8 +98,15 @@ impl Machine {
                 self.state = state(record);
                 return None;
             }
+            "l" => {
+                self.state = with_loop(self.state, record);
+                return None;
+            }
             "b" => return None,
-            "s" => (EncoderState::start(&start(record), image), no_clip()),
+            "s" => {
+                let start = start(record, self.state.looped.looped());
+                (EncoderState::start(&start, image), no_clip())
+            }
             "f" => {
                 let piece = std::mem::take(&mut self.piece);
                 (self.state.feed(&piece, image), self.state)

@@ -32,8 +32,15 @@ fn answer(frame: &Frame) -> String {
 /// The frame's history, from a clip of its real samples alone.
 fn history(frame: &Frame) -> String {
     let Frame { count, history, coefficients, .. } = *frame;
-    let clip =
-        Start { total: count as u32, rate: 1, block_size: 8, gain: 0, coefficients, history };
+    let clip = Start {
+        total: count as u32,
+        rate: 1,
+        block_size: 8,
+        gain: 0,
+        coefficients,
+        history,
+        looped: None,
+    };
     let mut encoder = Encoder::start(&clip).unwrap();
     encoder.feed(&frame.samples[..count]).unwrap();
     encoder.close().unwrap();

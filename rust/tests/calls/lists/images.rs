@@ -1,7 +1,7 @@
 //! The list of calls on images.
 
 use super::{bytes, digits, digits_of, list, number};
-use doilycairn::{FrameContext, Image, Part, Refusal, same};
+use doilycairn::{FrameContext, Image, Loop, Part, Refusal, same};
 
 /// The longest image of the list.
 const MOST: usize = 1024;
@@ -19,6 +19,19 @@ fn verdict(refusal: Refusal) -> String {
 /// How the answer of an accepted call begins.
 const ACCEPTED: &str = "00 00000000";
 
+/// A context's header and its two samples.
+fn words(context: FrameContext) -> String {
+    format!("{:04x} {}", context.predictor_and_scale, digits_of(&context.last_samples))
+}
+
+/// The loop of an image and its context, where there is one.
+fn looped(image: &Image) -> String {
+    let of = |(looped, context): (Loop, FrameContext)| {
+        format!(" {:08x} {:08x} {}", looped.start, looped.end, words(context))
+    };
+    image.looped().zip(image.loop_context()).map_or(String::new(), of)
+}
+
 fn opened(image: &[u8]) -> String {
     let zeros = "0".repeat(64);
     match Image::open(image) {
@@ -27,8 +40,10 @@ fn opened(image: &[u8]) -> String {
             let (numbers, coefficients) = ([head.total, head.rate, head.block], head.coefficients);
             let [total, rate, block] = numbers.map(|number| format!("{number:08x}"));
             let (gain, blocks) = (head.gain, head.blocks);
-            let coefficients = digits_of(&coefficients.0);
-            format!("{ACCEPTED} {total} {rate} {block} {coefficients} {gain:04x} {blocks:08x}")
+            let (coefficients, looped) = (digits_of(&coefficients.0), looped(&image));
+            format!(
+                "{ACCEPTED} {total} {rate} {block} {coefficients} {gain:04x} {blocks:08x}{looped}"
+            )
         }
         Err(refusal) => {
             format!("{} 00000000 00000000 00000000 {zeros} 0000 00000000", verdict(refusal))
@@ -53,8 +68,7 @@ fn played(image: &[u8], k: Option<u32>, room: usize) -> String {
     let verdict = played.err().map_or(ACCEPTED.into(), verdict);
     let (count, context) =
         played.map_or((0, FrameContext::default()), |it| (it.samples, it.context));
-    let (header, history) = (context.predictor_and_scale, digits_of(&context.last_samples));
-    format!("{verdict} {count:08x} {header:04x} {history} {}", digits_of(&out))
+    format!("{verdict} {count:08x} {} {}", words(context), digits_of(&out))
 }
 
 /// Plays from a sample on.
@@ -64,6 +78,14 @@ fn played_from(image: &[u8], first: u32, room: usize) -> String {
     let verdict = part.err().map_or(ACCEPTED.into(), verdict);
     let Part { samples, blocks } = part.unwrap_or(Part { samples: 0, blocks: 0 });
     format!("{verdict} {samples:08x} {blocks:08x} {}", digits_of(&out))
+}
+
+/// Plays the loop.
+fn played_loop(image: &[u8], times: u32, room: usize) -> String {
+    let mut out = vec![0x5a5a; room];
+    let turns = Image::open(image).and_then(|image| image.play_loop_into(times, &mut out));
+    let verdict = turns.err().map_or(ACCEPTED.into(), verdict);
+    format!("{verdict} {:08x} {}", turns.unwrap_or(0), digits_of(&out))
 }
 
 fn compared(first: &[u8], second: &[u8]) -> String {
@@ -96,6 +118,7 @@ fn take(images: &mut [Vec<u8>; 2], letter: &str, record: &[u8]) -> Option<String
         "p" => played(first, Some(k), room),
         "a" => played(first, None, room),
         "m" => played_from(first, k, room),
+        "t" => played_loop(first, k, room),
         "s" => compared(first, second),
         "r" => compared(second, first),
         _ => panic!("no call has the letter {letter}"),

@@ -1,13 +1,13 @@
 //! Tests of what is marked in the picture, and of what explains it.
 
-use super::{begins, data, encode, noise, picture};
+use super::{begins, data, encode, encode_with, noise, picture};
 use crate::picture::layout::LEFT;
 use crate::picture::path::units;
 use crate::picture::seen::COLUMNS;
 use crate::picture::walk::walk;
 use crate::picture::words;
 use crate::picture::xml::Element;
-use doilycairn::Image;
+use doilycairn::{Image, Loop};
 
 #[test]
 fn the_largest_jump_and_distance_are_told() {
@@ -76,7 +76,7 @@ fn the_root_mean_square_is_within_the_peaks_of_long_clips() {
 #[test]
 fn every_colour_is_explained_and_every_text_can_be_read() {
     let clip = noise(40_000);
-    let mut bytes = encode(&clip, 1024);
+    let mut bytes = encode_with(&clip, 1024, Some(Loop { start: 5000, end: 30_000 }));
     bytes[56 + 16 * 7 + 10] ^= 0x40;
     for reference in [None, Some(&clip[..])] {
         let elements = picture(&bytes, reference).1;
@@ -98,6 +98,7 @@ fn every_colour_is_explained_and_every_text_can_be_read() {
             "below",
             "predictor",
             "edge",
+            "loop",
             "jump",
             "click",
             "distance",

@@ -15,7 +15,7 @@ use mir.Val.{toZ, ofZ}
 use Rattle.frame.specs.declared.EncodedFrame.{EncodedFrame}
 use Rattle.frame.specs.Frame.{encodeFrame, historyAfter}
 use Rattle.clip.specs.declared.Encoder.{Encoder}
-use Rattle.clip.specs.Encoding.{left, store, moved, feedAll}
+use Rattle.clip.specs.Encoding.{left, store, loopContext, moved, feedAll}
 use Rattle.clip.specs.inner.Asked.{Room, Going}
 use Rattle.layout.specs.declared.Shape.{Shape}
 use Rattle.clip.proofs.Pieces.{turn}
@@ -24,14 +24,14 @@ use Rattle.clip.proofs.feeding.feed_all.Statement.{statement}
 use Rattle.clip.proofs.feeding.feed_all.Tie as tie
 
 abbrev Inv-loop : tie.InvT-loop
-Inv-loop e piece image₀ shape coefficients n₀ history₀ frame₀ passes₀ i₀ image n history frame passes i =
+Inv-loop e piece image₀ shape n₀ history₀ frame₀ passes₀ context₀ i₀ image n history frame passes context i =
     (i ≤ length piece)
-    × (left (moved e n history frame passes (e .closed)) image ≡ feedAll (left e image₀) (take i piece))
-    × Going (moved e n history frame passes (e .closed)) i (length piece) (length image₀)
+    × (left (moved e n history frame passes (e .closed) context) image ≡ feedAll (left e image₀) (take i piece))
+    × Going (moved e n history frame passes (e .closed) context) i (length piece) (length image₀)
     × (length image ≡ length image₀)
 
 abbrev μ-loop : tie.MeasureT-loop
-μ-loop e piece image₀ shape coefficients n₀ history₀ frame₀ passes₀ i₀ image n history frame passes i =
+μ-loop e piece image₀ shape n₀ history₀ frame₀ passes₀ context₀ i₀ image n history frame passes context i =
     length piece - i
 
 encoder-shape-requires : tie.Need-encoder-shape-requires Inv-loop μ-loop
@@ -73,7 +73,7 @@ loop-less c = let l = c .before .before .before in falls (length (now (l .before
 
 -- the state at the loop's head
 abbrev state : tie.At-loop Inv-loop μ-loop → Encoder
-state l = let a = l .before .before .before .before .before .before .args in moved (a .e) (l .loop .n) (l .loop .history) (l .loop .frame) (l .loop .passes) (a .e .closed)
+state l = let a = l .before .before .before .before .before .before .args in moved (a .e) (l .loop .n) (l .loop .history) (l .loop .frame) (l .loop .passes) (a .e .closed) (l .loop .context)
 
 -- the sample that is taken, and that it fits its type
 abbrev sample : tie.After-frame2 Inv-loop μ-loop → ℤ
@@ -89,7 +89,7 @@ loop-again c =
     let m = state l in
     let r = l .loop in
     turn (left (a .e) (now (a .image))) (now (a .piece)) (r .i) m (r .image) _ _ (c .before .before .loop-test .taken) (r .inv .1) (r .inv .2) (r .inv .3)
-    (ap (λ (z : ℤ). left (moved (a .e) (r .n + 1) (r .history) (set (r .frame) (r .n % 14) z) (r .passes) (a .e .closed)) (r .image)) (same (c .before))
+    (ap (λ (z : ℤ). left (moved (a .e) (r .n + 1) (r .history) (set (r .frame) (r .n % 14) z) (r .passes) (a .e .closed) (r .context)) (r .image)) (same (c .before))
     ∙ push-part m (sample (c .before)) (r .image) (λ q. omega (arith, c .if1 .taken, q)))
 
 -- the frame is full
@@ -116,25 +116,26 @@ add-passes c =
 
 loop-less-2 : tie.Need-loop-less-2 Inv-loop μ-loop
 loop-less-2 c =
-    let f = c .before .before .before .before .before .before .before in
+    let f = c .before .before .before .before .before .before .before .before in
     let l = f .before .before in
     falls (length (now (l .before .before .before .before .before .before .args .piece))) (l .loop .i) (f .before .loop-test .taken)
 
 loop-again-2 : tie.Need-loop-again-2 Inv-loop μ-loop
 loop-again-2 c =
-    let f = c .before .before .before .before .before .before .before in
+    let f = c .before .before .before .before .before .before .before .before in
     let l = f .before .before in
     let a = l .before .before .before .before .before .before .args in
     let m = state l in
     let r = l .loop in
-    let k = c .before .before .before .before .encode-full in
+    let k = c .before .before .before .before .before .encode-full in
     let frame : ℤ → EncodedFrame = λ z. encodeFrame (r .history) (set (r .frame) (r .n % 14) z) (a .e .coefficients) in
     let e = same f in
     turn (left (a .e) (now (a .image))) (now (a .piece)) (r .i) m (r .image) _ _ (f .before .loop-test .taken) (r .inv .1) (r .inv .2) (r .inv .3)
-    (push-full m (sample f) (r .image) _ _ _ (full (c .before .before .before .before .before .before))
+    (push-full m (sample f) (r .image) _ _ _ _ (full (c .before .before .before .before .before .before .before))
     (k .ensures .0 ∙ ap (λ (z : ℤ). historyAfter (r .history) (frame z .samples) 14) e)
     (k .ensures .1 .0 ∙ ap (λ (z : ℤ). frame z .passes) e)
-    (k .ensures .1 .1 ∙ ap₂ (λ (s : Shape) (z : ℤ). store s (r .n / 14) (frame z .bytes) (r .history) (r .image)) (l .before .before .before .before .encoder-shape .ensures) e))
+    (k .ensures .1 .1 .0 ∙ ap (λ (z : ℤ). loopContext (a .e .looped) (r .n / 14) (r .history) (frame z) (r .context)) e)
+    (k .ensures .1 .1 .1 ∙ ap₂ (λ (s : Shape) (z : ℤ). store s (r .n / 14) (frame z .bytes) (r .history) (r .image)) (l .before .before .before .before .encoder-shape .ensures) e))
 
 same-length : tie.Need-same-length Inv-loop μ-loop
 same-length c = c .before .loop .inv .3

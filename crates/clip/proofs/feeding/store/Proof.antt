@@ -40,6 +40,9 @@ add-put-context c = let s = c .before .before .before .before .before .before .b
 array-read-put-context : tie.Need-array-read-put-context
 array-read-put-context c = search needs
 
+cast-put-context : tie.Need-cast-put-context
+cast-put-context c = search needs
+
 put-context-requires : tie.Need-put-context-requires
 put-context-requires c κs = let s = c .before .before .before .before .before .before .before .before .before .before in
     omega (arith, room-context (s .args .shape) (s .args .q) (s .args .k) _ (s .pre) (c .before .before .if1 .taken), c .entry-place .ensures)
@@ -78,6 +81,7 @@ store-spec =
     entry-place-requires
     add-put-context
     array-read-put-context
+    cast-put-context
     put-context-requires
     same-length
     returns

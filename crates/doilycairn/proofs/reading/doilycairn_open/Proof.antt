@@ -14,7 +14,7 @@ entry-of-requires : tie.Need-entry-of-requires
 entry-of-requires c κs = search needs
 
 returns : tie.Need-returns
-returns c = open-seen _ _ (c .before .code-of .ensures) (c .entry-of .ensures) (c .before .before .before .«open» .ensures)
+returns c = open-seen _ _ _ _ (c .before .code-of .ensures) (c .entry-of .ensures) (c .before .before .before .before .before .«open» .ensures)
 
 pub doilycairn-open-spec : {M : Type 1} → statement M
 doilycairn-open-spec = tie.close (tie.spec open-requires code-of-requires entry-of-requires returns)

@@ -3,34 +3,30 @@ use denote.Ref.{now}
 use mathlib.Core.Path.{_≡_, _∙_}
 use native.Mathlib.Omega.{arith}
 use Rattle.image.specs.Reading.{headerIn, newestIn, olderIn}
-use Rattle.image.proofs.LawsBody.{found-within, context-made}
+use Rattle.image.proofs.LawsBody.{context-made}
 use Rattle.image.proofs.bodies.read_context.Statement.{statement}
 use Rattle.image.proofs.bodies.read_context.Tie as tie
 
 entry-place-requires : tie.Need-entry-place-requires
-entry-place-requires c κs = let w = found-within (now (c .before .args .image)) (c .before .args .k) (c .before .pre) in omega (arith, w .small)
+entry-place-requires c κs = let p = c .before .pre in omega (arith, p .0)
 
 add-word-at : tie.Need-add-word-at
-add-word-at c = let w = found-within (now (c .before .before .args .image)) (c .before .before .args .k) (c .before .before .pre) in omega (arith, w .small, c .entry-place .ensures)
+add-word-at c = let p = c .before .before .pre in omega (arith, p .0, c .entry-place .ensures)
 
 word-at-requires : tie.Need-word-at-requires
-word-at-requires c κs = let w = found-within (now (c .before .before .args .image)) (c .before .before .args .k) (c .before .before .pre) in omega (arith, w .entry, c .entry-place .ensures)
+word-at-requires c κs = let p = c .before .before .pre in omega (arith, p .1, c .entry-place .ensures)
 
 add-signed-at : tie.Need-add-signed-at
-add-signed-at c = let w = found-within (now (c .before .before .before .args .image)) (c .before .before .before .args .k) (c .before .before .before .pre) in
-    omega (arith, w .small, c .before .entry-place .ensures)
+add-signed-at c = let p = c .before .before .before .pre in omega (arith, p .0, c .before .entry-place .ensures)
 
 signed-at-requires : tie.Need-signed-at-requires
-signed-at-requires c κs = let w = found-within (now (c .before .before .before .args .image)) (c .before .before .before .args .k) (c .before .before .before .pre) in
-    omega (arith, w .entry, c .before .entry-place .ensures)
+signed-at-requires c κs = let p = c .before .before .before .pre in omega (arith, p .1, c .before .entry-place .ensures)
 
 add-signed-at-2 : tie.Need-add-signed-at-2
-add-signed-at-2 c = let w = found-within (now (c .before .before .before .before .args .image)) (c .before .before .before .before .args .k) (c .before .before .before .before .pre) in
-    omega (arith, w .small, c .before .before .entry-place .ensures)
+add-signed-at-2 c = let p = c .before .before .before .before .pre in omega (arith, p .0, c .before .before .entry-place .ensures)
 
 signed-at-requires-2 : tie.Need-signed-at-requires-2
-signed-at-requires-2 c κs = let w = found-within (now (c .before .before .before .before .args .image)) (c .before .before .before .before .args .k) (c .before .before .before .before .pre) in
-    omega (arith, w .entry, c .before .before .entry-place .ensures)
+signed-at-requires-2 c κs = let p = c .before .before .before .before .pre in omega (arith, p .1, c .before .before .entry-place .ensures)
 
 returns : tie.Need-returns
 unfolding headerIn newestIn olderIn

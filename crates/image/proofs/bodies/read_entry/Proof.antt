@@ -1,10 +1,9 @@
 -- `read_entry` meets its contract. Assumes nothing.
-use borrow.Author.Needs.{needs}
 use denote.Ref.{now}
 use native.Mathlib.Omega.{arith}
 use mathlib.Core.Path.{_∙_}
 use Rattle.image.specs.Reading.{offsetIn, lengthIn}
-use Rattle.image.proofs.LawsBody.{found-within}
+use Rattle.image.proofs.LawsBody.{found-within, found-entry}
 use Rattle.image.proofs.bodies.read_entry.Statement.{statement}
 use Rattle.image.proofs.bodies.read_entry.Tie as tie
 
@@ -23,7 +22,7 @@ get32-requires-2 c κs = let w = found-within (now (c .before .before .before .a
     omega (arith, w .entry, c .before .entry-place .ensures)
 
 read-context-requires : tie.Need-read-context-requires
-read-context-requires c κs = search needs
+read-context-requires c κs = let s = c .before .before .before .before in found-entry (now (s .args .image)) (s .args .k) (s .pre)
 
 returns : tie.Need-returns
 unfolding offsetIn lengthIn

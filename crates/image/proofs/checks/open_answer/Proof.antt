@@ -1,13 +1,11 @@
 -- `open_answer` meets its contract. Assumes nothing.
 use borrow.Author.Needs.{needs}
-use denote.Ref.{now}
-use mathlib.Core.Path.{_≡_, sym, ap₂, _∙_}
-use Prim.Native.Nat.{ℕ}
-use native.Mathlib.Omega.{arith}
 use borrow.Author.Tests.{not-true, not-false}
-use Rattle.layout.specs.Sizes.{shape}
-use Rattle.image.specs.Opening.{openAnswer}
-use Rattle.image.specs.Reading.{totalIn, blockIn, shapeIn}
+use denote.Ref.{now}
+use mathlib.Core.Path.{_≡_, sym, ap, _∙_}
+use Rattle.layout.specs.Sizes.{blockCount}
+use Rattle.image.specs.Opening.{outcome, entriesAnswer, openAnswer}
+use Rattle.image.specs.Reading.{shapeIn}
 use Rattle.image.specs.inner.Asked.{Headed}
 use Rattle.image.proofs.OpenImages.{head-says}
 use Rattle.image.proofs.checks.open_answer.Statement.{statement}
@@ -16,10 +14,10 @@ use Rattle.image.proofs.checks.open_answer.Tie as tie
 headed : (c : tie.Else1) → Headed (now (c .before .before .before .args .image))
 headed c = head-says _ (sym (c .before .head-ok .ensures) ∙ not-false _ (c .if1 .left))
 
--- the shape that was read
-read : (c : tie.After-shape-of) → c .shape-of .result ≡ shapeIn (now (c .before .before .before .before .before .before .args .image))
-unfolding totalIn blockIn
-read c = c .shape-of .ensures ∙ ap₂ (λ (n b : ℕ). shape n b) (c .before .before .get32 .ensures) (c .before .get322 .ensures)
+-- the entries, with the shape that was read
+listed : (c : tie.After-entries-answer) → let l = now (c .before .before .before .before .before .args .image) in
+    outcome (c .entries-answer .result) ≡ entriesAnswer l (shapeIn l) 0 (blockCount (shapeIn l))
+listed c = c .entries-answer .ensures ∙ rw (c .before .read-shape .ensures)
 
 head-ok-requires : tie.Need-head-ok-requires
 head-ok-requires c κs = search needs
@@ -28,22 +26,52 @@ returns : tie.Need-returns
 unfolding openAnswer
 returns c = simp (← c .before .head-ok .ensures, not-true (c .before .head-ok .result) (c .if1 .taken))
 
-get32-requires : tie.Need-get32-requires
-get32-requires c κs = omega (arith, headed c .long)
-
-get32-requires-2 : tie.Need-get32-requires-2
-get32-requires-2 c κs = omega (arith, headed (c .before) .long)
-
-shape-of-requires : tie.Need-shape-of-requires
-shape-of-requires c κs = search needs
+read-shape-requires : tie.Need-read-shape-requires
+read-shape-requires c κs = headed c .long
 
 entries-answer-requires : tie.Need-entries-answer-requires
-entries-answer-requires c κs = let h = headed (c .before .before .before) in rw (read c) (h .limits, h .size)
+entries-answer-requires c κs = let h = headed (c .before) in rw (c .read-shape .ensures) (h .limits, h .size)
+
+enum-told : tie.Need-enum-told
+enum-told c = search needs
+
+loop-fits-requires : tie.Need-loop-fits-requires
+loop-fits-requires c κs = headed (c .before .before .before .before)
 
 returns-2 : tie.Need-returns-2
 unfolding openAnswer
-returns-2 c = let d = c .before .before .before .before .before in
-    simp (← d .head-ok .ensures, not-false (d .head-ok .result) (c .before .before .before .before .if1 .left), ← read (c .before), ← c .entries-answer .ensures)
+returns-2 c = let e = c .before .before .before .before in
+    let i = e .before .before in
+    simp (
+      ← i .before .head-ok .ensures,
+      not-false (i .before .head-ok .result) (i .if1 .left),
+      ← listed e,
+      c .before .before .enum-told .given .1,
+      ← c .before .loop-fits .ensures,
+      not-true (c .before .loop-fits .result) (c .if2 .taken),
+    )
+
+enum-known-answer : tie.Need-enum-known-answer
+enum-known-answer c = search needs
+
+returns-3 : tie.Need-returns-3
+unfolding openAnswer
+returns-3 c = let e = c .before .before .before .before in
+    let i = e .before .before in
+    simp (
+      ← i .before .head-ok .ensures,
+      not-false (i .before .head-ok .result) (i .if1 .left),
+      ← listed e,
+      c .before .before .enum-told .given .1,
+      ← c .before .loop-fits .ensures,
+      not-false (c .before .loop-fits .result) (c .if2 .left),
+    )
+
+returns-4 : tie.Need-returns-4
+unfolding openAnswer
+returns-4 c = let e = c .before .before .before in
+    let i = e .before .before in
+    simp (← i .before .head-ok .ensures, not-false (i .before .head-ok .result) (i .if1 .left), ← listed e, c .before .answer .given .1)
 
 pub open-answer-spec : {M : Type 1} → statement M
 open-answer-spec =
@@ -51,8 +79,11 @@ open-answer-spec =
     (tie.spec
     head-ok-requires
     returns
-    get32-requires
-    get32-requires-2
-    shape-of-requires
+    read-shape-requires
     entries-answer-requires
-    returns-2)
+    enum-told
+    loop-fits-requires
+    returns-2
+    enum-known-answer
+    returns-3
+    returns-4)

@@ -3,28 +3,27 @@ use borrow.Author.Needs.{needs}
 use denote.Ref.{now}
 use mathlib.Core.Path.{_≡_, ap, _∙_}
 use native.Mathlib.Omega.{arith}
-use Rattle.layout.specs.Limits.{Limits}
-use Rattle.layout.specs.Sizes.{shape, bodiesPlace}
+use Rattle.layout.specs.Sizes.{bodiesPlace}
 use Rattle.image.specs.declared.Head.{Head}
 use Rattle.image.specs.Reading.{headIn}
 use Rattle.image.specs.inner.Asked.{Source}
 use Rattle.image.specs.inner.ByFrames.{framePlaceIn, nextFrame}
-use Rattle.image.proofs.FramePlaces.{Placed, placed, place-made, turn-source, turn-limits}
+use Rattle.image.proofs.FramePlaces.{Placed, placed, place-made, turn-source}
 use Rattle.image.proofs.comparing.next_frame.Statement.{statement}
 use Rattle.image.proofs.comparing.next_frame.Tie as tie
 
 -- the frame's source
 source : (c : tie.After-bodies-place) → let a = c .before .before .before .before .args in Source (now (a .image)) (a .head .block) (c .bodies-place .result) (a .i)
-source c = let s = c .before .before .before .before in turn-source (now (s .args .image)) _ _ _ _ (s .pre) (c .bodies-place .ensures ∙ ap bodiesPlace (c .before .shape-of .ensures))
+source c = let s = c .before .before .before .before in turn-source (now (s .args .image)) _ _ _ _ (s .pre) (c .bodies-place .ensures ∙ ap bodiesPlace (c .before .read-shape .ensures))
 
 cast-block : tie.Need-cast-block
 cast-block c = search needs
 
-shape-of-requires : tie.Need-shape-of-requires
-shape-of-requires c κs = search needs
+read-shape-requires : tie.Need-read-shape-requires
+read-shape-requires c κs = search needs
 
 bodies-place-requires : tie.Need-bodies-place-requires
-bodies-place-requires c κs = let s = c .before .before .before in rw (c .shape-of .ensures) (turn-limits (now (s .args .image)) _ _ _ (s .pre))
+bodies-place-requires c κs = rw (c .read-shape .ensures) (c .before .before .before .pre .opens .head .limits)
 
 context-before-requires : tie.Need-context-before-requires
 context-before-requires c κs = source (c .before)
@@ -57,7 +56,7 @@ next-frame-spec =
     tie.close
     (tie.spec
     cast-block
-    shape-of-requires
+    read-shape-requires
     bodies-place-requires
     context-before-requires
     mul-played-frame

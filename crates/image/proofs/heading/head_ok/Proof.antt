@@ -2,7 +2,7 @@
 use borrow.Author.Tests.{lt-leb, le-leb, not-true, not-false}
 use borrow.Author.Needs.{needs}
 use Rattle.image.specs.Opening.{headOk}
-use Rattle.image.specs.Reading.{totalIn, rateIn, blockIn, zeroIn, blocksIn}
+use Rattle.image.specs.Reading.{totalIn, rateIn, blockIn, loopsIn, blocksIn}
 use Rattle.image.proofs.heading.head_ok.Statement.{statement}
 use Rattle.image.proofs.heading.head_ok.Tie as tie
 
@@ -36,7 +36,7 @@ numbers-fit-requires : tie.Need-numbers-fit-requires
 numbers-fit-requires c κs = search needs
 
 returns-3 : tie.Need-returns-3
-unfolding headOk totalIn rateIn blockIn zeroIn blocksIn
+unfolding headOk totalIn rateIn blockIn loopsIn blocksIn
 returns-3 c =
     simp (
       le-leb _ _ (c .before .before .before .before .before .before .before .before .if1 .left),

@@ -8,7 +8,7 @@ use Rattle.block.proofs.LawsOn.{sample-place, sample-before}
 use Rattle.image.specs.inner.Asked.{Found}
 use Rattle.image.specs.inner.Runs.{contextAtSample}
 use Rattle.image.specs.Part.{perBlock}
-use Rattle.image.proofs.LawsBody.{body-length}
+use Rattle.image.proofs.LawsBody.{body-length, found-entry}
 use Rattle.image.proofs.LawsRun.{start-found, from-before, from-inside}
 use Rattle.image.proofs.running.context_at_sample.Statement.{statement}
 use Rattle.image.proofs.running.context_at_sample.Tie as tie
@@ -24,7 +24,7 @@ div-k : tie.Need-div-k
 div-k c = search needs
 
 read-context-requires : tie.Need-read-context-requires
-read-context-requires c κs = found c
+read-context-requires c κs = found-entry _ _ (found c)
 
 rem-sample-to-address : tie.Need-rem-sample-to-address
 rem-sample-to-address c = search needs

@@ -1,12 +1,13 @@
 -- `play_first` meets its contract. Assumes nothing.
 use borrow.Author.Needs.{needs}
 use mathlib.Core.Path.{_∙_}
+use Rattle.image.proofs.LawsBody.{found-entry}
 use Rattle.image.proofs.LawsRun.{rest-whole}
 use Rattle.image.proofs.running.play_first.Statement.{statement}
 use Rattle.image.proofs.running.play_first.Tie as tie
 
 read-context-requires : tie.Need-read-context-requires
-read-context-requires c κs = search needs
+read-context-requires c κs = found-entry _ _ (c .before .pre .0 .found)
 
 play-in-block-requires : tie.Need-play-in-block-requires
 play-in-block-requires c κs = search needs
