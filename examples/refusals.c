@@ -176,15 +176,32 @@ static void read_damaged(const uint8_t *damaged, size_t len, verdict meant) {
     compare(meant, of_turns(doilycairn_play_loop(damaged, len, 1, out, 0)));
 }
 
+/* Compares two images of one length, one of them or both damaged, and compares their sound: the two calls are refused alike. */
+static void compare_both(verdict meant, const uint8_t *first, const uint8_t *second, size_t len) {
+    compare(meant, of_comparison(doilycairn_same(first, len, second, len)));
+    compare(meant, of_comparison(doilycairn_sounds_same(first, len, second, len)));
+}
+
 /* Comparing with the image as it was, in either place, and with every damaged one: the first image is tested first. */
 static void compare_damaged(const subject *whole, const uint8_t *damaged, verdict meant) {
-    compare(meant, of_comparison(doilycairn_same(damaged, whole->len, whole->image, whole->len)));
-    compare(meant, of_comparison(doilycairn_same(whole->image, whole->len, damaged, whole->len)));
+    compare_both(meant, damaged, whole->image, whole->len);
+    compare_both(meant, whole->image, damaged, whole->len);
     for (size_t i = 0; i < whole->count; i++) {
         uint8_t other[LOOP_IMAGE];
         damage_image(whole, &whole->damages[i], other);
-        compare(meant, of_comparison(doilycairn_same(damaged, whole->len, other, whole->len)));
+        compare_both(meant, damaged, other, whole->len);
     }
+}
+
+/* Comparing a clip with the same one with a loop is no refusal; with the lowest pair in either it is one. */
+static void comparing(const uint8_t *image, const uint8_t *looped) {
+    uint8_t low[IMAGE];
+    memcpy(low, image, IMAGE);
+    low[16] = low[18] = 0x80;
+    expect_no_block(DOILYCAIRN_ACCEPTED, of_comparison(doilycairn_same(image, IMAGE, looped, LOOP_IMAGE)));
+    expect_no_block(DOILYCAIRN_ACCEPTED, of_comparison(doilycairn_sounds_same(image, IMAGE, looped, LOOP_IMAGE)));
+    expect_no_block(DOILYCAIRN_LOWEST_PAIR, of_comparison(doilycairn_same(low, IMAGE, looped, LOOP_IMAGE)));
+    expect_no_block(DOILYCAIRN_LOWEST_PAIR, of_comparison(doilycairn_sounds_same(looped, LOOP_IMAGE, low, IMAGE)));
 }
 
 static void reading_damaged(const subject *whole) {
@@ -230,6 +247,7 @@ int main(void) {
     playing_bytes();
     reading(image);
     playing_loop(image, looped);
+    comparing(image, looped);
     subject plain = {image, IMAGE, damages, sizeof damages / sizeof damages[0]};
     subject with_loop = {looped, LOOP_IMAGE, loop_damages, sizeof loop_damages / sizeof loop_damages[0]};
     reading_damaged(&plain);

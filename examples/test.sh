@@ -57,7 +57,13 @@ for samples in 1 14 15 1000 48000; do
     expect 0 "$bin/play" fine fine.raw
     bytes clip.raw $((2 * samples))
     cmp clip.raw fine.raw
-    expect 0 "$bin/compare" clip fine
+    # In other blocks: another image of the same sound. Encoded once more: the same.
+    expect 1 "$bin/compare" clip fine
+    expect 0 "$bin/encode" again $samples 4096
+    expect 0 "$bin/compare" clip again
+    # At another rate.
+    damage 11
+    expect 1 "$bin/compare" clip damaged
     # As a trim screen and as a player do: from the middle, and all in pieces.
     plays_part fine fine.raw $((samples / 2)) 200
     plays_part fine fine.raw 0 $samples
@@ -80,7 +86,7 @@ expect 0 "$bin/play" long long.raw
 bytes long.raw 2000000
 
 expect 0 "$bin/encode" other 48000 4096 555
-expect 1 "$bin/compare" clip other
+expect 3 "$bin/compare" clip other
 
 # Refused, each with its message: no clip, bad block sizes, a cut and a damaged image.
 expect 2 "$bin/encode" none 0

@@ -357,12 +357,23 @@ doilycairn_part doilycairn_play_from(const uint8_t *image, size_t image_len, uin
 doilycairn_turns doilycairn_play_loop(const uint8_t *image, size_t image_len, uint32_t times, int16_t *out, size_t out_len);
 
 /*
- * Whether two images have equally many samples and play the same ones. Rate and gain do not count, nor do coefficients, block size, the loop
- * and the bytes: compare what doilycairn_open gives too where these matter. Refused by 15, 20, 21, 22, 24, 13 of the first, then of the second.
- * `entry` is of the first image if that one is refused, else of the second: with 20, 21, 22 it is of the first unless that one opens, as one
- * doilycairn_open tells.
+ * Whether two images are the same: they have equally many samples and play the same ones, and rate, gain, block size, all sixteen coefficients (those
+ * that no frame uses too), the context of every block and the loop agree. Contexts agree where their headers do, the top bit apart, and both samples.
+ * Loops agree where neither image has one, or both have one with the same start, the same end and contexts that agree.
+ * Not counted are the top bit of a header, which playing does not use (in a frame, in a block's entry, in the loop's entry), the low nibble of the last
+ * byte where the last frame has an odd count of samples, and bytes after the image. The header of a frame that does not begin a block counts by the
+ * samples that it gives alone, unless the loop starts in that frame: the loop's context repeats it. Which image is the first matters for refusals only.
+ * Refused by 15, 20, 21, 22, 24, 13 of the first, then of the second. `entry` is of the first image if that one is refused, else of the second: with
+ * 20, 21, 22 it is of the first unless that one opens, as one doilycairn_open tells.
  */
 doilycairn_comparison doilycairn_same(const uint8_t *first, size_t first_len, const uint8_t *second, size_t second_len);
+
+/*
+ * Whether two images sound the same: they have equally many samples and play the same ones. Nothing else counts: not rate, gain, block size,
+ * coefficients, contexts and the loop, nor the bytes. Images that doilycairn_same calls the same sound the same.
+ * Refused as doilycairn_same is, with the same `entry`.
+ */
+doilycairn_comparison doilycairn_sounds_same(const uint8_t *first, size_t first_len, const uint8_t *second, size_t second_len);
 
 /* ---- Blocks without an image ---- */
 

@@ -2,7 +2,9 @@
 //!
 //! `cargo run --example demo FOLDER` leaves clip.wav and the images clip.dspc and altered.dspc in the folder.
 
-use doilycairn::{Coefficients, Encoder, History, Image, Measure, Start, same, store_size};
+use doilycairn::{
+    Coefficients, Encoder, History, Image, Measure, Start, same, sounds_same, store_size,
+};
 use std::error::Error;
 use std::path::Path;
 
@@ -158,6 +160,22 @@ fn wav(clip: &[i16]) -> Vec<u8> {
     file
 }
 
+/// Compares the image with that of one piece, with one in other blocks and with one that is altered; gives the last.
+fn compare(clip: &[i16], start: &Start, image: &[u8]) -> Answer<Vec<u8>> {
+    ensure(same(image, &encode_whole(clip, start)?)?, "in one piece, the same")?;
+    println!("  with that of one piece: the same");
+    let fine = encode_whole(clip, &Start { block_size: 256, ..*start })?;
+    ensure(!same(image, &fine)?, "other blocks, another image")?;
+    ensure(sounds_same(image, &fine)?, "other blocks, the same sound")?;
+    println!("  in blocks of 256 bytes, {} bytes: not the same, but the same sound", fine.len());
+    let mut altered = image.to_vec();
+    altered[image.len() / 16 * 8 + 3] ^= 0x70;
+    ensure(!same(image, &altered)?, "one byte altered, another image")?;
+    ensure(!sounds_same(image, &altered)?, "one byte altered, another sound")?;
+    println!("  with one byte altered: not the same, and another sound");
+    Ok(altered)
+}
+
 fn main() -> Answer<()> {
     let folder = std::env::args_os().nth(1).ok_or("the folder for the files is missing")?;
     let clip = synthesise();
@@ -186,15 +204,8 @@ fn main() -> Answer<()> {
     ensure(bytes == encode_whole(&clip, &start)?, "the image is that of one piece")?;
     println!("  the image is that of one piece, byte for byte: {} bytes", bytes.len());
 
-    println!("Compared by sound:");
-    let fine = encode_whole(&clip, &Start { block_size: 256, ..start })?;
-    ensure(same(&bytes, &fine)?, "other blocks, the same sound")?;
-    println!("  in blocks of 256 bytes, {} bytes: the same", fine.len());
-    let mut altered = bytes.clone();
-    let middle = altered.len() / 16 * 8;
-    altered[middle + 3] ^= 0x70;
-    ensure(!same(&bytes, &altered)?, "one byte altered, another sound")?;
-    println!("  with one byte altered: not the same");
+    println!("Compared:");
+    let altered = compare(&clip, &start, &bytes)?;
 
     println!("Decoded, {} samples, and compared with the clip:", clip.len());
     show_distances(&distances(&clip, &Image::open(&bytes)?)?)?;

@@ -2,7 +2,7 @@
 //!
 //! `cargo run --example round_trip [IMAGE]` also writes the image to a file.
 
-use doilycairn::{Encoder, History, Image, Measure, Start, same};
+use doilycairn::{Encoder, History, Image, Measure, Start, same, sounds_same};
 use std::error::Error;
 
 const RATE: u32 = 32_000;
@@ -49,7 +49,10 @@ fn main() -> Result<(), Box<dyn Error>> {
     let distance = |(a, b): (&i16, i16)| (i32::from(*a) - i32::from(b)).abs();
     let most = clip.iter().zip(image.samples()?).map(distance).max();
     println!("played within {} of the original", most.unwrap_or(0));
-    println!("the same in smaller blocks: {}", same(&bytes, &encode(&clip, 256)?)?);
+    let smaller = encode(&clip, 256)?;
+    println!("the same once more: {}", same(&bytes, &encode(&clip, 4096)?)?);
+    println!("the same in smaller blocks: {}", same(&bytes, &smaller)?);
+    println!("the same sound in smaller blocks: {}", sounds_same(&bytes, &smaller)?);
 
     let refusal = Image::open(&bytes[1..]).unwrap_err();
     println!("without its first byte: {refusal}");

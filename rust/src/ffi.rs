@@ -211,6 +211,12 @@ mod raw {
             second: *const u8,
             second_len: usize,
         ) -> Comparison;
+        pub fn doilycairn_sounds_same(
+            first: *const u8,
+            first_len: usize,
+            second: *const u8,
+            second_len: usize,
+        ) -> Comparison;
         pub fn doilycairn_play_bytes(
             bytes: *const u8,
             bytes_len: usize,
@@ -346,6 +352,13 @@ pub(crate) fn same(first: &[u8], second: &[u8]) -> Comparison {
     let (a, b) = (first.as_ptr(), second.as_ptr());
     // SAFETY: both slices are passed with their own lengths and only read, so they may overlap.
     unsafe { raw::doilycairn_same(a, first.len(), b, second.len()) }
+}
+
+#[allow(unsafe_code)]
+pub(crate) fn sounds_same(first: &[u8], second: &[u8]) -> Comparison {
+    let (a, b) = (first.as_ptr(), second.as_ptr());
+    // SAFETY: both slices are passed with their own lengths and only read, so they may overlap.
+    unsafe { raw::doilycairn_sounds_same(a, first.len(), b, second.len()) }
 }
 
 #[allow(unsafe_code)]

@@ -4,8 +4,10 @@ use crate::{Block, Coefficients, FrameContext, LoopState, Played, Refusal, Sampl
 
 mod looped;
 mod part;
+mod sameness;
 
 pub use part::Part;
+pub use sameness::{same, sounds_same};
 
 /// The bytes of the head, and of each entry of the table after it.
 const HEAD: usize = 56;
@@ -114,11 +116,6 @@ impl<'a> Image<'a> {
         Ok(out)
     }
 
-    /// Whether the other image has equally many samples and plays the same ones. Rate, gain and loop do not count.
-    pub fn same(&self, other: &Image) -> Result<bool, Refusal> {
-        same(self.bytes, other.bytes)
-    }
-
     /// What the entry of block `k` says, one of the image's blocks.
     pub(crate) fn entry(&self, k: u32) -> Block<'a> {
         let (offset, nibbles) = (self.get32(k, 0), self.get32(k, 4));
@@ -140,15 +137,4 @@ impl<'a> Image<'a> {
     fn get32(&self, k: u32, place: usize) -> u32 {
         u32::from(self.get16(k, place)) << 16 | u32::from(self.get16(k, place + 2))
     }
-}
-
-/// Whether two images have equally many samples and play the same ones, whatever their bytes. Rate, gain, coefficients, block size and loop do
-/// not count.
-///
-/// A refusal is of the first image if that one is refused, else of the second. Where it names a block ([`Refusal::block`]), it is of the first
-/// unless that one opens.
-pub fn same(first: &[u8], second: &[u8]) -> Result<bool, Refusal> {
-    let comparison = ffi::same(first, second);
-    Refusal::check(comparison.code, comparison.entry)?;
-    Ok(comparison.same)
 }

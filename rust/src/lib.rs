@@ -69,7 +69,7 @@ pub use block::{
 pub use coefficients::Coefficients;
 pub use encoder::{Encoder, EncoderState, Start, image_size, loop_image_size};
 pub use frame::{EncodedFrame, History, encode_frame};
-pub use image::{Head, Image, Part, same};
+pub use image::{Head, Image, Part, same, sounds_same};
 pub use loops::{Loop, LoopState};
 pub use measure::{Calculator, Measure, Store, store_size};
 pub use refusal::Refusal;

@@ -1,12 +1,13 @@
 //! Calls on images, and their answers as documents 01 and 02 read images and the Rust plays blocks.
 
+use crate::comparing::{same, sounds_same};
 use crate::located::Run;
 use crate::looped::{LoopEntry, Turns};
-use crate::reader::{Played, Refused, open, same};
+use crate::reader::{Played, Refused, open};
 use clip_list::{Loop, bytes, hexadecimal};
 use oracle::FrameContext;
 
-/// A call; all but the last two are made on the first image.
+/// A call; all but the last four are made on the first image.
 #[derive(Debug, Clone, Copy, PartialEq)]
 pub enum Call {
     Open,
@@ -34,6 +35,10 @@ pub enum Call {
     Same,
     /// Compares the second image with the first.
     Reversed,
+    /// Compares by the sound alone.
+    SoundsSame,
+    /// Compares the second image with the first by the sound alone.
+    SoundsReversed,
 }
 
 impl Call {
@@ -47,6 +52,8 @@ impl Call {
             Self::PlayLoop { .. } => 't',
             Self::Same => 's',
             Self::Reversed => 'r',
+            Self::SoundsSame => 'h',
+            Self::SoundsReversed => 'v',
         }
     }
 
@@ -79,8 +86,10 @@ impl Call {
             Self::PlayLoop { times, room } => {
                 turns(room, open(first).and_then(|image| image.play_loop(times, room)))
             }
-            Self::Same => compared(first, second),
-            Self::Reversed => compared(second, first),
+            Self::Same => compared(same(first, second)),
+            Self::Reversed => compared(same(second, first)),
+            Self::SoundsSame => compared(sounds_same(first, second)),
+            Self::SoundsReversed => compared(sounds_same(second, first)),
         }
     }
 }
@@ -154,7 +163,6 @@ fn turns(room: usize, turns: Turns) -> String {
     format!("{begun} {:08x} {}", samples.len(), output(room, &samples))
 }
 
-fn compared(first: &[u8], second: &[u8]) -> String {
-    let same = same(first, second);
-    format!("{} {:08x}", begun(&same), u8::from(same.unwrap_or_default()))
+fn compared(answer: Result<bool, Refused>) -> String {
+    format!("{} {:08x}", begun(&answer), u8::from(answer.unwrap_or_default()))
 }

@@ -8,9 +8,12 @@ use crate::loops::loops;
 use crate::made::{Clip, any_image, clip_image};
 use crate::reader::long;
 use crate::refusals::refusals;
+use crate::refused_pairs::refused_pairs;
 use crate::refused_runs::refused_runs;
 use crate::runs::runs;
 use crate::sameness::sameness;
+use crate::strictly::strictly;
+use crate::uncounted::uncounted;
 use crate::writer::Writer;
 use clip_list::{HISTORIES, Start, image_of};
 use oracle::pairs::largest_measured;
@@ -32,6 +35,10 @@ pub fn cases() -> Vec<Case> {
     cases.extend(runs(&mut random));
     cases.extend(refused_runs(&mut random));
     cases.extend(loops(&mut Random::new(3)));
+    let mut random = Random::new(4);
+    cases.extend(strictly(&mut random));
+    cases.extend(uncounted(&mut random));
+    cases.push(refused_pairs(&mut random));
     cases
 }
 

@@ -2,6 +2,7 @@
 
 use crate::damage::{ENTRY, HEAD, block_count, has_loop, loop_place, table};
 use crate::fault::change;
+use crate::headers::whole;
 use crate::loop_damage::loop_frame;
 use crate::reader::long;
 use clip_list::{Loop, Start, bytes, image_of, random_start, with_random_loop};
@@ -89,6 +90,24 @@ pub fn put_any_histories(random: &mut Random, image: &mut [u8]) {
         let place = HEAD + ENTRY * k + 10;
         let history = bytes(&[random.sample(), random.sample()]);
         image[place..place + 4].copy_from_slice(&history);
+    }
+}
+
+/// Makes much of an image unheard: coefficients zero or all pairs alike, some frames' nibbles zero, some histories zero.
+pub fn put_quiet(random: &mut Random, image: &mut [u8]) {
+    match random.below(4) {
+        0 => image[16..48].fill(0),
+        1 | 2 => (20..48).step_by(4).for_each(|place| image.copy_within(16..20, place)),
+        _ => {}
+    }
+    let (bodies, end) = (table(image), whole(image));
+    for frame in (bodies..end).step_by(8).filter(|_| random.below(4) > 0) {
+        image[frame + 1..end.min(frame + 8)].fill(0);
+    }
+    for k in 0..block_count(image) + usize::from(has_loop(image)) {
+        if random.below(2) == 0 {
+            image[HEAD + ENTRY * k + 10..HEAD + ENTRY * k + 14].fill(0);
+        }
     }
 }
 

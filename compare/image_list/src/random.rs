@@ -3,6 +3,7 @@
 use crate::call::Call;
 use crate::case::{Case, MOST_ROOM};
 use crate::damage::{block_count, damaged, has_loop, loop_place, with_nibble};
+use crate::derived::{alike, altered_field};
 use crate::made::{Clip, put_any_bytes};
 use crate::reader::long;
 use crate::writer::Writer;
@@ -34,12 +35,21 @@ pub fn random_images(random: &mut Random) -> Case {
         read(random, &mut case, &image);
         run(&mut of_runs, &mut case, &image);
         turns(random, &mut case, &image);
-        case.open().both_ways();
+        case.open().all_ways();
         if random.below(4) == 0 {
-            case.second(&altered(random, &clip, &image)).both_ways().second(&image);
+            case.second(&altered(random, &clip, &image)).all_ways().second(&image);
         }
     }
+    compare_derived(&mut of_runs, &clip, &image, &mut case);
     case.finish()
+}
+
+/// Compares the image with one that mostly is the same, that with another such one or with one of which a field is altered, and this with the image.
+fn compare_derived(random: &mut Random, clip: &Clip, image: &[u8], case: &mut Writer) {
+    let first = alike(random, clip, image);
+    let second = [alike, altered_field][random.below(2)](random, clip, &first);
+    case.first(&first).second(image).all_ways();
+    case.second(&second).all_ways().first(image).all_ways();
 }
 
 /// A source of random numbers that the image's bytes tell.

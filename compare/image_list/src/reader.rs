@@ -158,22 +158,8 @@ impl Opened<'_> {
         Ok((samples.concat(), *contexts.last().unwrap()))
     }
 
-    /// The samples of all blocks.
-    fn samples(&self) -> Result<Vec<i16>, Refused> {
-        Ok(self.play_all(usize::MAX)?.0)
-    }
-
     /// Code 13.
     pub(crate) fn test_pairs(&self) -> Result<(), Refused> {
         if has_lowest_pair(&self.coefficients) { Err(Refused::by(13)) } else { Ok(()) }
     }
-}
-
-/// Whether two images have equally many samples and play the same ones.
-pub fn same(first: &[u8], second: &[u8]) -> Result<bool, Refused> {
-    let first = open(first)?;
-    first.test_pairs()?;
-    let second = open(second)?;
-    second.test_pairs()?;
-    Ok(first.total == second.total && first.samples()? == second.samples()?)
 }

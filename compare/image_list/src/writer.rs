@@ -75,6 +75,11 @@ impl Writer {
         self.call(Call::Same).call(Call::Reversed)
     }
 
+    /// Compares both ways, also by the sound alone.
+    pub fn all_ways(&mut self) -> &mut Self {
+        self.both_ways().call(Call::SoundsSame).call(Call::SoundsReversed)
+    }
+
     /// Compares one of both ways.
     pub fn one_way(&mut self, random: &mut Random) -> &mut Self {
         self.call([Call::Same, Call::Reversed][random.below(2)])

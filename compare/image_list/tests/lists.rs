@@ -1,7 +1,7 @@
 //! The lines are as said, and the lists have every call and answer.
 
-use image_list::reader::{Refused, same};
-use image_list::{Call, Case, Machine, Step, To, cases, random_images, table};
+use image_list::reader::Refused;
+use image_list::{Call, Case, Machine, Step, To, cases, random_images, same, table};
 use oracle::list::Listed;
 use oracle::random::Random;
 
@@ -32,6 +32,8 @@ fn call_of(letter: &str, k: u32, room: usize) -> Call {
         "t" => Call::PlayLoop { times: k, room },
         "s" => Call::Same,
         "r" => Call::Reversed,
+        "h" => Call::SoundsSame,
+        "v" => Call::SoundsReversed,
         _ => panic!("{letter}"),
     }
 }
@@ -61,7 +63,7 @@ fn the_list_is_large_enough() {
     let answers: String = cases.iter().map(Case::answers).collect();
     let calls = answers.lines().count();
     println!("{} cases, {calls} calls, {} and {} bytes", cases.len(), inputs.len(), answers.len());
-    assert!(calls >= 5000 && inputs.len() + answers.len() <= 1_000_000);
+    assert!(calls >= 6000 && inputs.len() + answers.len() <= 1_100_000);
 }
 
 #[test]
@@ -115,7 +117,9 @@ fn each_call_has_an_answer() {
                 Call::PlayLoop { room, .. } => {
                     assert_eq!(words, [2, 8, 8, 4 * room], "{answer}");
                 }
-                Call::Same | Call::Reversed => assert_eq!(words, [2, 8, 8], "{answer}"),
+                Call::Same | Call::Reversed | Call::SoundsSame | Call::SoundsReversed => {
+                    assert_eq!(words, [2, 8, 8], "{answer}");
+                }
             }
         }
     }
@@ -123,9 +127,9 @@ fn each_call_has_an_answer() {
 
 /// The calls' letters and answers, for comparing with whether the images are the same.
 fn kinds(cases: &[Case]) -> Vec<String> {
-    let kind = |(call, _, answer): (Call, _, String)| match (call, &answer[..2]) {
-        (Call::Same | Call::Reversed, "00") => format!("{}{}", call.letter(), &answer[19..]),
-        (_, code) => format!("{}{code}", call.letter()),
+    let kind = |(call, _, answer): (Call, _, String)| match (call.letter(), &answer[..2]) {
+        (letter @ ('s' | 'r' | 'h' | 'v'), "00") => format!("{letter}{}", &answer[19..]),
+        (letter, code) => format!("{letter}{code}"),
     };
     cases.iter().flat_map(answered).map(kind).collect()
 }
@@ -133,7 +137,8 @@ fn kinds(cases: &[Case]) -> Vec<String> {
 /// All kinds that there are.
 const KINDS: &str = "o00 o0f o14 o15 o16 o18 k00 k0f k11 k14 k15 k16 k18 p00 p0d p0e p0f p11 p14 p15 p16 p18 \
     a00 a0d a0e a0f a14 a15 a16 a18 m00 m0d m0f m13 m14 m15 m16 m18 t00 t0d t0e t0f t14 t15 t16 t18 \
-    s0 s1 s0d s0f s14 s15 s16 s18 r0 r1 r0d r0f r14 r15 r16 r18";
+    s0 s1 s0d s0f s14 s15 s16 s18 r0 r1 r0d r0f r14 r15 r16 r18 \
+    h0 h1 h0d h0f h14 h15 h16 h18 v0 v1 v0d v0f v14 v15 v16 v18";
 
 #[test]
 fn every_call_has_every_answer() {
@@ -157,24 +162,27 @@ fn bad_entries(cases: &[Case]) -> Vec<(char, u8, usize)> {
 
 #[test]
 fn every_call_names_the_first_block_and_later_ones() {
-    for (cases, letters) in [(cases(), "okpamsr"), (random_cases(2000), "okpamtsr")] {
+    for (cases, letters) in [(cases(), "okpamsrhv"), (random_cases(2000), "okpamtsrhv")] {
         let seen = bad_entries(&cases);
         for letter in letters.chars() {
             for code in 20..=22 {
                 let blocks = seen.iter().filter(|bad| (bad.0, bad.1) == (letter, code));
                 let later = blocks.clone().filter(|bad| bad.2 > 0).count();
                 let least = later.min(blocks.count() - later);
-                assert!(least >= 2, "{letter}, {code}: {least}");
+                let fewest = if "hv".contains(letter) { 1 } else { 2 };
+                assert!(least >= fewest, "{letter}, {code}: {least}");
             }
         }
     }
 }
 
-/// The images that are compared, in the order of comparing, each with why it is refused, if it is.
-fn compared(case: &Case) -> Vec<[Option<Refused>; 2]> {
+/// The images that are compared, by the sound alone or not, in the order of comparing, each with why it is refused, if it is.
+fn compared(case: &Case, by_sound: bool) -> Vec<[Option<Refused>; 2]> {
     let of_call = |(call, [first, second], _): (Call, [Vec<u8>; 2], String)| match call {
-        Call::Same => Some([first, second]),
-        Call::Reversed => Some([second, first]),
+        Call::Same if !by_sound => Some([first, second]),
+        Call::Reversed if !by_sound => Some([second, first]),
+        Call::SoundsSame if by_sound => Some([first, second]),
+        Call::SoundsReversed if by_sound => Some([second, first]),
         _ => None,
     };
     let pairs = answered(case).into_iter().filter_map(of_call);
@@ -183,7 +191,14 @@ fn compared(case: &Case) -> Vec<[Option<Refused>; 2]> {
 
 #[test]
 fn two_images_are_refused_in_every_order() {
-    let pairs: Vec<_> = cases().iter().flat_map(compared).collect();
+    for by_sound in [false, true] {
+        let pairs: Vec<_> = cases().iter().flat_map(|case| compared(case, by_sound)).collect();
+        every_order(&pairs);
+    }
+}
+
+/// Every two reasons are among these.
+fn every_order(pairs: &[[Option<Refused>; 2]]) {
     let code = |refused: Option<Refused>| refused.map_or(0, |refused| refused.code);
     let is_told = |[first, second]: [Option<Refused>; 2]| match (first, second) {
         (Some(first), Some(second)) => first != second || first.code < 20,

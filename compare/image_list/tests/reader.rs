@@ -2,7 +2,7 @@
 //! 4/13, and plays the Rust's blocks.
 
 use clip_list::{Start, image_of, random_samples, random_start};
-use image_list::reader::{Refused, open, same};
+use image_list::reader::{Refused, open};
 use image_list::{ENTRY, FAULTS, HEAD, block_count, body, clip_image, table};
 use oracle::random::Random;
 use oracle::{Block, decode, encode_blocks};
@@ -33,7 +33,6 @@ fn the_worked_image() {
     assert_eq!(opened.play_all(0).err(), Some(Refused::by(14)));
     assert_eq!(opened.play(0, 0).err(), Some(Refused::by(14)));
     assert_eq!(opened.play(1, 9).err(), Some(Refused::by(17)));
-    assert_eq!(same(&image, &image), Ok(true));
 }
 
 #[test]
@@ -131,18 +130,6 @@ fn the_worked_table() {
     }
 }
 
-#[test]
-fn the_first_image_is_tested_first() {
-    let mut lowest = image();
-    lowest[16..20].copy_from_slice(&[0x80, 0, 0x80, 0]);
-    let (bad, good) = (with(0, 0), image());
-    assert_eq!(same(&lowest, &bad), Err(Refused::by(13)));
-    assert_eq!(same(&bad, &lowest), Err(Refused::by(15)));
-    assert_eq!(same(&good, &lowest), Err(Refused::by(13)));
-    assert_eq!(same(&good, &with(73, 0x50)), Ok(false));
-    assert_eq!(same(&good, &with(73, 0x4f)), Ok(true));
-}
-
 /// Random clips: what they are started with, and their samples.
 fn clips() -> impl Iterator<Item = (Start, Vec<i16>)> {
     let mut random = Random::new(5);
@@ -164,23 +151,5 @@ fn images_play_the_rusts_blocks() {
         let image = image_of(&start, &[&samples]);
         let all = open(&image).unwrap().play_all(samples.len());
         assert_eq!(all.map(|(samples, _)| samples), Ok(played));
-    }
-}
-
-#[test]
-fn the_same_samples_are_the_same_at_every_block_size() {
-    for (start, samples) in clips() {
-        let image = image_of(&start, &[&samples]);
-        for size in [8, 24, 200] {
-            let other = image_of(&Start { size, ..start.clone() }, &[&samples]);
-            assert_eq!(same(&image, &other), Ok(true));
-        }
-        if let [less @ .., _] = &samples[..]
-            && !less.is_empty()
-        {
-            let total = less.len() as u32;
-            let other = image_of(&Start { total, ..start.clone() }, &[less]);
-            assert_eq!(same(&image, &other), Ok(false));
-        }
     }
 }

@@ -153,7 +153,22 @@ macro_rules! answers_of_c {
     };
 }
 
-answers_of_c!(Body Playback Comparison);
+answers_of_c!(Body Playback);
+
+/// Where two images are compared, whether they are the same is altered alone.
+impl Answer for Comparison {
+    fn alter(&mut self) {
+        match self.code {
+            0 => self.same ^= 1,
+            20..=22 => self.entry ^= 1,
+            _ => self.code ^= 1,
+        }
+    }
+
+    fn refused(&self) -> Option<Refused> {
+        refused_by(self.code, self.entry)
+    }
+}
 
 /// Where there is a loop, its context alone is altered.
 impl Answer for Opening {

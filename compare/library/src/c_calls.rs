@@ -3,8 +3,8 @@
 use crate::ffi::{self, Body, Comparison, Context, Head, Loop, Opening, Part, Playback, Turns};
 use crate::reading::pattern;
 use crate::tally::Tally;
-use image_list::reader::{Opened, Played, Refused, same};
-use image_list::{Located, LoopEntry, Run};
+use image_list::reader::{Opened, Played, Refused};
+use image_list::{Located, LoopEntry, Run, Sameness, sameness};
 use oracle::FrameContext;
 
 /// An image as it is read, whether it opens or not.
@@ -131,10 +131,23 @@ pub fn compare_play_loop(image: &[u8], read: &Read, times: u32, room: usize, tal
     tally.compare("play_loop's output", &(shown(image), times, room), out, right_out);
 }
 
-/// Compares two images.
+/// Compares two images, by all that counts and by the sound alone.
 pub fn compare_same(first: &[u8], second: &[u8], tally: &mut Tally) {
-    let right = same(first, second);
-    let (code, entry) = begun(&right);
-    let right = Comparison { code, entry, same: right.unwrap_or_default().into() };
-    tally.compare("same", &(shown(first), shown(second)), ffi::same(first, second), right);
+    compare_sameness(first, second, &sameness(first, second), tally);
+}
+
+/// Compares two images, of which it is told how they compare.
+pub fn compare_sameness(
+    first: &[u8],
+    second: &[u8],
+    right: &Result<Sameness, Refused>,
+    tally: &mut Tally,
+) {
+    let (code, entry) = begun(right);
+    let Sameness { same, sounds_same } = right.unwrap_or_default();
+    let [same, sounds_same] =
+        [same, sounds_same].map(|same| Comparison { code, entry, same: same.into() });
+    let input = (shown(first), shown(second));
+    tally.compare("same", &input, ffi::same(first, second), same);
+    tally.compare("sounds_same", &input, ffi::sounds_same(first, second), sounds_same);
 }

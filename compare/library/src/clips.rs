@@ -1,11 +1,11 @@
 //! Whole clips: measured, started, fed, closed, opened, played, compared and damaged.
 
+use crate::clip_sameness::compare_clips;
 use crate::convert::number;
 use crate::damage;
 use crate::encoding::{encoded, random_start};
 use crate::measuring::{Measuring, compare_finish, compare_process};
 use crate::reading::{compare_block, compare_open, compare_play};
-use crate::sameness::compare_sameness;
 use crate::tally::Tally;
 use coefficient_list::{Step, random_clip};
 use doilycairn::store_size;
@@ -21,7 +21,7 @@ pub fn random(random: &mut Random, tally: &mut Tally) {
     let image = encoded(random, &start, &samples, tally);
     if !samples.is_empty() {
         read(random, &image, tally);
-        compare_sameness(random, &start, &samples, &image, tally);
+        compare_clips(random, &start, &samples, &image, tally);
         damage::random(random, &image, tally);
     }
 }

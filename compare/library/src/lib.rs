@@ -1,14 +1,15 @@
 //! Drives libdoilycairn.a and the unchanged Rust on the same inputs and compares every result.
 //!
 //! What is encoded, played, joined, converted and measured is the Rust's answer; refusals' numbers, states and how an image is made
-//! and read are document 01's, the limit of a pair of coefficients, the block of a bad entry, the run from a sample on and loops
-//! document 02's, read plainly.
+//! and read are document 01's, the limit of a pair of coefficients, the block of a bad entry, the run from a sample on, loops and what
+//! counts where two images are compared document 02's, read plainly.
 
 mod answer;
 mod blocks;
 mod c_calls;
 mod c_encoding;
 mod calls;
+mod clip_sameness;
 mod clips;
 mod contents;
 mod convert;
@@ -27,6 +28,7 @@ mod parts;
 mod reading;
 mod runs;
 mod sameness;
+mod sameness_laws;
 mod states;
 mod stores;
 mod tally;
@@ -48,7 +50,7 @@ pub struct Part {
 pub const LONG: Part = Part { name: "long", fixed: |_| {}, random: long::random };
 
 /// All other parts.
-pub const PARTS: [Part; 9] = [
+pub const PARTS: [Part; 10] = [
     Part { name: "frames", fixed: frames::fixed, random: frames::random },
     Part { name: "blocks", fixed: blocks::fixed, random: blocks::random },
     Part { name: "stores", fixed: |_| {}, random: stores::random },
@@ -57,6 +59,7 @@ pub const PARTS: [Part; 9] = [
     Part { name: "clips", fixed: |_| {}, random: clips::random },
     Part { name: "parts", fixed: parts::fixed, random: parts::random },
     Part { name: "loops", fixed: loops::fixed, random: loops::random },
+    Part { name: "sameness", fixed: sameness::fixed, random: sameness::random },
     Part { name: "contents", fixed: contents::fixed, random: contents::random },
 ];
 

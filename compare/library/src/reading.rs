@@ -5,6 +5,7 @@ use crate::tally::Tally;
 use crate::turns::{compare_told, compare_turns, samples_of_loop};
 use doilycairn::{Head, Image, Played, Refusal};
 use image_list::reader::{self, Refused};
+use image_list::{Sameness, sameness};
 use oracle::random::Random;
 use oracle::{Coefficients, FrameContext, address_to_sample};
 
@@ -102,8 +103,22 @@ pub fn compare_play(bytes: &[u8], tally: &mut Tally) {
     compare_turns(bytes, &Ok(opened), 2, needed + 1, tally);
 }
 
-/// Compares two images.
+/// Compares two images, by all that counts and by the sound alone.
 pub fn compare_same(first: &[u8], second: &[u8], tally: &mut Tally) {
+    compare_sameness(first, second, &sameness(first, second), tally);
+}
+
+/// Compares two images, of which it is told how they compare.
+pub fn compare_sameness(
+    first: &[u8],
+    second: &[u8],
+    right: &Result<Sameness, Refused>,
+    tally: &mut Tally,
+) {
+    let input = (first, second);
     let library = doilycairn::same(first, second).map_err(refused);
-    tally.compare("same", &(first, second), library, reader::same(first, second));
+    tally.compare("doilycairn::same", &input, library, right.map(|right| right.same));
+    let library = doilycairn::sounds_same(first, second).map_err(refused);
+    let right = right.map(|right| right.sounds_same);
+    tally.compare("doilycairn::sounds_same", &input, library, right);
 }

@@ -64,7 +64,8 @@ fn each_altered_answer_through_c_is_found() {
 #[test]
 fn each_call_names_the_first_block_and_later_ones() {
     let seen = run(part("contents"), 4, 4, None).bad_entries;
-    for what in ["open", "block_body", "play", "play_all", "play_from", "play_loop", "same"] {
+    let calls = ["open", "block_body", "play", "play_all", "play_from", "play_loop"];
+    for what in calls.into_iter().chain(["same", "sounds_same"]) {
         for code in 20..=22 {
             for later in [false, true] {
                 assert!(seen[&(what, code, later)] >= 100, "{what}, {code}: {seen:?}");
@@ -92,6 +93,17 @@ fn loops_are_refused_for_every_reason() {
 }
 
 #[test]
+fn images_are_compared_with_every_answer() {
+    let tally = run(part("sameness"), 4000, 8, None);
+    for code in [13, 15, 20, 21, 22, 24] {
+        assert!(tally.refused[code] >= 50, "{tally}");
+    }
+    let made = |what| tally.compared[what];
+    assert!(made("transitive") > 1000 && made("transitive by sound") > made("transitive") + 500);
+    assert!(made("same is the same sound") + 3000 < made("symmetric"), "{tally}");
+}
+
+#[test]
 fn frames_with_an_older_bank_are_many_and_do_not_all_end_at_exponent_12() {
     for (name, count) in [("frames", 6000), ("clips", 300)] {
         let frames = run(part(name), count, 6, None).frames;
@@ -115,6 +127,7 @@ fn the_program_says_whether_anything_differs() {
     assert_eq!(status(&["20", "3", "clips", "wrong=image"]), Some(1));
     assert_eq!(status(&["20", "3", "parts", "wrong=in two"]), Some(1));
     assert_eq!(status(&["20", "3", "loops", "wrong=play_loop's output"]), Some(1));
+    assert_eq!(status(&["20", "3", "sameness", "wrong=transitive"]), Some(1));
     assert_eq!(status(&["20", "3", "blocks", "wrong=image"]), Some(2));
     for words in [&["20"][..], &["20", "x"], &["20", "3", "others"]] {
         assert_eq!(status(words), Some(2));

@@ -7,5 +7,6 @@ pub mod LawsAddress
 pub mod LawsPlay
 pub mod LawsParts
 pub mod LawsOn
+pub mod HeardAlike
 pub mod LawsCalls
 pub mod Worked

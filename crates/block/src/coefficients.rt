@@ -39,8 +39,8 @@ pub fn lowest_pair(coefficients: [i16; 16]) -> bool
     found
 }
 
-// Whether the sixteen coefficients of two blocks are equal.
-pub(crate) fn equal_coefficients(first: [i16; 16], second: [i16; 16]) -> bool
+// Whether the sixteen coefficients of two blocks are equal. It is internal: crate image calls it.
+pub fn equal_coefficients(first: [i16; 16], second: [i16; 16]) -> bool
     ensures { λ r. ⌜ r ≡ equalCoefficients first second ⌝ }
 {
     let mut all = true;

@@ -5,7 +5,7 @@ ghost use Rattle.image.specs.Opening.{openImage};
 ghost use Rattle.image.specs.Looping.{playLoop};
 ghost use Rattle.image.specs.Part.{partOutcome, playFrom};
 ghost use Rattle.image.specs.Playing.{playOutcome, play};
-ghost use Rattle.image.specs.Sameness.{sameOutcome, same};
+ghost use Rattle.image.specs.Sameness.{sameOutcome, same, soundsSame};
 ghost use Rattle.image.specs.WholeImage.{playAll};
 ghost use Rattle.whole.specs.Outcome.{effect};
 ghost use Rattle.doilycairn.specs.Blocks.{playedAnswer, playSeen};
@@ -272,5 +272,14 @@ pub extern "C" fn doilycairn_same(first: &[u8], second: &[u8]) -> Comparison
     ensures { λ r. ⌜ r ≡ comparedAnswer (same (now (first .entry)) (now (second .entry))) ⌝ }
 {
     let answer = image::same(first, second);
+    compared_answer(answer)
+}
+
+// Compares the sound of two images.
+#[no_mangle]
+pub extern "C" fn doilycairn_sounds_same(first: &[u8], second: &[u8]) -> Comparison
+    ensures { λ r. ⌜ r ≡ comparedAnswer (soundsSame (now (first .entry)) (now (second .entry))) ⌝ }
+{
+    let answer = image::sounds_same(first, second);
     compared_answer(answer)
 }

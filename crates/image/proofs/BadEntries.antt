@@ -21,7 +21,7 @@ use Rattle.image.specs.Looping.{loopAnswer, playLoop}
 use Rattle.image.specs.Part.{fromAnswer, playFrom}
 use Rattle.image.specs.Playing.{playAnswer, play}
 use Rattle.image.specs.WholeImage.{allAnswer, playAll}
-use Rattle.image.specs.Sameness.{compareAnswer, bothAnswer, sameSound, same}
+use Rattle.image.specs.Sameness.{compareAnswer, bothAnswer, sameSound, agree, same, soundsSame}
 use Rattle.image.proofs.OpenImages.{head-says, entry-says, entry-fits, entries-say, entries-fit}
 use Rattle.image.proofs.LawsLoop.{loop-refused, loop-wrong}
 use Rattle.image.proofs.TestsInTurn.{first-refused, next-asked}
@@ -164,8 +164,9 @@ bad-named l n j (bad-loop h f e w) = rw (h, entries-accepted l h f, loop-wrong l
 
 -- What opening is refused by, every call on the image is refused by, and names the same entry.
 pub refused-alike : (l m : List ℕ) (n j k : ℕ) (out : List ℤ) → openAnswer l ≡ refusedAt n j → RefusedAlike l m n j k out
-unfolding openImage blockAnswer blockBody play playAnswer playAll allAnswer playFrom fromAnswer playLoop loopAnswer same bothAnswer compareAnswer
+unfolding openImage blockAnswer blockBody play playAnswer playAll allAnswer playFrom fromAnswer playLoop loopAnswer same soundsSame bothAnswer compareAnswer
 refused-alike l m n j k out p =
+    let second : compareAnswer m ≡ accepted tt → bothAnswer m l ≡ refusedAt n j = λ e. next-asked (compareAnswer m) (compareAnswer l) e ∙ first-refused (openAnswer l) _ p in
     record {
       opening = p;
       finding = rw p;
@@ -175,5 +176,7 @@ refused-alike l m n j k out p =
       playing-from = λ first. rw p;
       playing-loop = λ times. rw p;
       comparing = rw p;
-      comparing-second = λ e. ap (λ (o : Outcome Unit). withValues o (sameSound m l)) (next-asked (compareAnswer m) (compareAnswer l) e ∙ first-refused (openAnswer l) _ p);
+      comparing-second = λ e. ap (λ (o : Outcome Unit). withValues o (agree m l)) (second e);
+      comparing-sound = rw p;
+      comparing-sound-second = λ e. ap (λ (o : Outcome Unit). withValues o (sameSound m l)) (second e);
     }

@@ -20,7 +20,7 @@ use Rattle.image.specs.Looping.{loopAnswer, playLoop}
 use Rattle.image.specs.Part.{fromAnswer, playFrom}
 use Rattle.image.specs.Playing.{roomAnswer, playAnswer, play}
 use Rattle.image.specs.WholeImage.{allAnswer, playAll}
-use Rattle.image.specs.Sameness.{compareAnswer, bothAnswer, sameSound, same}
+use Rattle.image.specs.Sameness.{compareAnswer, bothAnswer, sameSound, agree, same, soundsSame}
 use Rattle.image.specs.CodeSixteen.{entryOk, entriesOk, openAnswer16, blockAnswer16, compareAnswer16, as16, Where16Stood, Never16}
 
 -- ---- where 16 stood
@@ -113,14 +113,15 @@ module _ (l : List ℕ) where
 -- With 16 for 20, 21 and 22 every call of document 01 answers as document 01 has it, with 15, S, offsets and 24 as change 5/13 has them: 20, 21 and 22 stand where 16 stood
 -- and nowhere else, and beside every other code no block is named.
 pub where-16-stood : (l m : List ℕ) (k : ℕ) (out : List ℤ) → Where16Stood l m k out
-unfolding openImage play playAnswer playAll allAnswer same bothAnswer
+unfolding openImage play playAnswer playAll allAnswer same soundsSame bothAnswer
 where-16-stood l m k out =
     record {
       opening = open-16 l;
       finding = block-16 l k;
       playing = with-16 (playAnswer l k (length out)) _ (then-16 (blockAnswer l k) _ (block-16 l k) (room-16 l _ (length out)));
       playing-all = with-16 (allAnswer l (length out)) _ (then-16 (openAnswer l) _ (open-16 l) (room-16 l (totalIn l) (length out)));
-      comparing = with-16 (bothAnswer l m) (sameSound l m) (then-16 (compareAnswer l) (compareAnswer m) (compare-16 l) (compare-16 m));
+      comparing = with-16 (bothAnswer l m) (agree l m) (then-16 (compareAnswer l) (compareAnswer m) (compare-16 l) (compare-16 m));
+      comparing-sound = with-16 (bothAnswer l m) (sameSound l m) (then-16 (compareAnswer l) (compareAnswer m) (compare-16 l) (compare-16 m));
     }
 
 accepted-16 : (o : Outcome Unit) → ifAccepted (as16 o) true false ≡ ifAccepted o true false
@@ -189,7 +190,7 @@ module _ (l : List ℕ) where
 
 -- No call on an image is refused by 16.
 pub never-16 : (l m : List ℕ) (k : ℕ) (out : List ℤ) → Never16 l m k out
-unfolding openImage play playAnswer playAll allAnswer playFrom fromAnswer playLoop loopAnswer same bothAnswer
+unfolding openImage play playAnswer playAll allAnswer playFrom fromAnswer playLoop loopAnswer same soundsSame bothAnswer
 never-16 l m k out =
     record {
       opening = not-by16 (openAnswer l) (never-opening l);
@@ -198,5 +199,6 @@ never-16 l m k out =
       playing-all = not-by16 _ (never-with (allAnswer l (length out)) _ (never-then (openAnswer l) _ (never-opening l) (never-room l (totalIn l) (length out))));
       playing-from = λ first. not-by16 _ (never-with (fromAnswer l first) _ (never-then (compareAnswer l) _ (never-compare l) (never-cond (leb (totalIn l) first) _ _ refl refl)));
       playing-loop = λ times. not-by16 _ (never-with (loopAnswer l times (length out)) _ (never-then (openAnswer l) _ (never-opening l) (never-room l _ (length out))));
-      comparing = not-by16 _ (never-with (bothAnswer l m) (sameSound l m) (never-then (compareAnswer l) _ (never-compare l) (never-compare m)));
+      comparing = not-by16 _ (never-with (bothAnswer l m) (agree l m) (never-then (compareAnswer l) _ (never-compare l) (never-compare m)));
+      comparing-sound = not-by16 _ (never-with (bothAnswer l m) (sameSound l m) (never-then (compareAnswer l) _ (never-compare l) (never-compare m)));
     }

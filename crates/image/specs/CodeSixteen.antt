@@ -19,7 +19,7 @@ use Rattle.image.specs.Looping.{playLoop}
 use Rattle.image.specs.Part.{playFrom}
 use Rattle.image.specs.Playing.{roomAnswer, play}
 use Rattle.image.specs.WholeImage.{playAll}
-use Rattle.image.specs.Sameness.{sameSound, same}
+use Rattle.image.specs.Sameness.{sameSound, agree, same, soundsSame}
 
 -- not "an entry's offset, length or zero bytes are not as in 2, or its predictor-and-scale isn't its body's first byte"
 unfoldable pub entryOk : List ℕ → Shape → ℕ → Bool
@@ -50,13 +50,14 @@ abbrev pub as16 : {A : Type 0} → Outcome A → Outcome A
 as16 (accepted a) = accepted a
 as16 (refusedAt n j) = cond (leb 20 n && leb n 22) (refused 16) (refusedAt n j)
 
--- with 16 for 20, 21 and 22 every call of document 01 on image l, or on l and m, answers by opening as `openAnswer16` has it, playing all by that and 13 and 14, and names no block
+-- with 16 for 20, 21 and 22 every call of document 01 on image l, or on l and m, answers by opening as `openAnswer16` has it, playing all by that and 13 and 14, comparing by `same` with the meaning of change 7/13, and names no block
 pub record Where16Stood (l m : List ℕ) (k : ℕ) (out : List ℤ) : Type 0 where
   pub opening : as16 (openImage l .outcome) ≡ openAnswer16 l
   pub finding : as16 (blockAnswer l k) ≡ blockAnswer16 l k
   pub playing : let n = addressToSample (lengthIn l k) in as16 (play l k out .outcome) ≡ withValues (andThen (blockAnswer16 l k) (roomAnswer (coefficientsIn l) n (length out))) n
   pub playing-all : let n = totalIn l in as16 (playAll l out .outcome) ≡ withValues (andThen (openAnswer16 l) (roomAnswer (coefficientsIn l) n (length out))) n
-  pub comparing : as16 (same l m) ≡ withValues (andThen (compareAnswer16 l) (compareAnswer16 m)) (sameSound l m)
+  pub comparing : as16 (same l m) ≡ withValues (andThen (compareAnswer16 l) (compareAnswer16 m)) (agree l m)
+  pub comparing-sound : as16 (soundsSame l m) ≡ withValues (andThen (compareAnswer16 l) (compareAnswer16 m)) (sameSound l m)
 
 -- no call on image l, or on l and m, is refused by 16
 pub record Never16 (l m : List ℕ) (k : ℕ) (out : List ℤ) : Type 0 where
@@ -67,3 +68,4 @@ pub record Never16 (l m : List ℕ) (k : ℕ) (out : List ℤ) : Type 0 where
   pub playing-from : (first j : ℕ) → playFrom l first out .outcome ≢ refusedAt 16 j
   pub playing-loop : (times j : ℕ) → playLoop l times out .outcome ≢ refusedAt 16 j
   pub comparing : (j : ℕ) → same l m ≢ refusedAt 16 j
+  pub comparing-sound : (j : ℕ) → soundsSame l m ≢ refusedAt 16 j

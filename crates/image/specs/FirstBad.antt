@@ -16,7 +16,7 @@ use Rattle.image.specs.Looping.{playLoop}
 use Rattle.image.specs.Part.{playFrom}
 use Rattle.image.specs.Playing.{play}
 use Rattle.image.specs.WholeImage.{playAll}
-use Rattle.image.specs.Sameness.{compareAnswer, same}
+use Rattle.image.specs.Sameness.{compareAnswer, same, soundsSame}
 
 -- the first of the codes 20, 21 and 22 that applies in an entry
 pub data FirstCode (l : List ℕ) (s : Shape) (j : ℕ) : ℕ → Type 0 where
@@ -37,7 +37,7 @@ pub data NotOpened (l : List ℕ) : ℕ → ℕ → Type 0 where
   bad-entry : {n j : ℕ} → FirstBad l n j → NotOpened l n j
   bad-loop : headOk l ≡ true → ((j : ℕ) → j < blocksIn l → EntryFits l (shapeIn l) j) → loopIn l .present ≡ true → (LoopRight l → ⊥) → NotOpened l 24 0
 
--- every call on image l is refused by n and names block j, and there is no body; so is comparing l with an image m, and m with l where comparing accepts m
+-- every call on image l is refused by n and names block j, and there is no body; so is comparing l with an image m, or their sound, and m with l where comparing accepts m
 pub record RefusedAlike (l m : List ℕ) (n j k : ℕ) (out : List ℤ) : Type 0 where
   pub opening : openImage l .outcome ≡ refusedAt n j
   pub finding : blockAnswer l k ≡ refusedAt n j
@@ -48,3 +48,5 @@ pub record RefusedAlike (l m : List ℕ) (n j k : ℕ) (out : List ℤ) : Type 0
   pub playing-loop : (times : ℕ) → playLoop l times out .outcome ≡ refusedAt n j
   pub comparing : same l m ≡ refusedAt n j
   pub comparing-second : compareAnswer m ≡ accepted tt → same m l ≡ refusedAt n j
+  pub comparing-sound : soundsSame l m ≡ refusedAt n j
+  pub comparing-sound-second : compareAnswer m ≡ accepted tt → soundsSame m l ≡ refusedAt n j

@@ -4,6 +4,8 @@ pub mod Opening
 pub mod Bodies
 pub mod Playing
 pub mod Sameness
+pub mod Essence
+pub mod Uncounted
 pub mod WholeImage
 pub mod Part
 pub mod PartCut

@@ -1,15 +1,17 @@
 -- Sameness of two images. Definitions only.
 use mathlib.Core.Bool.{Bool, true, false, cond, _&&_}
 use mathlib.Core.List.{List, [], _∷_, _++_}
-use Prim.Native.Nat.{ℕ, zero, suc}
+use Prim.Native.Nat.{ℕ, zero, suc, _%_}
 use lib.Dec.{eqb}
 use lib.IntN.{ℤ}
 use Rattle.whole.specs.Outcome.{Outcome, accepted, refused, withValues}
+use Rattle.block.specs.declared.FrameContext.{FrameContext}
 use Rattle.block.specs.Play as Block
 use Rattle.block.specs.Refusals as Tests
+use Rattle.image.specs.declared.Head.{Head}
 use Rattle.image.specs.declared.SameAnswer.{SameAnswer}
 use Rattle.image.specs.declared.SameAnswer.the-variants.{Same, Different, Refused}
-use Rattle.image.specs.Reading.{totalIn, blocksIn, coefficientsIn, lengthIn, contextIn}
+use Rattle.image.specs.Reading.{totalIn, loopsIn, blocksIn, coefficientsIn, headIn, lengthIn, contextIn, loopIn, loopContextIn}
 use Rattle.image.specs.Opening.{refusal, andThen, openAnswer}
 use Rattle.image.specs.Bodies.{bodyIn}
 
@@ -37,6 +39,39 @@ equalSamples (x ∷ xs) (y ∷ ys) = Tests.equal x y && equalSamples xs ys
 unfoldable pub sameSound : List ℕ → List ℕ → Bool
 sameSound a b = eqb (totalIn a) (totalIn b) && equalSamples (samplesIn a) (samplesIn b)
 
+-- ---- what also agrees
+
+-- two heads agree: N, "rate, gain, B, coefficients"
+unfoldable pub sameHead : Head → Head → Bool
+sameHead h g =
+    eqb (h .total) (g .total)
+    && (eqb (h .rate) (g .rate) && (eqb (h .gain) (g .gain) && (eqb (h .block) (g .block) && Tests.equalCoefficients (h .coefficients) (g .coefficients))))
+
+-- two contexts agree: the headers without "The unused top bit of a header, also where a context or the loop entry repeats it", and both samples
+unfoldable pub sameContext : FrameContext → FrameContext → Bool
+sameContext c d =
+    let h = c .«last_samples» in
+    let g = d .«last_samples» in
+    eqb (c .«predictor_and_scale» % 128) (d .«predictor_and_scale» % 128) && (Tests.equal (h .newest) (g .newest) && Tests.equal (h .older) (g .older))
+
+-- "every context": those of the first k blocks
+unfoldable pub sameContexts : List ℕ → List ℕ → ℕ → Bool
+sameContexts a b zero = true
+sameContexts a b (suc k) = sameContexts a b k && sameContext (contextIn a k) (contextIn b k)
+
+-- "the loop": neither image has one, or both have one with the same start and end and the same context there
+unfoldable pub sameLoop : List ℕ → List ℕ → Bool
+sameLoop a b =
+    let p = loopIn a in
+    let q = loopIn b in
+    eqb (loopsIn a) (loopsIn b) && (eqb (p .start) (q .start) && (eqb (p .end) (q .end) && sameContext (loopContextIn a) (loopContextIn b)))
+
+-- "rate, gain, B, coefficients, every context and the loop also agree, besides the samples"
+unfoldable pub agree : List ℕ → List ℕ → Bool
+agree a b = sameHead (headIn a) (headIn b) && (sameContexts a b (blocksIn a) && (sameLoop a b && equalSamples (samplesIn a) (samplesIn b)))
+
+-- ---- the calls
+
 -- codes 15; 20, 21, 22; 24; 13
 unfoldable pub compareAnswer : List ℕ → Outcome Unit
 compareAnswer l = andThen (openAnswer l) (cond (Tests.lowestPair (coefficientsIn l)) (refused 13) (accepted tt))
@@ -51,6 +86,10 @@ sameOutcome Same = accepted true
 sameOutcome Different = accepted false
 sameOutcome (Refused r) = refusal r
 
--- "Two images are the same when both open, N is equal and the played samples are equal"
+-- "Two images count as the same exactly when" they agree
 unfoldable pub same : List ℕ → List ℕ → Outcome Bool
-same a b = withValues (bothAnswer a b) (sameSound a b)
+same a b = withValues (bothAnswer a b) (agree a b)
+
+-- "the earlier meaning": "Two images are the same when both open, N is equal and the played samples are equal"
+unfoldable pub soundsSame : List ℕ → List ℕ → Outcome Bool
+soundsSame a b = withValues (bothAnswer a b) (sameSound a b)

@@ -112,7 +112,7 @@ fn equal_part(xs: [i16; 14], ys: [i16; 14], count: usize) -> bool
 }
 
 // Whether the samples of two images that open and have the same N are equal.
-fn equal_frames(a: &[u8], b: &[u8], first: Head, second: Head) -> bool
+pub(crate) fn equal_frames(a: &[u8], b: &[u8], first: Head, second: Head) -> bool
     requires { ⌜ Pair (now a) (now b) first second ⌝ }
     ensures { λ r. ⌜ r ≡ equalSamples (samplesIn (now (a .entry))) (samplesIn (now (b .entry))) ⌝ }
 {

@@ -7,9 +7,10 @@ ghost use Rattle.image.specs.Bodies.{blockAnswer, blockPart};
 ghost use Rattle.image.specs.Looping.{playLoop};
 ghost use Rattle.image.specs.Part.{partOutcome, playFrom};
 ghost use Rattle.image.specs.Playing.{playOutcome, play};
-ghost use Rattle.image.specs.Sameness.{sameOutcome, same};
+ghost use Rattle.image.specs.Sameness.{sameOutcome, same, soundsSame};
 ghost use Rattle.image.specs.WholeImage.{playAll};
 
+mod agreeing;
 pub mod bodies;
 mod checks;
 mod comparing;
@@ -19,6 +20,7 @@ mod loops;
 mod playing;
 mod running;
 
+use agreeing::agree;
 use block::FrameContext;
 use bodies::find_body;
 use bodies::read_entry;
@@ -253,9 +255,25 @@ pub fn play_loop(image: &[u8], times: u32, out: &mut [i16]) -> PlayAnswer
     }
 }
 
-// Whether two images are the same: both open, N is equal and the played samples are equal, whatever their blocks.
+// Whether two images are the same: N, rate, gain, B, coefficients, every context, the loop and the played samples agree.
 pub fn same(a: &[u8], b: &[u8]) -> SameAnswer
     ensures { λ r. ⌜ sameOutcome r ≡ same (now (a .entry)) (now (b .entry)) ⌝ }
+{
+    let answer = both_answer(a, b);
+    match answer {
+        Answer::Accepted => {
+            if agree(a, b) {
+                return SameAnswer::Same;
+            }
+            SameAnswer::Different
+        }
+        Answer::Refused(why) => SameAnswer::Refused(why),
+    }
+}
+
+// Whether two images sound the same: N is equal and the played samples are equal, whatever else differs.
+pub fn sounds_same(a: &[u8], b: &[u8]) -> SameAnswer
+    ensures { λ r. ⌜ sameOutcome r ≡ soundsSame (now (a .entry)) (now (b .entry)) ⌝ }
 {
     let answer = both_answer(a, b);
     match answer {

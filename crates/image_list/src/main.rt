@@ -3,9 +3,9 @@
 // (four digits), 5 how many (two), 7 the bytes. The others are calls: 1 and 5 the lengths of the two images that are playing (four each), 9 the
 // block's number, that of the first sample or the loop's turns (eight), 17 the output's length (four). o opens the first image, k finds the
 // body of a block of it, p plays that block, a plays all blocks, m plays from a sample on, t plays the loop, s compares the first with the
-// second, r the second with the first. A call is answered by a line: 00 or the refusal's number; the block whose entry is bad, or 0; then the
-// head's values and, where there is a loop, its start, end and context, the body, the count, the context or the number of blocks touched, and
-// the whole output, which has 5A in each byte at first, or 1 where the images are the same.
+// second, r the second with the first, h and v do so by the sound alone. A call is answered by a line: 00 or the refusal's number; the block
+// whose entry is bad, or 0; then the head's values and, where there is a loop, its start, end and context, the body, the count, the context or
+// the number of blocks touched, and the whole output, which has 5A in each byte at first, or 1 where the images are, or sound, the same.
 mod text;
 
 ghost use mathlib.Core.Path.{_≡_};
@@ -151,9 +151,17 @@ fn play_loop(image: &[u8], times: u32, room: usize) {
     loop_to(image, times, &mut out[..n]);
 }
 
-// Compares two images.
-fn same(first: &[u8], second: &[u8]) {
-    let answer = image::same(first, second);
+// Compares two images, by all that counts or by the sound alone.
+fn compared(letter: u8, first: &[u8], second: &[u8]) -> SameAnswer {
+    if letter == b's' || letter == b'r' {
+        return image::same(first, second);
+    }
+    image::sounds_same(first, second)
+}
+
+// Compares two images and writes the answer.
+fn same(letter: u8, first: &[u8], second: &[u8]) {
+    let answer = compared(letter, first, second);
     match answer {
         SameAnswer::Same => print_value(1),
         SameAnswer::Different => print_value(0),
@@ -174,10 +182,10 @@ fn call(letter: u8, line: &[u8; 56], first: &[u8], second: &[u8]) -> bool {
         part(first, k, word(line, 17) as usize);
     } else if letter == b't' {
         play_loop(first, k, word(line, 17) as usize);
-    } else if letter == b's' {
-        same(first, second);
+    } else if letter == b's' || letter == b'h' {
+        same(letter, first, second);
     } else {
-        same(second, first);
+        same(letter, second, first);
     }
     io::write_all(1, b"\n")
 }

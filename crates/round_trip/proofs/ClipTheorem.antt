@@ -35,11 +35,12 @@ use Rattle.clip.proofs.WholeRuns.{open-legal, legal-after, start-answered, star
 use Rattle.image.specs.declared.Head.{Head}
 use Rattle.image.specs.Reading.{headIn, loopIn, loopContextIn}
 use Rattle.image.specs.Opening.{noHead, told, openImage}
-use Rattle.image.specs.Sameness.{samplesIn}
+use Rattle.image.specs.Sameness.{samplesIn, same}
 use Rattle.round_trip.specs.Job.{Sampled, joined, measuringCalls, encodingCalls, lastCoefficients, encodingAnswers}
 use Rattle.round_trip.specs.ClosedClip.{storedContext, ClosedClip, seen, given, started, Done}
 use Rattle.round_trip.proofs.ImageOpens.{total-is, rate-is, block-is, gain-is, blocks-are, coefficients-are, image-opens}
 use Rattle.round_trip.proofs.ImagePlayed.{all-heard, pairs-heard, block-plays, all-plays, part-plays, header-heard}
+use Rattle.round_trip.proofs.SameAgain.{same-again}
 use Rattle.round_trip.proofs.LoopOfX.{loop-plays, none-plays, edge-context, loop-told, context-told}
 use Rattle.round_trip.proofs.Pieces.{coefficients-length, coefficients-sampled, measured-answers, last-answer, encoded-after, encoded-answers}
 
@@ -91,6 +92,7 @@ module _ (g : Start) (F : Fine g) (xs : List ℤ) (l : List ℕ) (A : Audible g 
         plays-none = rw e (none-plays g F xs rest A);
         loop-edge = rw e (edge-context g F xs rest A);
         pairs = rw e (pairs-heard g F xs rest A);
+        same-again = rw e (same-again g F xs rest A);
         near = rw e near;
       }
 
@@ -111,6 +113,10 @@ closed-image g l sixteen cf hf ok ks closed fits =
     record { bounded = limits-bounded (g .coefficients) (F .within); coefficients = cf; history = hf; samples = fits } in
     let e : after (start g l .left) ks ≡ leftAfter (cut g) rest (m .samples) true = encoding-states g l sixteen ok ks ∙ ap (leftAfter (cut g) rest (m .samples)) closed in
     subst (λ (s : Left). ClosedClip (cut g) (m .samples) l s) (sym e) (outcome (cut g) F (m .samples) l A (omega arith))
+
+-- Two clips that were started alike, accepted the same samples and were closed, by whatever calls and on whatever buffers, leave images that are the same.
+pub same-clips : (g : Start) (xs : List ℤ) (l m : List ℕ) (c d : Left) → ClosedClip g xs l c → ClosedClip g xs m d → same (c .bytes) (d .bytes) ≡ accepted true
+same-clips g xs l m c d p q = ap (same (c .bytes)) (q .image) ∙ p .same-again (drop (imageSize (startShape g)) m)
 
 -- The clip theorem. Take a recording X of 1 to 14,680,064 samples, cut in any way into pieces ps for measuring and in any way into
 -- pieces qs for feeding, and a store with two numbers for each frame. Measure ps and ask for coefficients: all of it is accepted, and they are those of X.

@@ -7,6 +7,7 @@ pub mod BlocksOfX
 pub mod LowestPair
 pub mod ImageOpens
 pub mod ImagePlayed
+pub mod SameAgain
 pub mod LoopOfX
 pub mod Pieces
 pub mod ClipTheorem

@@ -28,7 +28,7 @@ use Rattle.image.specs.Reading.{coefficientsIn, contextIn}
 use Rattle.image.specs.Looping.{repeated, playLoop}
 use Rattle.image.specs.Part.{samplesPerBlock, touched, playFrom}
 use Rattle.image.specs.Playing.{play}
-use Rattle.image.specs.Sameness.{blockSamples, samplesIn}
+use Rattle.image.specs.Sameness.{blockSamples, samplesIn, same}
 use Rattle.image.specs.WholeImage.{playAll}
 use Rattle.round_trip.specs.Job.{Sampled, joined, measuringCalls, encodingCalls, lastCoefficients, encodingAnswers}
 
@@ -81,6 +81,8 @@ pub record ClosedClip (g : Start) (xs : List ℤ) (l : List ℕ) (closed : Left)
   -- a loop that starts at a block's edge has that block's context
   pub loop-edge : g .looped .present ≡ true
       → (let s = g .looped .start in let p = samplesPerBlock (g .block) in s % p ≡ 0 → storedContext g (closed .bytes) ≡ contextIn (closed .bytes) (s / p))
+  -- any image of the same start and the same samples is the same, whatever stands behind it
+  pub same-again : (rest : List ℕ) → same (closed .bytes) (imageAfter g xs true ++ rest) ≡ accepted true
   -- each sample in a frame of exponent p below 12 is within ⌊(3 × 2^p + 1) / 2⌋ of its original; "p is its frame's header & 15"
   pub near : (i : ℕ) → i < length xs
       → (let p = getD (closed .bytes) (framePlace (startShape g) (i / 14)) 0 % 16 in

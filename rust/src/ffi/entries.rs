@@ -1,4 +1,4 @@
-//! The seven calls that test a table name the same entry, and beside it an answer is as a refused one; beside every other code there is no entry.
+//! The eight calls that test a table name the same entry, and beside it an answer is as a refused one; beside every other code there is no entry.
 
 use super::*;
 
@@ -93,10 +93,15 @@ fn turns_say(image: &[u8], times: u32, room: usize) -> Verdict {
     (code, entry)
 }
 
+/// What comparing says, and comparing the sound too: they are refused alike.
 fn comparison_says(first: &[u8], second: &[u8]) -> Verdict {
-    let Comparison { code, entry, same } = same(first, second);
-    assert!(code == 0 || !same);
-    (code, entry)
+    let [verdict, by_sound] = [same(first, second), sounds_same(first, second)].map(|comparison| {
+        let Comparison { code, entry, same } = comparison;
+        assert!(code == 0 || !same);
+        (code, entry)
+    });
+    assert_eq!(verdict, by_sound);
+    verdict
 }
 
 /// The one verdict of all calls on a damaged image, whatever else would be wrong after it: the number of the block or of the sample, the room, the

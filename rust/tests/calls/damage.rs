@@ -2,7 +2,7 @@
 
 use crate::clips::{Random, encode, noise, tone};
 use crate::reading;
-use doilycairn::{Image, Refusal, same};
+use doilycairn::{Image, Refusal, same, sounds_same};
 use std::collections::BTreeSet;
 
 /// What turning over a bit of a byte of head or table does, for an image of several blocks.
@@ -39,8 +39,10 @@ fn entry_effect(block: u32, place: usize) -> Effect {
 
 /// Calls on a damaged image answer alike: all are refused as opening is, or none is.
 fn refused_alike(bytes: &[u8], whole: &[u8], why: Refusal) {
-    assert_eq!(same(bytes, whole), Err(why));
-    assert_eq!(same(whole, bytes), Err(why));
+    for compare in [same, sounds_same] {
+        assert_eq!(compare(bytes, whole), Err(why));
+        assert_eq!(compare(whole, bytes), Err(why));
+    }
 }
 
 #[test]
@@ -61,7 +63,8 @@ fn every_bit_of_head_and_table() {
                 let is_head_same = damaged.head() == image.head();
                 assert!(!is_head_same || !damaged.blocks().eq(blocks.iter().copied()));
                 assert_eq!(damaged.play().unwrap().len(), clip.len());
-                same(&bytes, &whole).unwrap();
+                assert_eq!(same(&bytes, &whole), Ok(false));
+                assert_eq!(sounds_same(&bytes, &whole), Ok(damaged.play() == image.play()));
             }
             (Effect::Refused(expected), Err(why)) if why == expected => {
                 refused_alike(&bytes, &whole, why)

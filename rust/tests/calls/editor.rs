@@ -2,7 +2,7 @@
 
 use crate::clips::{encode, encode_from, every_loop, noise, start_of, tone, with_loop};
 use doilycairn::{
-    Block, Encoder, Image, Refusal, Start, address_to_sample, image_size, join, same,
+    Block, Encoder, Image, Refusal, Start, address_to_sample, image_size, join, same, sounds_same,
 };
 
 #[path = "../../examples/undo.rs"]
@@ -248,12 +248,68 @@ fn images_stand_one_after_the_other_in_a_bank() {
     at = 0;
     for (clip, size) in clips.iter().zip(sizes) {
         assert_eq!(bank[at..at + size], encode(clip, 64));
-        assert_eq!(same(&bank[at..], &encode(clip, 4096)), Ok(true));
+        assert_eq!(same(&bank[at..], &encode(clip, 64)), Ok(true));
+        let other = encode(clip, 4096);
+        assert_eq!(sounds_same(&bank[at..], &other), Ok(true));
+        assert_eq!(same(&bank[at..], &other), Ok(false));
         for (j, block) in Image::open(&bank[at..]).unwrap().blocks().enumerate() {
             let place = block.bytes.as_ptr() as usize - bank[at..].as_ptr() as usize;
             assert_eq!(place, size - bodies(&bank[at..at + size]).len() + 64 * j);
         }
         at += size;
+    }
+}
+
+#[test]
+fn a_step_that_alters_anything_but_the_samples_is_told_by_same_alone() {
+    let clip = tone(1000);
+    let start = start_of(&clip, 64);
+    let image = encode_from(&start, &clip);
+    assert_eq!(same(&image, &encode_from(&start, &clip)), Ok(true));
+    for step in [
+        Start { rate: 16_000, ..start },
+        Start { gain: 8, ..start },
+        Start { block_size: 80, ..start },
+        with_loop(start, (140, 999)),
+    ] {
+        let other = encode_from(&step, &clip);
+        assert_eq!((same(&image, &other), sounds_same(&image, &other)), (Ok(false), Ok(true)));
+        assert_eq!(same(&other, &encode_from(&step, &clip)), Ok(true));
+    }
+}
+
+#[test]
+fn a_trim_in_other_blocks_sounds_the_same() {
+    let clip = noise(1000, 9000, 3);
+    let whole = Image::open(&encode(&clip, 64)).unwrap().play().unwrap();
+    let coefficients = start_of(&clip, 64).coefficients;
+    let trimmed = |block_size| {
+        let start = Start { coefficients, ..start_of(&clip[..700], block_size) };
+        encode_from(&start, &clip[..700])
+    };
+    let images = [8, 64, 80, 4096].map(trimmed);
+    for (i, first) in images.iter().enumerate() {
+        assert_eq!(Image::open(first).unwrap().play().unwrap(), whole[..700]);
+        for (j, second) in images.iter().enumerate() {
+            assert_eq!((same(first, second), sounds_same(first, second)), (Ok(i == j), Ok(true)));
+        }
+    }
+}
+
+#[test]
+fn images_that_sound_the_same_have_the_same_levels() {
+    let level = |image: &Image| {
+        image.samples().unwrap().map(|sample| i64::from(sample).pow(2)).collect::<Vec<_>>()
+    };
+    let clips = [tone(300), noise(300, 9000, 1), vec![0; 300]];
+    let images = clips.iter().flat_map(|clip| [8, 64].map(|block_size| encode(clip, block_size)));
+    let images: Vec<_> = images.collect();
+    let opened: Vec<_> = images.iter().map(|image| Image::open(image).unwrap()).collect();
+    for (i, first) in opened.iter().enumerate() {
+        for (j, second) in opened.iter().enumerate() {
+            assert_eq!(first.sounds_same(second), Ok(i / 2 == j / 2));
+            assert_eq!(level(first) == level(second), i / 2 == j / 2);
+        }
     }
 }
 

@@ -2,7 +2,7 @@
 
 use crate::clips::{Random, encode, noise};
 use crate::reading;
-use doilycairn::{Image, Refusal, same};
+use doilycairn::{Image, Refusal, same, sounds_same};
 use std::collections::BTreeSet;
 
 /// Why an image does not open: what its bytes tell, and what comparing says too.
@@ -10,8 +10,10 @@ fn refused(bytes: &[u8], whole: &[u8]) -> Option<Refusal> {
     let why = Image::open(bytes).err();
     assert_eq!(why, reading::refusal(bytes));
     if let Some(why) = why {
-        assert_eq!(same(bytes, whole), Err(why));
-        assert_eq!(same(whole, bytes), Err(why));
+        for compare in [same, sounds_same] {
+            assert_eq!(compare(bytes, whole), Err(why));
+            assert_eq!(compare(whole, bytes), Err(why));
+        }
     }
     why
 }

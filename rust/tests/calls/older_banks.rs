@@ -170,7 +170,7 @@ fn its_image_opens_and_plays_in_every_way_near_the_original() {
             let bytes = encode_from(&start, &clip);
             let image = Image::open(&bytes).unwrap();
             assert_eq!(image.head().coefficients, coefficients);
-            assert_eq!(image.same(&image), Ok(true));
+            assert_eq!((image.same(&image), image.sounds_same(&image)), (Ok(true), Ok(true)));
             played_alike(&bytes);
             all += clip.len();
             bounded += near_its_original(&bytes, &clip);

@@ -320,6 +320,7 @@ fn number_13() {
             assert_eq!(untouched(9, 0x5a5a, |out| image.play_loop_into(times, out)), 13);
         }
         assert_eq!(image.same(&image), Err(Refusal::LowestPair));
+        assert_eq!(image.sounds_same(&image), Err(Refusal::LowestPair));
         assert!(image.block(1).is_ok());
     }
 }

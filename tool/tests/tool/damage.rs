@@ -150,6 +150,7 @@ fn every_command_refuses_and_keeps_the_old_output() {
             "same bad good",
             "same good bad",
             "same bad bad",
+            "same --sound good bad",
             "join bad good out",
             "join good bad out",
             "join --reencode good bad out",

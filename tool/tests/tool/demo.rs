@@ -92,7 +92,10 @@ fn it_tells_which_crate_is_proved_and_what_to_open() {
         String::from_utf8(folder.read("target/demo.log")).unwrap().contains("::something: proved")
     );
     assert!(out.contains("refused on purpose, on the way: this"));
-    assert_eq!(out.matches("(on purpose: this call is to end with status ").count(), 2);
+    assert_eq!(out.matches("(on purpose: this call is to end with status ").count(), 3);
+    assert_eq!(out.matches("\nthe same: ").count(), 1, "{out}");
+    assert_eq!(out.matches("\nthe same sound: ").count(), 1, "{out}");
+    assert!(out.contains("\ndifferent: block size 4,096 and 1,000\n"), "{out}");
     for name in ["tool.svg", "clip.wav", "tool-decoded.wav"] {
         assert!(
             out.contains(&format!("  target/demo/{name} "))

@@ -109,6 +109,7 @@ fn every_command_names_the_block() {
             "info bad",
             "same bad good",
             "same good bad",
+            "same --sound bad good",
             "join bad good out",
             "join good bad out",
             "trim bad out",

@@ -58,7 +58,7 @@ fn help_tells_every_option() {
         ("check", "--strict --jobs --quiet --json --help"),
         ("trim", "--from --to --recording --raw --ignore-length --force --quiet --json --help"),
         ("trim", "--drop-loop"),
-        ("same", "--quiet --json --help"),
+        ("same", "--sound --quiet --json --help"),
         ("join", "--gain --reencode --block-size --drop-loop --force --quiet --json --help"),
     ];
     for (command, names) in options {
@@ -112,6 +112,8 @@ fn wrong_command_lines() {
         ("info --against - -", "standard input can be read only once"),
         ("same a", "B.dspc is missing"),
         ("same - -", "standard input can be read only once"),
+        ("same --sound=1 a b", "--sound takes no value"),
+        ("same --sound a", "B.dspc is missing"),
         ("join a b", "OUT.dspc is missing"),
         ("join --block-size 8 a b c", "--block-size goes with --reencode"),
         ("encode --json a -", "standard output has the answer"),

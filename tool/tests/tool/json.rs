@@ -33,6 +33,8 @@ fn every_command_answers_one_object() {
         ("check a", 0),
         ("check none", 1),
         ("same a a", 0),
+        ("same a loop", 1),
+        ("same --sound a a", 0),
         ("join a a out", 0),
         ("join --reencode a a out", 0),
         ("encode", 2),

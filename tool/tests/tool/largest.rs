@@ -68,11 +68,13 @@ fn the_largest_clip() {
         ("check --strict eight-loop.dspc", 10, 32_000),
         ("info --against in.wav out.dspc", 10, 48_000),
         ("check eight.dspc", 10, 32_000),
-        ("same out.dspc eight.dspc", 10, 48_000),
+        ("same --sound out.dspc eight.dspc", 10, 48_000),
+        ("same eight-loop.dspc eight-loop.dspc", 10, 64_000),
     ];
     for (line, seconds, kilobytes) in lines {
         limited(&folder, line, 0, seconds, kilobytes);
     }
+    limited(&folder, "same eight.dspc eight-loop.dspc", 1, 10, 64_000);
     damaged(&folder);
     assert_eq!(folder.read("out.wav"), folder.read("eight.wav"));
     assert_eq!(folder.read("out.wav").len(), 44 + 2 * SAMPLES);

@@ -181,7 +181,7 @@ fn a_clip_that_follows_one_with_a_loop() {
 }
 
 #[test]
-fn sameness_is_that_of_the_samples() {
+fn the_sound_is_that_of_the_samples() {
     let folder = Folder::new();
     let clip = sound(1000, 8);
     folder.write("plain", image(&clip, 32_000, 80));
@@ -191,8 +191,28 @@ fn sameness_is_that_of_the_samples() {
     for (line, told) in
         [("one one", ""), ("one two", note), ("plain one", note), ("plain plain", "")]
     {
-        let run = folder.done(&format!("same {line}"));
-        assert_eq!((&run.out[..9], &run.err[..]), ("the same:", told), "{line}");
+        let run = folder.done(&format!("same --sound {line}"));
+        assert_eq!((&run.out[..15], &run.err[..]), ("the same sound:", told), "{line}");
     }
-    assert!(folder.done("help same").out.contains("Block sizes, gain, rate and loop"));
+    assert!(folder.done("help same").out.contains("rate, loop and all else may differ"));
+}
+
+#[test]
+fn a_loop_that_is_moved_or_left_out_makes_another_image() {
+    let folder = Folder::new();
+    let clip = sound(1000, 8);
+    folder.write("plain", image(&clip, 32_000, 80));
+    folder.write("one", looped(&clip, 80, (140, 999)));
+    folder.write("two", looped(&clip, 80, (140, 1000)));
+    let one = "loop from sample 140 up to 999";
+    for (line, words) in [
+        ("one two", format!("different: {one} and loop from sample 140 up to 1,000\n")),
+        ("one plain", format!("different: {one} and no loop\n")),
+        ("plain one", format!("different: no loop and {one}\n")),
+    ] {
+        let run = folder.run(&format!("same {line}"));
+        assert_eq!((run.status, run.out, &run.err[..]), (1, words, ""), "{line}");
+    }
+    folder.done("trim --drop-loop one out");
+    folder.done("same out plain");
 }

@@ -232,6 +232,7 @@ fn every_command_names_it() {
         "info bad",
         "same bad good",
         "same good bad",
+        "same --sound bad good",
         "join --drop-loop bad good out",
         "join good bad out",
         "trim --drop-loop bad out",

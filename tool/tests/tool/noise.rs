@@ -2,7 +2,7 @@
 
 use crate::support::{Folder, Random, chunk, format, image, looped, raw, riff, sampler, sound};
 
-const LINES: [&str; 18] = [
+const LINES: [&str; 20] = [
     "encode --force in out",
     "encode --force --raw --rate 8000 in out",
     "encode --force --ignore-length --verify in out",
@@ -16,6 +16,8 @@ const LINES: [&str; 18] = [
     "info --json --blocks --raw --against in a",
     "check in a in",
     "same in a",
+    "same a in",
+    "same --sound --json in a",
     "join --force a in out",
     "join --force --reencode in a out",
     "join --force --drop-loop in a out",

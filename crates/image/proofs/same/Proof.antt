@@ -13,19 +13,19 @@ both-answer-requires c κs = search needs
 enum-told : tie.Need-enum-told
 enum-told c = search needs
 
-same-sound-requires : tie.Need-same-sound-requires
-same-sound-requires c κs = let p = both-accepted _ _ (sym (c .before .before .both-answer .ensures) ∙ ap outcome (c .enum-told .given .1)) in (p .0 .opens, p .1 .opens)
+agree-requires : tie.Need-agree-requires
+agree-requires c κs = let p = both-accepted _ _ (sym (c .before .before .both-answer .ensures) ∙ ap outcome (c .enum-told .given .1)) in (p .0 .opens, p .1 .opens)
 
 returns : tie.Need-returns
 unfolding same
-returns c = simp (← c .before .before .before .before .both-answer .ensures, c .before .before .enum-told .given .1, ← c .before .same-sound .ensures, c .if1 .taken)
+returns c = simp (← c .before .before .before .before .both-answer .ensures, c .before .before .enum-told .given .1, ← c .before .agree .ensures, c .if1 .taken)
 
 enum-known-answer : tie.Need-enum-known-answer
 enum-known-answer c = search needs
 
 returns-2 : tie.Need-returns-2
 unfolding same
-returns-2 c = simp (← c .before .before .before .before .both-answer .ensures, c .before .before .enum-told .given .1, ← c .before .same-sound .ensures, c .if1 .left)
+returns-2 c = simp (← c .before .before .before .before .both-answer .ensures, c .before .before .enum-told .given .1, ← c .before .agree .ensures, c .if1 .left)
 
 returns-3 : tie.Need-returns-3
 unfolding same
@@ -37,7 +37,7 @@ same-spec =
     (tie.spec
     both-answer-requires
     enum-told
-    same-sound-requires
+    agree-requires
     returns
     enum-known-answer
     returns-2

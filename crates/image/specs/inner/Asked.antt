@@ -7,7 +7,7 @@ use lib.ListN.{length}
 use Rattle.block.specs.Address.{addressToSample}
 use Rattle.block.specs.Refusals.{lowestPair}
 use Rattle.layout.specs.Limits.{Limits}
-use Rattle.layout.specs.Sizes.{blockCount, bodiesPlace, imageSize}
+use Rattle.layout.specs.Sizes.{blockCount, entryPlace, bodiesPlace, imageSize}
 use Rattle.whole.specs.Frames.{frameCount}
 use Rattle.image.specs.declared.Head.{Head}
 use Rattle.image.specs.inner.ByFrames.{frameSamples}
@@ -69,6 +69,12 @@ pub record Pair (a b : List ℕ) (first second : Head) : Type 0 where
   pub others : Opens b
   pub other : second ≡ headIn b
   pub total : totalIn a ≡ totalIn b
+
+-- two images that each have kk entries
+pub record Tables (a b : List ℕ) (kk : ℕ) : Type 0 where
+  pub few : kk ≤ 1048576
+  pub first : entryPlace kk ≤ length a
+  pub second : entryPlace kk ≤ length b
 
 -- n samples, one or more, from sample s of block k on are all in that block
 pub record SomeOf (l : List ℕ) (k s n : ℕ) : Type 0 where

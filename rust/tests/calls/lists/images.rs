@@ -1,7 +1,7 @@
 //! The list of calls on images.
 
 use super::{bytes, digits, digits_of, list, number};
-use doilycairn::{FrameContext, Image, Loop, Part, Refusal, same};
+use doilycairn::{FrameContext, Image, Loop, Part, Refusal, same, sounds_same};
 
 /// The longest image of the list.
 const MOST: usize = 1024;
@@ -88,8 +88,8 @@ fn played_loop(image: &[u8], times: u32, room: usize) -> String {
     format!("{verdict} {:08x} {}", turns.unwrap_or(0), digits_of(&out))
 }
 
-fn compared(first: &[u8], second: &[u8]) -> String {
-    match same(first, second) {
+fn compared(answer: Result<bool, Refusal>) -> String {
+    match answer {
         Ok(is_same) => format!("{ACCEPTED} {:08x}", u8::from(is_same)),
         Err(refusal) => format!("{} {:08x}", verdict(refusal), 0),
     }
@@ -119,8 +119,10 @@ fn take(images: &mut [Vec<u8>; 2], letter: &str, record: &[u8]) -> Option<String
         "a" => played(first, None, room),
         "m" => played_from(first, k, room),
         "t" => played_loop(first, k, room),
-        "s" => compared(first, second),
-        "r" => compared(second, first),
+        "s" => compared(same(first, second)),
+        "r" => compared(same(second, first)),
+        "h" => compared(sounds_same(first, second)),
+        "v" => compared(sounds_same(second, first)),
         _ => panic!("no call has the letter {letter}"),
     })
 }
