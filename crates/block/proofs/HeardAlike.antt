@@ -71,7 +71,7 @@ module _ (a b : List ℕ) (cs : List ℤ) where
   at-top x n p q h r = rw (at-header a cs x n p h, at-header b cs x n q h) r
 
   -- The samples of both are the same, and the contexts after them alike.
-  pub heard-from : (x n : ℕ) (p q : Playing) → (x % 16 ≡ 1 → ⊥) → ((y : ℕ) → x ≤ y → y < x + n → HeardAlike a b y) → PlayedAlike p q
+  heard-from : (x n : ℕ) (p q : Playing) → (x % 16 ≡ 1 → ⊥) → ((y : ℕ) → x ≤ y → y < x + n → HeardAlike a b y) → PlayedAlike p q
       → PlayedAlike (playFrom a cs x n p) (playFrom b cs x n q)
   heard-from x zero p q s h e = rw (none a cs x p, none b cs x q) e
   heard-from x (suc zero) p q s h e =

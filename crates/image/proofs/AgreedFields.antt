@@ -20,7 +20,8 @@ use Rattle.image.specs.Sameness.{sameContext, sameContexts, sameLoop}
 use Rattle.image.specs.Essence.{counted, contextsFrom}
 use Rattle.image.specs.inner.Asked.{Headed}
 use Rattle.image.proofs.Coefficients.{coefficients-length}
-use Rattle.image.proofs.LawsEqual.{upto-refl, upto-take}
+use Rattle.image.proofs.LawsAgree.{contexts-stop}
+use Rattle.image.proofs.LawsEqual.{never, upto-refl, upto-take}
 use Rattle.image.proofs.LawsLoop.{stored}
 
 -- ---- coefficients
@@ -40,7 +41,7 @@ coefficients-agree a b e = rw e (upto-refl (coefficientsIn b) 16)
 
 -- ---- contexts
 
-pub context-agreed : (c d : FrameContext) → sameContext c d ≡ true → counted c ≡ counted d
+context-agreed : (c d : FrameContext) → sameContext c d ≡ true → counted c ≡ counted d
 unfolding sameContext
 context-agreed c d e =
     let h = c .«last_samples» in
@@ -53,7 +54,7 @@ context-agreed c d e =
       equal-true (h .older) (g .older) (y .1),
     )
 
-pub context-agrees : (c d : FrameContext) → counted c ≡ counted d → sameContext c d ≡ true
+context-agrees : (c d : FrameContext) → counted c ≡ counted d → sameContext c d ≡ true
 unfolding sameContext
 context-agrees c d e =
     rw (
@@ -67,15 +68,11 @@ context-agrees c d e =
 module _ (a b : List ℕ) where
   -- each of the first n
   each-agreed : (n : ℕ) → sameContexts a b n ≡ true → (k : ℕ) → k < n → counted (contextIn a k) ≡ counted (contextIn b k)
-  unfolding sameContexts
-  each-agreed zero e k h = absurd (omega arith)
-  each-agreed (suc n) e k h = go (both-true (sameContexts a b n) _ e .1) (each-agreed n (both-true (sameContexts a b n) _ e .0) k) (eqb k n) refl
+  each-agreed n e k h = go (sameContext (contextIn a k) (contextIn b k)) refl
     where
-      go : sameContext (contextIn a n) (contextIn b n) ≡ true → (k < n → counted (contextIn a k) ≡ counted (contextIn b k)) → (t : Bool) → eqb k n ≡ t
-          → counted (contextIn a k) ≡ counted (contextIn b k)
-      go q rec true z =
-          subst (λ (j : ℕ). counted (contextIn a j) ≡ counted (contextIn b j)) (sym (eqb-true k n z)) (context-agreed (contextIn a n) (contextIn b n) q)
-      go q rec false z = let d = eqb-false k n z in rec (omega (arith, d, h))
+      go : (t : Bool) → sameContext (contextIn a k) (contextIn b k) ≡ t → counted (contextIn a k) ≡ counted (contextIn b k)
+      go true z = context-agreed (contextIn a k) (contextIn b k) z
+      go false z = absurd (never (sym (contexts-stop a b k n h z) ∙ e))
 
   each-agrees : (n : ℕ) → ((k : ℕ) → k < n → counted (contextIn a k) ≡ counted (contextIn b k)) → sameContexts a b n ≡ true
   unfolding sameContexts
@@ -123,7 +120,7 @@ there l = go (eqb (loopsIn l) 1)
     go false = refl
 
 -- as many loops where both are there or neither is
-pub loops-alike : (a b : List ℕ) → Headed a → Headed b → loopIn a .present ≡ loopIn b .present → loopsIn a ≡ loopsIn b
+loops-alike : (a b : List ℕ) → Headed a → Headed b → loopIn a .present ≡ loopIn b .present → loopsIn a ≡ loopsIn b
 loops-alike a b p q e = go (eqb (loopsIn a) 1) refl (eqb (loopsIn b) 1) refl (sym (there a) ∙ e ∙ there b)
   where
     go : (t : Bool) → eqb (loopsIn a) 1 ≡ t → (r : Bool) → eqb (loopsIn b) 1 ≡ r → eqb (loopsIn a) 1 ≡ eqb (loopsIn b) 1 → loopsIn a ≡ loopsIn b

@@ -1,11 +1,11 @@
 -- Heads that agree, and contexts compared one by one.
-use mathlib.Core.Bool.{Bool, true, false, _&&_}
+use mathlib.Core.Bool.{true, false}
 use mathlib.Core.List.{List}
-use mathlib.Core.Path.{_≡_, refl, sym, ap, ap₂, _∙_}
-use Prim.Native.Nat.{ℕ, zero, suc, _+_, _-_, _*_, _/_, _<_}
+use mathlib.Core.Path.{_≡_, refl, sym, ap₂, _∙_}
+use Prim.Native.Nat.{ℕ, _+_, _-_, _*_, _/_, _<_}
 use native.Mathlib.Numerals.{add-one}
 use native.Mathlib.Omega.{arith}
-use borrow.Author.Tests.{eqb-true, eqb-false, eq-eqb}
+use borrow.Author.Tests.{eqb-true, eq-eqb}
 use lib.Dec.{eqb}
 use Rattle.block.specs.Refusals.{equalCoefficients}
 use Rattle.layout.specs.Sizes.{blockCount, imageSize}
@@ -14,6 +14,7 @@ use Rattle.whole.specs.Frames.{frameCount}
 use Rattle.image.specs.Reading.{totalIn, rateIn, blockIn, gainIn, blocksIn, coefficientsIn, headIn, contextIn}
 use Rattle.image.specs.Sameness.{sameHead, sameContext, sameContexts}
 use Rattle.image.specs.inner.Asked.{Headed, Opens, Tables}
+use Rattle.image.proofs.LawsEqual.{all-stop}
 use Rattle.image.proofs.LawsLoop.{blocks-small}
 
 -- what heads that agree have in common
@@ -55,9 +56,6 @@ pub one-count : (a b : List ℕ) → Headed a → Headed b → OneHead a b → b
 unfolding blockCount
 one-count a b p q h = p .blocks ∙ ap₂ (λ (n k : ℕ). (8 * frameCount n + k - 1) / k) (h .total) (h .block) ∙ sym (q .blocks)
 
-pub head-total : (a b : List ℕ) → sameHead (headIn a) (headIn b) ≡ true → totalIn a ≡ totalIn b
-head-total a b e = one-head a b e .total
-
 -- the entries of all blocks stand in both images
 pub same-tables : (a b : List ℕ) (kk : ℕ) → Opens a → Opens b → sameHead (headIn a) (headIn b) ≡ true → kk ≡ blocksIn a → Tables a b kk
 unfolding imageSize
@@ -80,15 +78,4 @@ module _ (a b : List ℕ) where
   -- a context that differs
   pub contexts-stop : (k n : ℕ) → k < n → sameContext (contextIn a k) (contextIn b k) ≡ false → sameContexts a b n ≡ false
   unfolding sameContexts
-  contexts-stop k zero h e = absurd (omega arith)
-  contexts-stop k (suc n) h e = go (eqb k n) refl (λ lt. contexts-stop k n lt e)
-    where
-      and-false : (t : Bool) → t && false ≡ false
-      and-false true = refl
-      and-false false = refl
-
-      go : (t : Bool) → eqb k n ≡ t → (k < n → sameContexts a b n ≡ false) → sameContexts a b n && sameContext (contextIn a n) (contextIn b n) ≡ false
-      go true s rec =
-          let q : sameContext (contextIn a n) (contextIn b n) ≡ false = ap (λ (j : ℕ). sameContext (contextIn a j) (contextIn b j)) (sym (eqb-true k n s)) ∙ e in
-          rw q (and-false (sameContexts a b n))
-      go false s rec = let d = eqb-false k n s in rw (rec (omega (arith, d, h)))
+  contexts-stop k n h e = all-stop (sameContexts a b) (λ j. sameContext (contextIn a j) (contextIn b j)) (λ j. refl) k n h e

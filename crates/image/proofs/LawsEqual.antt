@@ -15,8 +15,23 @@ use Rattle.block.proofs.LawsRefusals.{equal-self, equal-true}
 use Rattle.layout.proofs.LimitLaws.{both-true}
 use Rattle.image.specs.Sameness.{equalSamples}
 
-never : _≡_ {A = Bool} false true → ⊥
+pub never : _≡_ {A = Bool} false true → ⊥
 never e = let z : _≡_ {A = ℕ} 0 1 = cc in omega arith
+
+-- ---- tests in turn
+
+-- of the first n tests, one that fails
+pub all-stop : (all each : ℕ → Bool) → ((k : ℕ) → all (suc k) ≡ all k && each k) → (k n : ℕ) → k < n → each k ≡ false → all n ≡ false
+all-stop all each next k zero h e = absurd (omega arith)
+all-stop all each next k (suc n) h e = next n ∙ go (eqb k n) refl (λ lt. all-stop all each next k n lt e)
+  where
+    and-false : (t : Bool) → t && false ≡ false
+    and-false true = refl
+    and-false false = refl
+
+    go : (t : Bool) → eqb k n ≡ t → (k < n → all n ≡ false) → all n && each n ≡ false
+    go true s rec = let q : each n ≡ false = ap each (sym (eqb-true k n s)) ∙ e in rw q (and-false (all n))
+    go false s rec = let d = eqb-false k n s in rw (rec (omega (arith, d, h)))
 
 -- ---- lists
 
@@ -55,18 +70,7 @@ upto-more xs ys i e f = rw (add-one i, e, f)
 -- a sample that differs
 pub upto-stops : (xs ys : List ℤ) (i n : ℕ) → i < n → equal (getD xs i (pos 0)) (getD ys i (pos 0)) ≡ false → equalUpTo xs ys n ≡ false
 unfolding equalUpTo
-upto-stops xs ys i zero h e = absurd (omega arith)
-upto-stops xs ys i (suc n) h e = go (eqb i n) refl (λ lt. upto-stops xs ys i n lt e)
-  where
-    and-false : (t : Bool) → t && false ≡ false
-    and-false true = refl
-    and-false false = refl
-
-    go : (t : Bool) → eqb i n ≡ t → (i < n → equalUpTo xs ys n ≡ false) → equalUpTo xs ys n && equal (getD xs n (pos 0)) (getD ys n (pos 0)) ≡ false
-    go true s rec =
-        let q : equal (getD xs n (pos 0)) (getD ys n (pos 0)) ≡ false = ap (λ (j : ℕ). equal (getD xs j (pos 0)) (getD ys j (pos 0))) (sym (eqb-true i n s)) ∙ e in
-        rw q (and-false (equalUpTo xs ys n))
-    go false s rec = let d = eqb-false i n s in rw (rec (omega (arith, d, h)))
+upto-stops xs ys i n h e = all-stop (equalUpTo xs ys) (λ k. equal (getD xs k (pos 0)) (getD ys k (pos 0))) (λ k. refl) i n h e
 
 pub upto-refl : (xs : List ℤ) (n : ℕ) → equalUpTo xs xs n ≡ true
 unfolding equalUpTo

@@ -70,7 +70,7 @@ told (accepted u) t e = (refl, ap (λ (x : Outcome Bool). valueOr x false) e)
 told (refusedAt n j) t e = absurd (not-both e)
 
 -- both images are accepted, and they agree
-pub same-told : (a b : List ℕ) → same a b ≡ accepted true → (compareAnswer a ≡ accepted tt) × (compareAnswer b ≡ accepted tt) × (agree a b ≡ true)
+same-told : (a b : List ℕ) → same a b ≡ accepted true → (compareAnswer a ≡ accepted tt) × (compareAnswer b ≡ accepted tt) × (agree a b ≡ true)
 unfolding same bothAnswer
 same-told a b e =
     let w = told (bothAnswer a b) (agree a b) e in

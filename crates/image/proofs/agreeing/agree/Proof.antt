@@ -7,7 +7,7 @@ use borrow.Author.Tests.{not-true, not-false}
 use Rattle.image.specs.declared.Head.{Head}
 use Rattle.image.specs.Reading.{blocksIn, headIn}
 use Rattle.image.specs.Sameness.{sameHead, agree}
-use Rattle.image.proofs.LawsAgree.{same-tables, head-total}
+use Rattle.image.proofs.LawsAgree.{one-head, same-tables}
 use Rattle.image.proofs.agreeing.agree.Statement.{statement}
 use Rattle.image.proofs.agreeing.agree.Tie as tie
 
@@ -61,7 +61,7 @@ returns-3 c = rw (
 
 equal-frames-requires : tie.Need-equal-frames-requires
 equal-frames-requires c κs = let p = c .before .before .before .before .before .before .before .before .before .before .before .pre in
-    record { opens = p .0; read = c .before .before .before .before .before .before .before .before .read-head .ensures; others = p .1; other = c .before .before .before .before .before .before .before .read-head2 .ensures; total = head-total _ _ (heads (c .before .before .before .before .before)) }
+    record { opens = p .0; read = c .before .before .before .before .before .before .before .before .read-head .ensures; others = p .1; other = c .before .before .before .before .before .before .before .read-head2 .ensures; total = one-head _ _ (heads (c .before .before .before .before .before)) .total }
 
 returns-4 : tie.Need-returns-4
 unfolding agree
