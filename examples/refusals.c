@@ -7,7 +7,8 @@
 #include <stdio.h>
 #include <string.h>
 
-enum { SAMPLES = 20, BLOCK_SIZE = 8, IMAGE = 56 + 2 * 16 + 8 + 1 + 3, LOOP_IMAGE = IMAGE + 16, LOOP_START = 5, LOOP_END = 17 };
+enum { SAMPLES = 20, BLOCK_SIZE = 8, BODIES = 8 + 1 + 3, IMAGE = 56 + 2 * 16 + BODIES, LOOP_IMAGE = IMAGE + 16, FILE_BYTES = 96 + BODIES };
+enum { LOOP_START = 5, LOOP_END = 17 };
 
 static const int16_t silence[SAMPLES] = {0}, coefficients[16] = {0}, lowest[16] = {-32768, -32768};
 static const int16_t largest[16] = {-32768, 28672}, outside[16] = {-32768, 28673}; /* 61,440 and 61,441 */
@@ -15,7 +16,7 @@ static const doilycairn_history history = {0, 0};
 static const doilycairn_context context = {0, {0, 0}};
 static int wrong = 0;
 
-/* What a call says of itself: its code, and the block whose entry is bad. */
+/* What a call says of itself: its code, and the block that it names. */
 typedef struct {
     uint32_t code;
     uint32_t entry;
@@ -32,6 +33,7 @@ static verdict of_body(doilycairn_body body) { return (verdict){body.code, body.
 static verdict of_playback(doilycairn_playback played) { return (verdict){played.code, played.entry}; }
 static verdict of_part(doilycairn_part part) { return (verdict){part.code, part.entry}; }
 static verdict of_turns(doilycairn_turns turns) { return (verdict){turns.code, turns.entry}; }
+static verdict of_written(doilycairn_written written) { return (verdict){written.code, written.entry}; }
 static verdict of_comparison(doilycairn_comparison compared) { return (verdict){compared.code, compared.entry}; }
 
 /* Remembers where a verdict is not what was meant. */
@@ -174,6 +176,8 @@ static void read_damaged(const uint8_t *damaged, size_t len, verdict meant) {
     compare(meant, of_part(doilycairn_play_from(damaged, len, 0, out, SAMPLES)));
     compare(meant, of_part(doilycairn_play_from(damaged, len, SAMPLES, out, SAMPLES)));
     compare(meant, of_turns(doilycairn_play_loop(damaged, len, 1, out, 0)));
+    uint8_t file[FILE_BYTES];
+    compare(meant, of_written(doilycairn_export_dsp(damaged, len, file, 0)));
 }
 
 /* Compares two images of one length, one of them or both damaged, and compares their sound: the two calls are refused alike. */
@@ -231,6 +235,45 @@ static void playing_loop(const uint8_t *image, const uint8_t *looped) {
     expect_no_block(DOILYCAIRN_ACCEPTED, of_turns(doilycairn_play_loop(image, IMAGE, 2, out, 0))); /* no loop: no samples */
 }
 
+/* Leaves the .dsp file of an image. */
+static void exporting(const uint8_t *looped, uint8_t *file) {
+    uint8_t other[LOOP_IMAGE];
+    memcpy(other, looped, LOOP_IMAGE);
+    other[83] = 1; /* in the entry of block 1, its history */
+    verdict named = of_written(doilycairn_export_dsp(other, LOOP_IMAGE, file, 0));
+    say(named);
+    compare((verdict){DOILYCAIRN_OTHER_HISTORY, 1}, named);
+    other[16] = other[18] = 0x80; /* a pair of coefficients */
+    expect_no_block(DOILYCAIRN_LOWEST_PAIR, of_written(doilycairn_export_dsp(other, LOOP_IMAGE, file, 0)));
+    expect_no_block(DOILYCAIRN_OUTPUT_TOO_SHORT, of_written(doilycairn_export_dsp(looped, LOOP_IMAGE, file, FILE_BYTES - 1)));
+    expect_no_block(DOILYCAIRN_ACCEPTED, of_written(doilycairn_export_dsp(looped, LOOP_IMAGE, file, FILE_BYTES)));
+}
+
+/* Importing a file in which these bytes are put in the place of four others. */
+static void import_with(const uint8_t *whole, size_t at, const uint8_t put[4], uint32_t meant) {
+    uint8_t file[FILE_BYTES], image[LOOP_IMAGE];
+    memcpy(file, whole, FILE_BYTES);
+    memcpy(file + at, put, 4);
+    expect_no_block(meant, of_written(doilycairn_import_dsp(file, FILE_BYTES, BLOCK_SIZE, image, LOOP_IMAGE)));
+    compare((verdict){meant, 0}, of_written(doilycairn_dsp_image_size(file, FILE_BYTES, BLOCK_SIZE)));
+}
+
+static void importing(const uint8_t *file) {
+    static const uint8_t zero[4] = {0}, low[4] = {0x80, 0, 0x80, 0};
+    uint8_t image[LOOP_IMAGE];
+    expect_no_block(DOILYCAIRN_FILE_TOO_SHORT, of_written(doilycairn_import_dsp(file, 95, 7, image, 0)));
+    expect_no_block(DOILYCAIRN_FILE_TOO_SHORT, of_written(doilycairn_import_dsp(file, FILE_BYTES - 1, 7, image, 0)));
+    import_with(file, 0, zero, DOILYCAIRN_BAD_SAMPLE_COUNT);
+    import_with(file, 8, zero, DOILYCAIRN_RATE_ZERO);
+    expect_no_block(DOILYCAIRN_BAD_BLOCK_SIZE, of_written(doilycairn_import_dsp(file, FILE_BYTES, 7, image, 0)));
+    import_with(file, 4, zero, DOILYCAIRN_BAD_FIELD);  /* the nibble count */
+    import_with(file, 16, zero, DOILYCAIRN_BAD_FIELD); /* the loop's first address: a frame's header */
+    import_with(file, 24, zero, DOILYCAIRN_BAD_FIELD); /* the number 2 */
+    import_with(file, 28, low, DOILYCAIRN_LOWEST_PAIR);
+    expect_no_block(DOILYCAIRN_IMAGE_TOO_SHORT, of_written(doilycairn_import_dsp(file, FILE_BYTES, BLOCK_SIZE, image, LOOP_IMAGE - 1)));
+    expect_no_block(DOILYCAIRN_ACCEPTED, of_written(doilycairn_import_dsp(file, FILE_BYTES, BLOCK_SIZE, image, LOOP_IMAGE)));
+}
+
 static void joining(void) {
     static const uint8_t bytes[8] = {0};
     uint8_t out[16];
@@ -238,7 +281,7 @@ static void joining(void) {
 }
 
 int main(void) {
-    uint8_t image[IMAGE], looped[LOOP_IMAGE];
+    uint8_t image[IMAGE], looped[LOOP_IMAGE], file[FILE_BYTES];
     measuring();
     one_frame();
     starting(image);
@@ -252,6 +295,8 @@ int main(void) {
     subject with_loop = {looped, LOOP_IMAGE, loop_damages, sizeof loop_damages / sizeof loop_damages[0]};
     reading_damaged(&plain);
     reading_damaged(&with_loop);
+    exporting(looped, file);
+    importing(file);
     joining();
     return wrong;
 }

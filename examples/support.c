@@ -29,13 +29,16 @@ static const char *message_of(uint32_t code) {
     case DOILYCAIRN_BAD_HEADER: return "the entry's predictor-and-scale is not the body's first byte";
     case DOILYCAIRN_LOOP_OUTSIDE: return "the loop's start is not below its end, or its end is above the sample count";
     case DOILYCAIRN_BAD_LOOP: return "the loop's entry is wrong: its start or end, its header or its zero bytes";
+    case DOILYCAIRN_FILE_TOO_SHORT: return "the .dsp file lacks bytes of its header or of its samples";
+    case DOILYCAIRN_BAD_FIELD: return "a field of the .dsp file's header is not as it should be";
+    case DOILYCAIRN_OTHER_HISTORY: return "it does not begin from what the block before it leaves, which a .dsp file cannot hold";
     default: return "a code that this program does not know";
     }
 }
 
-/* Whether a code speaks of one entry of an image's table. */
+/* Whether a code speaks of one block of an image. */
 static int names_block(uint32_t code) {
-    return code == DOILYCAIRN_BAD_OFFSET || code == DOILYCAIRN_BAD_LENGTH || code == DOILYCAIRN_BAD_HEADER;
+    return code == DOILYCAIRN_BAD_OFFSET || code == DOILYCAIRN_BAD_LENGTH || code == DOILYCAIRN_BAD_HEADER || code == DOILYCAIRN_OTHER_HISTORY;
 }
 
 void write_message(FILE *out, uint32_t code, uint32_t entry) {

@@ -6,7 +6,7 @@
 #include <stdint.h>
 #include <stdio.h>
 
-/* Writes what a code says, in words, after the block whose entry is bad if the code speaks of one. */
+/* Writes what a code says, in words, after the block that it names if it speaks of one. */
 void write_message(FILE *out, uint32_t code, uint32_t entry);
 
 /* Ends the program with exit status 2 and the refusal's message, unless the call, one that reads no image, was accepted. */

@@ -64,6 +64,10 @@ for samples in 1 14 15 1000 48000; do
     # At another rate.
     damage 11
     expect 1 "$bin/compare" clip damaged
+    # As studios exchange it: one file, in whichever blocks it was.
+    expect 0 "$bin/dsp_file" clip clip.dsp
+    expect 0 "$bin/dsp_file" fine fine.dsp
+    cmp clip.dsp fine.dsp
     # As a trim screen and as a player do: from the middle, and all in pieces.
     plays_part fine fine.raw $((samples / 2)) 200
     plays_part fine fine.raw 0 $samples
@@ -105,7 +109,10 @@ damage 161
 refused "same: block 6: the entry's predictor-and-scale is not the body's first byte (refusal 22)" "$bin/compare" damaged clip
 damage $((56 + 16 * 7 + 4096))
 refused "open: block 1: the entry's predictor-and-scale is not the body's first byte (refusal 22)" "$bin/play" damaged damaged.raw
-for file in none cut.raw damaged.raw; do
+# The history of block 2, which block 1 does not leave.
+damage $((56 + 16 * 2 + 10))
+refused "export: block 2: it does not begin from what the block before it leaves, which a .dsp file cannot hold (refusal 35)" "$bin/dsp_file" damaged damaged.dsp
+for file in none cut.raw damaged.raw damaged.dsp; do
     if [ -e $file ]; then
         echo "failed: $file was written" >&2
         exit 1

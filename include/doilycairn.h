@@ -14,7 +14,7 @@
  *
  * Every answer has a `code`: 0 accepted, or the number of the first test that failed (enum doilycairn_code). A refused call
  * writes to no buffer; the rest of its answer is as the call's comment says. Where an entry of an image's table is bad, `entry`
- * names its block (see "Reading an image").
+ * names its block (see "Reading an image"), and so it does where a block keeps an image from being exported (see ".dsp files").
  *
  * A state and its buffer belong together: the store for a doilycairn_calculator, the image for a doilycairn_encoder, each as the calls on
  * that state left it. No call can test that they do. With another store the coefficients are those of whatever numbers stand
@@ -73,17 +73,17 @@ enum doilycairn_code {
     DOILYCAIRN_INVALID_STATE = 1,       /* a state whose numbers no run of calls gives; not every forged state is found, see above */
     DOILYCAIRN_TOO_MANY_SAMPLES = 2,    /* measuring: more than 14,680,064 samples in all */
     DOILYCAIRN_STORE_TOO_SHORT = 3,     /* measuring, coefficients: fewer numbers than doilycairn_store_size says */
-    DOILYCAIRN_BAD_SAMPLE_COUNT = 4,    /* starting: 0 samples, or above 14,680,064 */
-    DOILYCAIRN_RATE_ZERO = 5,           /* starting: rate 0 */
-    DOILYCAIRN_BAD_BLOCK_SIZE = 6,      /* starting: block size below 8 or above 65,536 */
+    DOILYCAIRN_BAD_SAMPLE_COUNT = 4,    /* starting, importing: 0 samples, or above 14,680,064 */
+    DOILYCAIRN_RATE_ZERO = 5,           /* starting, importing: rate 0 */
+    DOILYCAIRN_BAD_BLOCK_SIZE = 6,      /* starting, importing: block size below 8 or above 65,536 */
     DOILYCAIRN_COEFFICIENT_OUTSIDE = 7, /* starting, one frame: |c0| + |c1| above 61,440 in a pair */
-    DOILYCAIRN_IMAGE_TOO_SHORT = 8,     /* starting, feeding, closing: fewer bytes than doilycairn_image_size says, with a loop doilycairn_loop_image_size */
+    DOILYCAIRN_IMAGE_TOO_SHORT = 8,     /* starting, feeding, closing, importing: fewer bytes than doilycairn_image_size or doilycairn_loop_image_size says */
     DOILYCAIRN_ALREADY_CLOSED = 9,      /* feeding, closing: the clip is closed */
     DOILYCAIRN_PIECE_TOO_LONG = 10,     /* feeding: more samples than the clip still lacks */
     DOILYCAIRN_UNFINISHED = 11,         /* closing: the clip still lacks samples */
     DOILYCAIRN_LENGTH_OUT_OF_RANGE = 12,/* playing bytes: 0 nibbles, or more than two for each byte */
-    DOILYCAIRN_LOWEST_PAIR = 13,        /* playing, comparing: a pair of coefficients is -32,768 twice */
-    DOILYCAIRN_OUTPUT_TOO_SHORT = 14,   /* playing bytes, a block, all or the loop, joining: the output is too short */
+    DOILYCAIRN_LOWEST_PAIR = 13,        /* playing, comparing, exporting, importing: a pair of coefficients is -32,768 twice */
+    DOILYCAIRN_OUTPUT_TOO_SHORT = 14,   /* playing bytes, a block, all or the loop, joining, exporting: the output is too short */
     DOILYCAIRN_BAD_HEAD = 15,           /* an image: its first 56 bytes are not a clip's, or bytes are missing */
     DOILYCAIRN_NO_SUCH_BLOCK = 17,      /* an image: the block's number is not below the count of blocks */
     DOILYCAIRN_COEFFICIENTS_DIFFER = 18,/* joining: the two blocks have different coefficients */
@@ -92,7 +92,10 @@ enum doilycairn_code {
     DOILYCAIRN_BAD_LENGTH = 21,         /* an image: an entry's length is not its block's, or its two zero bytes are not zero */
     DOILYCAIRN_BAD_HEADER = 22,         /* an image: an entry's predictor-and-scale is not the first byte of its block's body */
     DOILYCAIRN_LOOP_OUTSIDE = 23,       /* starting with a loop: its start is not below its end, or its end is above the sample count */
-    DOILYCAIRN_BAD_LOOP = 24            /* an image: its loop's start and end break that rule, or its header byte or zero bytes are not as they should be */
+    DOILYCAIRN_BAD_LOOP = 24,           /* an image: its loop's start and end break that rule, or its header byte or zero bytes are not as they should be */
+    DOILYCAIRN_FILE_TOO_SHORT = 25,     /* importing: fewer than 96 bytes, or fewer bytes after these than the file's sample count needs */
+    DOILYCAIRN_BAD_FIELD = 26,          /* importing: a field of the file's header is not as it should be */
+    DOILYCAIRN_OTHER_HISTORY = 35       /* exporting: a later block's history is not what the block before it leaves */
 };
 
 /* ---- States and values ---- */
@@ -219,6 +222,12 @@ typedef struct {
 
 typedef struct {
     uint32_t code;
+    uint32_t entry; /* with 20, 21, 22: the number of the block whose entry is bad; with 35: of the block whose history is another; else 0 */
+    uint64_t bytes; /* of the file or the image, written or asked for; refused: 0 */
+} doilycairn_written;
+
+typedef struct {
+    uint32_t code;
     uint64_t nibbles; /* the sum of the two lengths; refused: 0 */
 } doilycairn_joining;
 
@@ -232,6 +241,9 @@ uint64_t doilycairn_image_size(uint32_t total, uint32_t block_size);
 
 /* The same for a clip with a loop: 16 more; 0 where starting would refuse by 4 or 6. */
 uint64_t doilycairn_loop_image_size(uint32_t total, uint32_t block_size);
+
+/* Bytes of the .dsp file of a clip of `total` samples, with a loop or without: 96, and those of all bodies; 0 where starting would refuse by 4. */
+uint64_t doilycairn_dsp_size(uint32_t total);
 
 /* ---- Measuring: from samples to sixteen coefficients ---- */
 
@@ -307,7 +319,7 @@ doilycairn_encoding doilycairn_close(doilycairn_encoder encoder, uint8_t *image,
  *
  * 24 speaks of the loop's entry, which is tested after those of all blocks: for its start and end, then for its header, which is the first byte of the
  * frame that holds the start (and it may be that byte that is damaged), and its two zero bytes. The two samples in it may be any. Beside 24, as beside
- * every other code but 20, 21 and 22, `entry` is 0 and names no block.
+ * every other code but 20, 21 and 22 (and 35, see ".dsp files"), `entry` is 0 and names no block.
  */
 
 /*
@@ -374,6 +386,48 @@ doilycairn_comparison doilycairn_same(const uint8_t *first, size_t first_len, co
  * Refused as doilycairn_same is, with the same `entry`.
  */
 doilycairn_comparison doilycairn_sounds_same(const uint8_t *first, size_t first_len, const uint8_t *second, size_t second_len);
+
+/* ---- .dsp files ---- */
+
+/*
+ * A .dsp file is what studios exchange: a header of 96 bytes, big-endian, and the bodies of all blocks, back to back. It has no mark and no table, so
+ * it does not hold how a clip is cut into blocks, and no block's history but the first one's.
+ *
+ *     at  bytes  holds                                              at  bytes  holds
+ *      0      4  sample count                                       28     32  coefficients
+ *      4      4  nibble count: the sum of the blocks' lengths       60      2  gain
+ *      8      4  rate                                               62      2  header of the first frame
+ *     12      2  1 with a loop, else 0                              64      4  newest and older sample before the clip
+ *     14      2  zero                                               68      2  header of the frame that holds the loop's start
+ *     16      4  nibble address of the loop's first sample          70      4  newest and older sample before the loop
+ *     20      4  nibble address of the loop's last sample           74     22  zeros
+ *     24      4  the number 2, the first sample's nibble address    96         the bodies
+ *
+ * Without a loop 16 to 23 and 68 to 73 are zeros. An image that export accepts comes back byte for byte from import at its own block size (`block` of
+ * its head), without bytes after it. A file that import accepts comes back from export, whatever the block size was, without bytes after its bodies.
+ */
+
+/*
+ * Exports an image: writes its clip as a .dsp file, doilycairn_dsp_size(total) bytes for `total` of its head; later bytes of `out` are kept.
+ * Every image that was made by starting, feeding and closing can be exported. One that was made by hand or joined from others may have a block that
+ * does not begin from what the block before it leaves, played from its own context: that is 35, and `entry` names the first such block, 1 at least.
+ * The loop's history is written as it is stored.
+ * Refused by 15, 20, 21, 22, 24, 13, 35, 14.
+ */
+doilycairn_written doilycairn_export_dsp(const uint8_t *image, size_t image_len, uint8_t *out, size_t out_len);
+
+/*
+ * Imports a .dsp file: writes its clip as a closed image in blocks of `block_size` bytes, cut down to a multiple of 8, as many bytes as
+ * doilycairn_dsp_image_size says; later bytes of `image` are kept. It plays what the file's bodies play as one block. What each block begins from is
+ * worked out by playing those before it; the loop's is copied. Bytes of the file after its last body are dropped.
+ * Refused by 25, 4, 5, 6, 26, 13, 8. 26 is for any field that is not as listed above: the nibble count, the flag, the zeros, the number 2, a header
+ * that is not its frame's first byte, addresses that are not of the clip's samples or the last below the first, and loop fields without a loop. Rate
+ * (but 0), gain, coefficients (but 13) and histories may be any. `entry` is always 0.
+ */
+doilycairn_written doilycairn_import_dsp(const uint8_t *file, size_t file_len, uint32_t block_size, uint8_t *image, size_t image_len);
+
+/* The bytes of the image that doilycairn_import_dsp would write. Refused by 25, 4, 5, 6, 26, 13, as that is. `entry` is always 0. */
+doilycairn_written doilycairn_dsp_image_size(const uint8_t *file, size_t file_len, uint32_t block_size);
 
 /* ---- Blocks without an image ---- */
 
@@ -480,6 +534,10 @@ DOILYCAIRN_CHECK(offsetof(doilycairn_turns, samples) == 8);
 DOILYCAIRN_CHECK(sizeof(doilycairn_comparison) == 12);
 DOILYCAIRN_CHECK(offsetof(doilycairn_comparison, entry) == 4);
 DOILYCAIRN_CHECK(offsetof(doilycairn_comparison, same) == 8);
+
+DOILYCAIRN_CHECK(sizeof(doilycairn_written) == 16);
+DOILYCAIRN_CHECK(offsetof(doilycairn_written, entry) == 4);
+DOILYCAIRN_CHECK(offsetof(doilycairn_written, bytes) == 8);
 
 DOILYCAIRN_CHECK(sizeof(doilycairn_joining) == 16);
 DOILYCAIRN_CHECK(offsetof(doilycairn_joining, nibbles) == 8);

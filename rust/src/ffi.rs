@@ -107,6 +107,14 @@ pub(crate) struct Comparison {
 
 #[repr(C)]
 #[derive(Debug)]
+pub(crate) struct Written {
+    pub code: u32,
+    pub entry: u32,
+    pub bytes: u64,
+}
+
+#[repr(C)]
+#[derive(Debug)]
 pub(crate) struct Joining {
     pub code: u32,
     pub nibbles: u64,
@@ -122,6 +130,7 @@ mod raw {
         pub safe fn doilycairn_store_size(samples: u32) -> u64;
         pub safe fn doilycairn_image_size(total: u32, block_size: u32) -> u64;
         pub safe fn doilycairn_loop_image_size(total: u32, block_size: u32) -> u64;
+        pub safe fn doilycairn_dsp_size(total: u32) -> u64;
         pub safe fn doilycairn_address_to_sample(address: u32) -> u64;
         pub safe fn doilycairn_sample_to_address(sample: u32) -> u64;
         pub safe fn doilycairn_new() -> Calculator;
@@ -217,6 +226,24 @@ mod raw {
             second: *const u8,
             second_len: usize,
         ) -> Comparison;
+        pub fn doilycairn_export_dsp(
+            image: *const u8,
+            image_len: usize,
+            out: *mut u8,
+            out_len: usize,
+        ) -> Written;
+        pub fn doilycairn_import_dsp(
+            file: *const u8,
+            file_len: usize,
+            block_size: u32,
+            image: *mut u8,
+            image_len: usize,
+        ) -> Written;
+        pub fn doilycairn_dsp_image_size(
+            file: *const u8,
+            file_len: usize,
+            block_size: u32,
+        ) -> Written;
         pub fn doilycairn_play_bytes(
             bytes: *const u8,
             bytes_len: usize,
@@ -242,10 +269,10 @@ mod raw {
 }
 
 pub(crate) use raw::{
-    doilycairn_address_to_sample as address_to_sample, doilycairn_encode_frame as encode_frame,
-    doilycairn_image_size as image_size, doilycairn_loop_image_size as loop_image_size,
-    doilycairn_new as new, doilycairn_sample_to_address as sample_to_address,
-    doilycairn_store_size as store_size,
+    doilycairn_address_to_sample as address_to_sample, doilycairn_dsp_size as dsp_size,
+    doilycairn_encode_frame as encode_frame, doilycairn_image_size as image_size,
+    doilycairn_loop_image_size as loop_image_size, doilycairn_new as new,
+    doilycairn_sample_to_address as sample_to_address, doilycairn_store_size as store_size,
 };
 
 #[allow(unsafe_code)]
@@ -359,6 +386,26 @@ pub(crate) fn sounds_same(first: &[u8], second: &[u8]) -> Comparison {
     let (a, b) = (first.as_ptr(), second.as_ptr());
     // SAFETY: both slices are passed with their own lengths and only read, so they may overlap.
     unsafe { raw::doilycairn_sounds_same(a, first.len(), b, second.len()) }
+}
+
+#[allow(unsafe_code)]
+pub(crate) fn export_dsp(image: &[u8], out: &mut [u8]) -> Written {
+    let (bytes, file) = (image.as_ptr(), out.as_mut_ptr());
+    // SAFETY: both slices are passed with their own lengths; only `out` is written.
+    unsafe { raw::doilycairn_export_dsp(bytes, image.len(), file, out.len()) }
+}
+
+#[allow(unsafe_code)]
+pub(crate) fn import_dsp(file: &[u8], block_size: u32, image: &mut [u8]) -> Written {
+    let (bytes, buffer) = (file.as_ptr(), image.as_mut_ptr());
+    // SAFETY: both slices are passed with their own lengths; only `image` is written.
+    unsafe { raw::doilycairn_import_dsp(bytes, file.len(), block_size, buffer, image.len()) }
+}
+
+#[allow(unsafe_code)]
+pub(crate) fn dsp_image_size(file: &[u8], block_size: u32) -> Written {
+    // SAFETY: the slice is passed with its own length and only read.
+    unsafe { raw::doilycairn_dsp_image_size(file.as_ptr(), file.len(), block_size) }
 }
 
 #[allow(unsafe_code)]

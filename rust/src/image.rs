@@ -1,11 +1,13 @@
-//! Reading an image: opening, its blocks, playing, sameness.
+//! Reading an image: opening, its blocks, playing, sameness; .dsp files.
 
 use crate::{Block, Coefficients, FrameContext, LoopState, Played, Refusal, Samples, ffi};
 
+mod dsp;
 mod looped;
 mod part;
 mod sameness;
 
+pub use dsp::{dsp_image_size, dsp_size, from_dsp, from_dsp_into};
 pub use part::Part;
 pub use sameness::{same, sounds_same};
 
@@ -32,7 +34,7 @@ pub struct Head {
 }
 
 /// Bytes that open as an image: head and table are as they should be. They stay borrowed, so that no call on it is refused for its
-/// head or its table: 13, 14, 17 and 19 are left.
+/// head or its table: 13, 14, 17, 19 and 35 are left.
 ///
 /// ```
 /// use doilycairn::{Image, Refusal};

@@ -2,7 +2,8 @@
 //!
 //! A clip is measured (for its sixteen coefficients), started, fed in pieces of any length and closed; what that leaves is an image,
 //! which opens, plays and compares. It does not matter how the clip is cut into pieces. A clip may have a [`Loop`], which its image then plays
-//! any number of times over ([`Image::play_loop`]).
+//! any number of times over ([`Image::play_loop`]). An image is exported to a `.dsp` file, which studios exchange, by [`Image::to_dsp`], and such a
+//! file is imported by [`from_dsp`].
 //!
 //! ```
 //! use doilycairn::{Coefficients, Encoder, History, Image, Start};
@@ -28,7 +29,8 @@
 //! ```
 //!
 //! Every call is a function of its arguments; there is no global state, and all types are `Send` and `Sync`. A refused call
-//! gives a [`Refusal`] and alters neither state nor buffer; where a block's entry in an image's table is bad, the refusal names the block. States
+//! gives a [`Refusal`] and alters neither state nor buffer; where a block's entry in an image's table is bad, or a block keeps an image from being
+//! exported, the refusal names the block. States
 //! ([`Calculator`], [`EncoderState`]) are plain values: undo is keeping the older one, and going on with the same buffer. What the library's
 //! calls do is proved; this crate passes them slices with their lengths and turns codes into [`Refusal`]s.
 //!
@@ -69,7 +71,9 @@ pub use block::{
 pub use coefficients::Coefficients;
 pub use encoder::{Encoder, EncoderState, Start, image_size, loop_image_size};
 pub use frame::{EncodedFrame, History, encode_frame};
-pub use image::{Head, Image, Part, same, sounds_same};
+pub use image::{
+    Head, Image, Part, dsp_image_size, dsp_size, from_dsp, from_dsp_into, same, sounds_same,
+};
 pub use loops::{Loop, LoopState};
 pub use measure::{Calculator, Measure, Store, store_size};
 pub use refusal::Refusal;

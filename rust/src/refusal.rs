@@ -8,6 +8,7 @@ use std::fmt;
 /// What is wrong in an image's table is told by [`BadOffset`](Self::BadOffset), [`BadLength`](Self::BadLength) and
 /// [`BadHeader`](Self::BadHeader), with the number of the block whose entry is bad. Entries are tested in rising order, each for
 /// these three in that sequence, and the first bad one is named. After those of the blocks comes the loop's, for [`BadLoop`](Self::BadLoop).
+/// [`OtherHistory`](Self::OtherHistory) names a block, too.
 ///
 /// ```
 /// use doilycairn::{Coefficients, Encoder, History, Image, Refusal, Start};
@@ -45,15 +46,15 @@ pub enum Refusal {
     TooManySamples,
     /// 3, measuring, coefficients: fewer numbers in the store than [`store_size`](crate::store_size) says.
     StoreTooShort,
-    /// 4, starting: 0 samples, or more than [`MAX_SAMPLES`](crate::MAX_SAMPLES).
+    /// 4, starting, importing: 0 samples, or more than [`MAX_SAMPLES`](crate::MAX_SAMPLES).
     BadSampleCount,
-    /// 5, starting: rate 0.
+    /// 5, starting, importing: rate 0.
     RateZero,
-    /// 6, starting: block size below 8 or above 65,536.
+    /// 6, starting, importing: block size below 8 or above 65,536.
     BadBlockSize,
     /// 7, starting, one frame: |c0| + |c1| above [`MAX_PAIR_SUM`](crate::MAX_PAIR_SUM), 61,440, in a pair.
     CoefficientOutside,
-    /// 8, starting, feeding, closing: the buffer is shorter than the image, the loop's entry counted.
+    /// 8, starting, feeding, closing, importing: the buffer is shorter than the image, the loop's entry counted.
     ImageTooShort,
     /// 9, feeding, closing: the clip is closed.
     AlreadyClosed,
@@ -63,9 +64,9 @@ pub enum Refusal {
     Unfinished,
     /// 12, playing bytes: 0 nibbles, or more than two for each byte.
     LengthOutOfRange,
-    /// 13, playing, comparing: a pair of coefficients is -32,768 twice.
+    /// 13, playing, comparing, exporting, importing: a pair of coefficients is -32,768 twice.
     LowestPair,
-    /// 14, playing bytes, a block, all or the loop, joining: the output is too short.
+    /// 14, playing bytes, a block, all or the loop, joining, exporting: the output is too short.
     OutputTooShort,
     /// 15, an image: its first 56 bytes are not a clip's, or bytes are missing.
     BadHead,
@@ -95,12 +96,23 @@ pub enum Refusal {
     /// 24, an image: its loop's start and end break the rule of 23, its predictor-and-scale is not the first byte of the frame that holds the
     /// start, or its two zero bytes are not zero.
     BadLoop,
+    /// 25, importing: the file has fewer than 96 bytes, or fewer after these than its sample count needs.
+    FileTooShort,
+    /// 26, importing: a field of the file's header is not as it should be.
+    BadField,
+    /// 35, exporting: a later block's history is not what the block before it leaves.
+    OtherHistory {
+        /// The first block that does not go on from the one before it.
+        block: u32,
+    },
 }
 
 impl Refusal {
     /// The number of every refusal, rising.
-    pub const NUMBERS: &'static [u32] =
-        &[1, 2, 3, 4, 5, 6, 7, 8, 9, 10, 11, 12, 13, 14, 15, 17, 18, 19, 20, 21, 22, 23, 24];
+    pub const NUMBERS: &'static [u32] = &[
+        1, 2, 3, 4, 5, 6, 7, 8, 9, 10, 11, 12, 13, 14, 15, 17, 18, 19, 20, 21, 22, 23, 24, 25, 26,
+        35,
+    ];
 
     /// Its number, the same as in C.
     ///
@@ -132,20 +144,24 @@ impl Refusal {
             Refusal::BadHeader { .. } => 22,
             Refusal::LoopOutside => 23,
             Refusal::BadLoop => 24,
+            Refusal::FileTooShort => 25,
+            Refusal::BadField => 26,
+            Refusal::OtherHistory { .. } => 35,
         }
     }
 
-    /// The block whose entry is bad, where the refusal speaks of one.
+    /// The block whose entry is bad, or does not go on from the block before, where the refusal speaks of one.
     pub const fn block(self) -> Option<u32> {
         match self {
             Refusal::BadOffset { block }
             | Refusal::BadLength { block }
-            | Refusal::BadHeader { block } => Some(block),
+            | Refusal::BadHeader { block }
+            | Refusal::OtherHistory { block } => Some(block),
             _ => None,
         }
     }
 
-    /// The refusal of a number. The block counts with 20, 21 and 22 alone.
+    /// The refusal of a number. The block counts with 20, 21, 22 and 35 alone.
     ///
     /// ```
     /// use doilycairn::Refusal;
@@ -179,6 +195,9 @@ impl Refusal {
             22 => Refusal::BadHeader { block },
             23 => Refusal::LoopOutside,
             24 => Refusal::BadLoop,
+            25 => Refusal::FileTooShort,
+            26 => Refusal::BadField,
+            35 => Refusal::OtherHistory { block },
             _ => return None,
         })
     }
@@ -214,6 +233,11 @@ impl Refusal {
             }
             Refusal::BadLoop => {
                 "the loop's entry is wrong: its start or end, its header or its zero bytes"
+            }
+            Refusal::FileTooShort => "the .dsp file lacks bytes of its header or of its samples",
+            Refusal::BadField => "a field of the .dsp file's header is not as it should be",
+            Refusal::OtherHistory { .. } => {
+                "it does not begin from what the block before it leaves, which a .dsp file cannot hold"
             }
         }
     }

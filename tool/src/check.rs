@@ -3,11 +3,12 @@
 use crate::args::Args;
 use crate::command::{Command, Many};
 use crate::console::{Console, Words};
+use crate::dsp::NO_IMAGE;
 use crate::failure::{Failure, Status};
 use crate::files::{self, Job};
 use crate::findings::{Finding, findings};
 use crate::image_bytes;
-use crate::input::{ImageFile, NO_DSP, is_dsp};
+use crate::input::ImageFile;
 use crate::json::{Json, path_fields, refusal_fields};
 use crate::loops::{self, Looped};
 use crate::options::{JOBS, flag};
@@ -92,8 +93,7 @@ fn told(
         let clip = clip_length(head.total, head.rate);
         let blocks = counted(head.blocks, "block", "blocks");
         let good = paint.text(Colour::Good, "opens and plays");
-        let points = sound.looped.map(|looped| format!("; loop {}", loops::words(looped.points)));
-        let points = points.unwrap_or_default();
+        let points = loops::after(sound.looped.map(|looped| looped.points));
         writeln!(out, "{}: {good}: {clip} in {blocks}{points}", file.name)?;
         for words in sound.clicks() {
             writeln!(out, "  {}: {words}", paint.text(Colour::Warning, "clicks"))?;
@@ -123,8 +123,8 @@ fn damaged(
     console.answer(Status::No, fields, Words::Status, |out| {
         let words = Paint::of(Stream::Out).text(Colour::Bad, &verdict(refusal, found().next()));
         writeln!(out, "{}: {words}", file.name)?;
-        if is_dsp(job.input) {
-            writeln!(out, "  {NO_DSP}")?;
+        if file.is_dsp() {
+            writeln!(out, "  {NO_IMAGE}")?;
         }
         tell(found(), out)
     })

@@ -33,9 +33,11 @@ pub struct Command {
 }
 
 /// Every command.
-pub const ALL: [&Command; 7] = [
+pub const ALL: [&Command; 9] = [
     &crate::encode::COMMAND,
     &crate::decode::COMMAND,
+    &crate::export::COMMAND,
+    &crate::import::COMMAND,
     &crate::info::COMMAND,
     &crate::check::COMMAND,
     &crate::compare::COMMAND,

@@ -1,4 +1,4 @@
-//! `decode`: from an image to samples.
+//! `decode`: from an image, or a .dsp file, to samples.
 
 mod chosen;
 mod part;
@@ -11,7 +11,7 @@ use crate::failure::{Failure, Status};
 use crate::files::{self, Job};
 use crate::input::ImageFile;
 use crate::json::{Json, path_fields};
-use crate::options::{FORCE, INTO, JOBS, flag, value};
+use crate::options::{FORCE, INTO, JOBS, LENIENT, flag, value};
 use crate::output::{Output, What};
 use crate::wav;
 use chosen::{Choice, Chosen};
@@ -22,7 +22,7 @@ pub const COMMAND: Command = Command {
     operands: &["IN.dspc", "OUT.wav"],
     many: Many::Into,
     summary: "from an image to samples",
-    about: "Plays the image and writes the samples.",
+    about: "Plays the image and writes the samples. IN may be a .dsp file, too, which is played as the image that import makes of it.",
     options: &[
         INTO,
         JOBS,
@@ -44,6 +44,7 @@ pub const COMMAND: Command = Command {
         ),
         flag("--lead-in", "first the samples before the loop; goes with --loop"),
         flag("--raw", "OUT has no head: 16-bit little-endian samples"),
+        LENIENT,
         FORCE,
     ],
     notes: "With --from or --count OUT has the samples that playing the whole clip gives there; --block goes with neither. Samples \
@@ -60,7 +61,7 @@ fn run(args: &Args, console: &Console) -> Result<Status, Failure> {
 fn one(args: &Args, choice: Choice, job: &Job, console: &Console) -> Result<Status, Failure> {
     let (input, output) = (job.input, job.output.as_deref().unwrap_or_default());
     let place = Output::at(What::Recording, output, &[input.into()], args.has("--force"), console)?;
-    let file = ImageFile::read(input)?;
+    let file = ImageFile::read_clip(input, args, console)?;
     let image = file.open()?;
     let headed = !args.has("--raw");
     let mut chosen = Chosen::of(choice, headed, &file, &image)?;
@@ -80,6 +81,7 @@ fn one(args: &Args, choice: Choice, job: &Job, console: &Console) -> Result<Stat
         ("rate", Json::Whole(rate.into())),
         ("block", choice.block().map_or(Json::Null, |block| Json::Whole(block.into()))),
     ]);
+    fields.extend(file.source_fields());
     fields.extend(chosen.fields(touched, rate));
     console.answer(Status::Done, fields, Words::Summary, |out| {
         writeln!(out, "{}: {}", place.name, chosen.words(touched, &file.name, samples, rate))

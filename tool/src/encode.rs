@@ -13,7 +13,7 @@ use crate::framing::{self, Framed};
 use crate::input;
 use crate::json::{Fields, Json, path_fields};
 use crate::loops;
-use crate::options::{FORCE, IGNORE_LENGTH, INTO, JOBS, RAW, file, flag, value};
+use crate::options::{BLOCK_SIZE, FORCE, IGNORE_LENGTH, INTO, JOBS, RAW, file, flag, value};
 use crate::output::{Output, What};
 use crate::settings;
 use crate::text::{clip_length, count, counted};
@@ -31,11 +31,7 @@ pub const COMMAND: Command = Command {
     options: &[
         INTO,
         JOBS,
-        value(
-            "--block-size",
-            "BYTES",
-            "bytes of a block, 8 to 65,536, cut down to a multiple of 8; 8,192 if not given",
-        ),
+        BLOCK_SIZE,
         value("--gain", "NUMBER", "kept in the image, 0 to 65,535; 0 if not given"),
         value("--history", "NEWEST,OLDER", "the two samples before the clip; 0,0 if not given"),
         file(

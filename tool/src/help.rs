@@ -13,9 +13,9 @@ pub const ABOUT: &str = "DSP ADPCM clips, the sound format of the GameCube and t
 
 /// What is to be known of files.
 pub const FILES: &str = "WAV files have one channel of 16-bit PCM; '-' is standard input or standard output. Images (.dspc) are this \
-    program's own container of a clip, described in FORMAT.md; .dsp files are neither read nor written. A file is replaced as a \
-    whole or not at all. Without --force no input is written over, no recording (WAV), no file that is marked read-only, and by \
-    decode no image.";
+    program's own container of a clip, described in FORMAT.md. Files of the consoles (.dsp) of one channel are written by export and read by import, \
+    decode and info. A file is replaced as a whole or not at all. Without --force no input is written over, no recording (WAV), no file that is \
+    marked read-only, and no image or .dsp file by what is none.";
 
 /// Other calls.
 pub const TOPICS: [(&str, &str); 4] = [
@@ -119,7 +119,7 @@ pub fn wrapped(words: &str, width: usize) -> Vec<String> {
 /// What an entry is, of which refusals speak.
 const ENTRIES: &str = "An entry is a block's, in the image's table of blocks; the message names the block. 20, 21 and 22 stand\n\
     where versions before 0.2.0 gave 16, which is no longer given. The loop has an entry of its\n\
-    own, after those of the blocks.";
+    own, after those of the blocks. 25 and 26 are for import, 35 for export; it names the block.";
 
 /// The library's refusals, by number.
 pub fn refusals() -> String {

@@ -1,16 +1,17 @@
-//! `info`: what an image holds.
+//! `info`: what an image, or a .dsp file, holds.
 
 use crate::args::Args;
 use crate::command::{Command, Many};
 use crate::console::{Console, Words};
 use crate::distance::Distances;
+use crate::dsp;
 use crate::failure::{Failure, Status};
 use crate::files::{self, Job};
 use crate::image_bytes;
 use crate::input::{self, ImageFile};
 use crate::json::{Fields, Json, path_fields};
 use crate::loops::Looped;
-use crate::options::{FORCE, IGNORE_LENGTH, JOBS, file, flag};
+use crate::options::{FORCE, IGNORE_LENGTH, JOBS, LENIENT, file, flag};
 use crate::output::{Output, What};
 use crate::picture;
 use crate::seams::{self, Seam};
@@ -26,7 +27,7 @@ pub const COMMAND: Command = Command {
     many: Many::Inputs,
     summary: "what an image holds, and how near it is to a WAV file",
     about: "Shows head, blocks, loop, coefficients, how many frames use each predictor and exponent, and where a click may be heard: at \
-        edges of blocks, or where the loop begins anew.",
+        edges of blocks, or where the loop begins anew. IN may be a .dsp file, too, which is shown as the image that import makes of it.",
     options: &[
         flag("--blocks", "lists the blocks with their contexts"),
         file(
@@ -37,6 +38,7 @@ pub const COMMAND: Command = Command {
         flag("--raw", "REF.wav has no head: 16-bit little-endian samples"),
         IGNORE_LENGTH,
         file("--svg", "OUT.svg", "draws a picture"),
+        LENIENT,
         JOBS,
         FORCE,
     ],
@@ -49,8 +51,13 @@ pub const COMMAND: Command = Command {
 pub struct Known<'a> {
     pub name: String,
     pub image: Image<'a>,
+    /// Whether it was a .dsp file.
+    pub is_dsp: bool,
+    /// Bytes of the image, or of the .dsp file up to its last body's end.
     pub size: usize,
-    /// Bytes of the file after the image.
+    /// Where in it the bodies begin.
+    pub bodies_at: usize,
+    /// Bytes of the file after that.
     pub after: u64,
     pub survey: Survey,
     /// The context after the last sample; none where the image does not play.
@@ -79,7 +86,7 @@ fn one(args: &Args, job: &Job, console: &Console) -> Result<Status, Failure> {
     let svg =
         args.value("--svg").map(|path| Output::at(What::Picture, path, &inputs, force, console));
     let svg = svg.transpose()?;
-    let file = ImageFile::read(input)?;
+    let file = ImageFile::read_clip(input, args, console)?;
     let image = file.open()?;
     let reference = against.map(|path| reference(path, args, &image, console)).transpose()?;
     let refused = |refusal| file.refused(refusal);
@@ -90,6 +97,7 @@ fn one(args: &Args, job: &Job, console: &Console) -> Result<Status, Failure> {
     let distances = reference.as_ref().map(|clip| Distances::of(&image, clip)).transpose();
     let known = known(&file, image, distances.map_err(refused)?, args.has("--blocks"));
     let mut fields = path_fields("input", "input_hex", input);
+    fields.extend(file.source_fields());
     fields.extend(known.fields());
     console.answer(Status::Done, fields, Words::Asked, |out| tables::write(&known, out))
 }
@@ -102,9 +110,15 @@ fn known<'a>(
     blocks: bool,
 ) -> Known<'a> {
     let size = image_bytes::size(&image);
+    let (size, bodies_at) = match file.dsp {
+        None => (size, image_bytes::bodies_at(&image)),
+        Some((size, _)) => (size, dsp::HEADER),
+    };
     Known {
         name: file.name.clone(),
+        is_dsp: file.dsp.is_some(),
         size,
+        bodies_at,
         after: file.after(size),
         survey: Survey::of(&image),
         end: end(&image),
@@ -180,7 +194,7 @@ impl Known<'_> {
 
     /// The blocks with their contexts.
     fn contexts(&self) -> Json<'_> {
-        let body = image_bytes::bodies_at(&self.image) as u64;
+        let body = self.bodies_at as u64;
         let block_size = u64::from(self.image.head().block);
         Json::list(self.image.blocks().enumerate().map(move |(k, block)| {
             Json::Object(vec![

@@ -1,9 +1,12 @@
 //! Reading clips and images, from files or standard input.
 
 use crate::args::Args;
+use crate::codec::BLOCK_SIZE;
 use crate::console::Console;
+use crate::dsp::{self, Mended};
 use crate::failure::Failure;
 use crate::findings::findings;
+use crate::json::{Fields, Json};
 use crate::memory;
 use crate::text::{count, shown};
 use crate::wav::{self, Clip, Wrong};
@@ -11,7 +14,6 @@ use doilycairn::{Image, Refusal};
 use std::ffi::{OsStr, OsString};
 use std::fs::File;
 use std::io::{self, Read};
-use std::path::Path;
 
 /// No image is longer (its limit is 25,165,896 bytes); what follows is not kept.
 const MOST_BYTES: u64 = 1 << 25;
@@ -19,11 +21,6 @@ const MOST_BYTES: u64 = 1 << 25;
 /// How messages name an input.
 pub fn name(path: &OsStr) -> String {
     if path == "-" { "standard input".into() } else { shown(path) }
-}
-
-/// Whether a path ends in `.dsp`, the name of a format that is not known here.
-pub fn is_dsp(path: &OsStr) -> bool {
-    Path::new(path).extension().is_some_and(|extension| extension.eq_ignore_ascii_case("dsp"))
 }
 
 /// Opens a file or standard input; tells the length of a file of bytes.
@@ -50,8 +47,10 @@ pub struct ImageFile {
     /// All bytes, or as many as any image may have.
     pub bytes: Vec<u8>,
     /// Bytes of the file.
-    length: u64,
-    is_dsp: bool,
+    pub length: u64,
+    is_named_dsp: bool,
+    /// Where it was a .dsp file: its bytes up to the last body's end, and what was mended in it.
+    pub dsp: Option<(usize, Vec<Mended>)>,
 }
 
 impl ImageFile {
@@ -66,10 +65,29 @@ impl ImageFile {
         let mut bytes = vec![];
         (&mut reader).take(MOST_BYTES).read_to_end(&mut bytes).map_err(fail)?;
         let mut length = known.unwrap_or(0).max(bytes.len() as u64);
-        if known.is_none() && bytes.len() as u64 == MOST_BYTES && bytes.starts_with(b"DSPC") {
+        let is_clip = bytes.starts_with(b"DSPC") || dsp::begins(&bytes);
+        if known.is_none() && bytes.len() as u64 == MOST_BYTES && is_clip {
             length += io::copy(&mut reader, &mut io::sink()).map_err(fail)?;
         }
-        Ok(Self { name: name(path), bytes, length, is_dsp: is_dsp(path) })
+        let is_named_dsp = dsp::is_named(path);
+        Ok(Self { name: name(path), bytes, length, is_named_dsp, dsp: None })
+    }
+
+    /// Reads an image, or a .dsp file, which becomes one in blocks of the default size.
+    pub fn read_clip(path: &OsStr, args: &Args, console: &Console) -> Result<Self, Failure> {
+        let mut file = Self::read(path)?;
+        if file.is_dsp() {
+            let lenient = args.has("--lenient");
+            let imported = dsp::import(&mut file, BLOCK_SIZE, lenient, console)?;
+            file.bytes = imported.image;
+            file.dsp = Some((imported.size, imported.mended));
+        }
+        Ok(file)
+    }
+
+    /// Whether it is a .dsp file, by its name or by its contents. An image is known by its mark, whatever its name is.
+    pub fn is_dsp(&self) -> bool {
+        !self.bytes.starts_with(b"DSPC") && (self.is_named_dsp || dsp::begins(&self.bytes))
     }
 
     /// Opens it; a refusal comes with the first thing that looks wrong.
@@ -78,13 +96,23 @@ impl ImageFile {
             let first = findings(&self.bytes).next();
             let failure = Failure::refused(&self.name, refusal)
                 .with(first.map(|first| format!("; {}", first.at_byte())).unwrap_or_default());
-            if self.is_dsp { failure.with(format!("; {NO_DSP}")) } else { failure }
+            if self.is_dsp() { failure.with(format!("; {}", dsp::NO_IMAGE)) } else { failure }
         })
     }
 
-    /// Bytes of the file after an image of this size.
+    /// Bytes of the file after an image of this size, or after the last body of a .dsp file.
     pub fn after(&self, size: usize) -> u64 {
+        let size = self.dsp.as_ref().map_or(size, |(size, _)| *size);
         self.length.saturating_sub(size as u64)
+    }
+
+    /// What it was read from, as fields.
+    pub fn source_fields<'a>(&self) -> Fields<'a> {
+        let (format, mended) = match &self.dsp {
+            None => ("dspc", &[][..]),
+            Some((_, mended)) => ("dsp", &mended[..]),
+        };
+        vec![("format", Json::text(format)), ("mended", dsp::mended_json(mended))]
     }
 
     /// A refusal of this image.
@@ -92,8 +120,6 @@ impl ImageFile {
         Failure::refused(&self.name, refusal)
     }
 }
-
-pub const NO_DSP: &str = ".dsp files are neither read nor written; an image is a .dspc file";
 
 /// Reads a clip: a WAV file, or headerless samples with --raw. The rate of headerless samples is 0 where it is not asked for.
 pub fn clip(

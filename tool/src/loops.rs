@@ -35,6 +35,11 @@ pub fn words(points: Loop) -> String {
     Span::from(points).words()
 }
 
+/// The same after other words; nothing where there is no loop.
+pub fn after(points: Option<Loop>) -> String {
+    points.map(|points| format!("; loop {}", words(points))).unwrap_or_default()
+}
+
 /// Where a loop is, with its times and its length.
 pub fn long_words(points: Loop, rate: u32) -> String {
     let Loop { start, end } = points;

@@ -1,4 +1,4 @@
-//! `doilycairn`: encodes, decodes, shows, checks, compares, joins and trims DSP ADPCM clips.
+//! `doilycairn`: encodes, decodes, exports, imports, shows, checks, compares, joins and trims DSP ADPCM clips.
 
 mod args;
 mod call;
@@ -11,13 +11,16 @@ mod completions;
 mod console;
 mod decode;
 mod distance;
+mod dsp;
 mod encode;
+mod export;
 mod failure;
 mod files;
 mod findings;
 mod framing;
 mod help;
 mod image_bytes;
+mod import;
 mod info;
 mod input;
 mod join;

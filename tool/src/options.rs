@@ -70,6 +70,18 @@ pub const JOBS: Opt = value(
     "how many files are worked on at once, 1 to 256; as many as there are cores if not given",
 );
 
+pub const BLOCK_SIZE: Opt = value(
+    "--block-size",
+    "BYTES",
+    "bytes of a block, 8 to 65,536, cut down to a multiple of 8; 8,192 if not given",
+);
+
+pub const LENIENT: Opt = flag(
+    "--lenient",
+    "mends fields of a .dsp file that carry no sound, and tells each: those of a loop where there is none, the start address 0, and bytes 74 \
+     to 95 unless they say that there are several channels",
+);
+
 pub const FORCE: Opt = flag(
     "--force",
     "writes over an input, a recording, a file of another kind, or one that is marked read-only",

@@ -1,8 +1,8 @@
 //! Files are written as a whole or not at all: to a temporary file beside the place, which then takes its name.
 
 use crate::console::{Console, standard_bytes};
+use crate::dsp;
 use crate::failure::Failure;
-use crate::input::{NO_DSP, is_dsp};
 use crate::text::shown;
 use std::ffi::{OsStr, OsString};
 use std::fs::{self, File, Metadata, OpenOptions};
@@ -14,6 +14,7 @@ use std::path::{Path, PathBuf};
 #[derive(Clone, Copy, Debug, PartialEq, Eq)]
 pub enum What {
     Image,
+    Dsp,
     Recording,
     Picture,
 }
@@ -22,6 +23,7 @@ impl What {
     fn name(self) -> &'static str {
         match self {
             What::Image => "a clip image",
+            What::Dsp => "a .dsp file",
             What::Recording => "a recording",
             What::Picture => "a picture",
         }
@@ -69,8 +71,9 @@ impl Output {
             Ok(_) => Place::Special(path.into()),
             Err(_) => Place::File(new_file(path).map_err(fail)?),
         };
-        if is_dsp(path) {
-            console.note(format!("{name}: this is {}: {NO_DSP}", what.name()));
+        if dsp::is_named(path) && what != What::Dsp {
+            let is = what.name();
+            console.note(format!("{name}: this is {is} and no .dsp file: `export` writes one"));
         }
         Ok(Self { name, place })
     }
@@ -123,14 +126,15 @@ fn may_replace(
     }
     match &first_bytes(path) {
         [b'R', b'I', b'F', b'F', ..] => refuse("a recording (a WAV file)"),
-        b"DSPC" if what != What::Image => refuse("a clip image"),
+        [b'D', b'S', b'P', b'C', ..] if what != What::Image => refuse("a clip image"),
+        bytes if dsp::begins(bytes) && what != What::Dsp => refuse("a .dsp file"),
         _ => Ok(()),
     }
 }
 
 /// The first bytes of a file; zeros where there are none.
-fn first_bytes(path: &OsStr) -> [u8; 4] {
-    let mut bytes = [0; 4];
+fn first_bytes(path: &OsStr) -> [u8; 8] {
+    let mut bytes = [0; 8];
     let _ = File::open(path).and_then(|mut file| file.read_exact(&mut bytes));
     bytes
 }

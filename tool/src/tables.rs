@@ -1,7 +1,6 @@
 //! What is known of an image, in tables for people.
 
 use crate::distance::{Distances, bound};
-use crate::image_bytes;
 use crate::info::Known;
 use crate::loops;
 use crate::seams;
@@ -33,8 +32,13 @@ fn head(known: &Known, out: Out) -> io::Result<()> {
     let long = duration(head.total.into(), head.rate);
     writeln!(out, "  samples    {samples} at {rate} Hz ({long})")?;
     writeln!(out, "  frames     {}", count(known.survey.frames))?;
-    writeln!(out, "  blocks     {} of up to {} bytes", count(head.blocks), count(head.block))?;
-    writeln!(out, "  image      {} bytes, {ratio:.2} to 1", count(known.size as u64))?;
+    let (what, made) = match known.is_dsp {
+        false => ("image", ""),
+        true => (".dsp file", ", as `import` makes them"),
+    };
+    let (blocks, block) = (count(head.blocks), count(head.block));
+    writeln!(out, "  blocks     {blocks} of up to {block} bytes{made}")?;
+    writeln!(out, "  {what:<9}  {} bytes, {ratio:.2} to 1", count(known.size as u64))?;
     if known.after > 0 {
         let after = counted(known.after, "byte", "bytes");
         writeln!(out, "  after it   {after} that do not belong to it")?;
@@ -107,7 +111,7 @@ fn against(distances: &Distances, out: Out) -> io::Result<()> {
 }
 
 fn blocks(known: &Known, out: Out) -> io::Result<()> {
-    let (mut offset, mut sample) = (image_bytes::bodies_at(&known.image), 0);
+    let (mut offset, mut sample) = (known.bodies_at, 0);
     writeln!(
         out,
         "\n      block      offset  nibbles  from sample  samples  predictor  exponent   newest    older"

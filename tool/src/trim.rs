@@ -107,8 +107,7 @@ fn told(
     ];
     fields.extend(numbers.map(|(name, number)| (name, Json::Whole(number))));
     fields.push(("loop", loops::json(image.looped(), rate)));
-    let points = image.looped().map(|points| format!("; loop {}", loops::words(points)));
-    let points = points.unwrap_or_default();
+    let points = loops::after(image.looped());
     console.answer(Status::Done, fields, Words::Summary, |out| {
         let frames = counted(frames, "frame", "frames");
         let clip = clip_length(total, rate);

@@ -132,6 +132,6 @@ fn answer(code: u8, machine: &Machine, room: usize, shown: bool) -> String {
 }
 
 /// Bytes as the digits of a number, modulo a prime.
-fn digest(bytes: &[u8]) -> u64 {
+pub fn digest(bytes: &[u8]) -> u64 {
     bytes.iter().fold(0, |sum, byte| (sum * 1_000_003 + u64::from(*byte) + 1) % 1_099_511_627_689)
 }

@@ -12,10 +12,15 @@ fn frames(total: u32) -> u64 {
     u64::from(total).div_ceil(14)
 }
 
+/// The bytes of all bodies, T, of a count that is not 0.
+pub fn body_size(total: u32) -> u64 {
+    let last = u64::from(total) - 14 * (frames(total) - 1);
+    8 * (frames(total) - 1) + 1 + last.div_ceil(2)
+}
+
 /// "Image size S = 56 + 16K + T", of a clip without a loop.
 pub fn image_size(total: u32, block: u32) -> u64 {
-    let last = u64::from(total) - 14 * (frames(total) - 1);
-    56 + 16 * block_count(total, block) + 8 * (frames(total) - 1) + 1 + last.div_ceil(2)
+    56 + 16 * block_count(total, block) + body_size(total)
 }
 
 impl Start {

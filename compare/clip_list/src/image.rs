@@ -38,8 +38,13 @@ fn image_of_blocks(mark: [u8; 4], start: &Start, blocks: &[Block], looped: &[u8]
     image
 }
 
+/// The closed image of blocks, with the entry of a loop where there is one.
+pub fn closed_image(start: &Start, blocks: &[Block], looped: &[u8]) -> Vec<u8> {
+    image_of_blocks(MARK, start, blocks, looped)
+}
+
 /// The blocks of a clip, and the history after it.
-fn blocks_of(start: &Start, pieces: &[&[i16]]) -> (Vec<Block>, History) {
+pub fn blocks_of(start: &Start, pieces: &[&[i16]]) -> (Vec<Block>, History) {
     let Start { rate, size, gain, ref coefficients, history, .. } = *start;
     encode_blocks(pieces, rate, size as usize, coefficients, gain, history).unwrap()
 }
@@ -47,10 +52,10 @@ fn blocks_of(start: &Start, pieces: &[&[i16]]) -> (Vec<Block>, History) {
 /// The closed image of a clip.
 pub fn image_of(start: &Start, pieces: &[&[i16]]) -> Vec<u8> {
     let (blocks, _) = blocks_of(start, pieces);
-    let Some(looped) = start.looped else { return image_of_blocks(MARK, start, &blocks, &[]) };
+    let Some(looped) = start.looped else { return closed_image(start, &blocks, &[]) };
     let all: Vec<_> = blocks.iter().collect();
     let context = context_at(&all, start.history, looped.start as usize);
-    image_of_blocks(MARK, start, &blocks, &loop_entry(Some(looped).into(), context))
+    closed_image(start, &blocks, &loop_entry(Some(looped).into(), context))
 }
 
 /// The image that starting writes: the lengths are those of the blocks of silence; contexts, bodies and the loop's entry are zero.

@@ -31,10 +31,11 @@ mod refusals;
 mod run;
 mod state;
 
-pub use case::{Case, MOST_ROOM, Step};
+pub use case::{Case, MOST_ROOM, Step, digest};
 pub use cases::{HISTORIES, cases};
-pub use codes::{block_count, image_size};
-pub use image::image_of;
+pub use codes::{block_count, body_size, image_size};
+pub use image::{blocks_of, closed_image, image_of};
+pub use loop_entry::{context_at, loop_entry};
 pub use looped::{Loop, LoopState};
 pub use loops::ramp;
 pub use machine::Machine;

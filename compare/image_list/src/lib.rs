@@ -58,7 +58,7 @@ pub use located::{Located, Run};
 pub use loop_damage::{damage_loop, loop_frame, put_ends};
 pub use looped::{LoopEntry, Turns};
 pub use made::{
-    Clip, any_image, clip_image, looped_or_not, put_any_bytes, put_any_histories, put_quiet,
+    Clip, any_image, clip_image, looped_or_not, put_any_bytes, put_any_histories, put_quiet, with,
 };
 pub use random::{random_images, random_run, random_turns};
 pub use regrouped::regrouped;

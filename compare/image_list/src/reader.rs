@@ -21,7 +21,7 @@ pub struct Opened<'i> {
 #[derive(Debug, Clone, Copy, PartialEq)]
 pub struct Refused {
     pub code: u8,
-    /// With 20, 21 and 22 the block whose entry is bad, else 0.
+    /// With 20, 21 and 22 the block whose entry is bad, with 35 the one that another history stands before, else 0.
     pub block: u32,
 }
 
@@ -41,7 +41,7 @@ pub struct Entry {
 }
 
 /// The number of two bytes at a place.
-pub(crate) fn word(bytes: &[u8], place: usize) -> u16 {
+pub fn word(bytes: &[u8], place: usize) -> u16 {
     u16::from_be_bytes([bytes[place], bytes[place + 1]])
 }
 
@@ -159,7 +159,7 @@ impl Opened<'_> {
     }
 
     /// Code 13.
-    pub(crate) fn test_pairs(&self) -> Result<(), Refused> {
+    pub fn test_pairs(&self) -> Result<(), Refused> {
         if has_lowest_pair(&self.coefficients) { Err(Refused::by(13)) } else { Ok(()) }
     }
 }

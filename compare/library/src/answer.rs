@@ -1,6 +1,7 @@
 //! Answers that can be compared, and altered to see that a comparison can fail.
 
 use crate::c_encoding::Encoding;
+use crate::c_files::Written;
 use crate::ffi::{Body, Comparison, Opening, Part, Playback, Turns};
 use clip_list::State;
 use image_list::reader::Refused;
@@ -107,7 +108,7 @@ impl Reason for u8 {
 impl Reason for Refused {
     fn alter(&mut self) {
         match self.code {
-            20..=22 => self.block ^= 1,
+            20..=22 | 35 => self.block ^= 1,
             _ => self.code ^= 1,
         }
     }
@@ -191,6 +192,21 @@ impl Answer for Turns {
         match self.code {
             0 => self.samples ^= 1,
             20..=22 => self.entry ^= 1,
+            _ => self.code ^= 1,
+        }
+    }
+
+    fn refused(&self) -> Option<Refused> {
+        refused_by(self.code, self.entry)
+    }
+}
+
+/// Where a file is exported or imported, the count of bytes alone is altered.
+impl Answer for Written {
+    fn alter(&mut self) {
+        match self.code {
+            0 => self.bytes ^= 1,
+            20..=22 | 35 => self.entry ^= 1,
             _ => self.code ^= 1,
         }
     }

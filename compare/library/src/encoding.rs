@@ -93,7 +93,7 @@ fn count_frames(start: &Start, image: &[u8], tally: &mut Tally) {
 }
 
 /// A clip from start to close.
-fn encode_in(start: &Start, pieces: &[&[i16]], image: &mut [u8]) -> Result<State, Refusal> {
+pub fn encode_in(start: &Start, pieces: &[&[i16]], image: &mut [u8]) -> Result<State, Refusal> {
     let mut now = EncoderState::start(&library_start(start), image)?;
     for piece in pieces {
         now = now.feed(piece, image)?;

@@ -17,8 +17,8 @@ pub struct Tally {
     /// How often each comparison was made.
     pub compared: BTreeMap<&'static str, u64>,
     /// How often each refusal was seen, by its number.
-    pub refused: [u64; 25],
-    /// How often each comparison saw 20, 21 and 22, and whether of a later block than the first.
+    pub refused: [u64; 36],
+    /// How often each comparison saw 20, 21, 22 and 35, and whether of a later block than the first.
     pub bad_entries: BTreeMap<(&'static str, u8, bool), u64>,
     /// The frames that the Rust encoded, in the parts that count them.
     pub frames: FrameCount,
@@ -33,7 +33,7 @@ impl Tally {
             cases: 0,
             differences: 0,
             compared: BTreeMap::new(),
-            refused: [0; 25],
+            refused: [0; 36],
             bad_entries: BTreeMap::new(),
             frames: FrameCount::default(),
             wrong,
@@ -51,7 +51,7 @@ impl Tally {
         *self.compared.entry(what).or_default() += 1;
         let Refused { code, block } = right.refused().unwrap_or(Refused::by(0));
         self.refused[usize::from(code)] += 1;
-        if (20..=22).contains(&code) {
+        if matches!(code, 20..=22 | 35) {
             *self.bad_entries.entry((what, code, block > 0)).or_default() += 1;
         }
         if self.wrong.as_deref() == Some(what) {

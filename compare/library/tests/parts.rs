@@ -3,19 +3,20 @@
 use library::{FrameCount, LONG, PARTS, Part, run};
 use std::process::Command;
 
-/// The count of cases; a case of `contents` damages its image in thousands of ways, one of `loops` in hundreds, a case of `parts` has fourteen runs.
+/// The count of cases; a case of `contents` damages its image in thousands of ways, one of `loops` in hundreds, a case of `parts` has fourteen runs, one
+/// of `files` ten imports.
 fn count(part: &Part, most: u64) -> u64 {
     match part.name {
         "contents" => most / 25,
         "loops" => most / 4,
-        "parts" => most / 2,
+        "parts" | "files" => most / 2,
         _ => most,
     }
 }
 
 #[test]
 fn nothing_differs() {
-    let mut refused = [0; 25];
+    let mut refused = [0; 36];
     for part in &PARTS {
         let count = count(part, 400);
         let tally = run(part, count, 1, None);
@@ -26,7 +27,7 @@ fn nothing_differs() {
         }
     }
     let unused: Vec<_> = (0..refused.len()).filter(|code| refused[*code] == 0).collect();
-    assert_eq!(unused, [16], "{refused:?}");
+    assert_eq!(unused, [16, 27, 28, 29, 30, 31, 32, 33, 34], "{refused:?}");
 }
 
 #[test]
@@ -104,6 +105,21 @@ fn images_are_compared_with_every_answer() {
 }
 
 #[test]
+fn files_and_images_are_refused_for_every_reason() {
+    let tally = run(part("files"), 1000, 9, None);
+    let codes = [4, 5, 6, 8, 13, 14, 15, 20, 21, 22, 24, 25, 26, 35];
+    for (code, count) in tally.refused.into_iter().enumerate().skip(1) {
+        assert_eq!(count >= 50, codes.contains(&code), "{code}: {tally}");
+    }
+    let seen = tally.bad_entries;
+    for (code, later) in [20, 21, 22].map(|code| [(code, false), (code, true)]).concat() {
+        assert!(seen[&("export_dsp", code, later)] >= 20, "{seen:?}");
+    }
+    assert!(seen[&("export_dsp", 35, true)] >= 200, "{seen:?}");
+    assert!(!seen.contains_key(&("export_dsp", 35, false)));
+}
+
+#[test]
 fn frames_with_an_older_bank_are_many_and_do_not_all_end_at_exponent_12() {
     for (name, count) in [("frames", 6000), ("clips", 300)] {
         let frames = run(part(name), count, 6, None).frames;
@@ -128,6 +144,7 @@ fn the_program_says_whether_anything_differs() {
     assert_eq!(status(&["20", "3", "parts", "wrong=in two"]), Some(1));
     assert_eq!(status(&["20", "3", "loops", "wrong=play_loop's output"]), Some(1));
     assert_eq!(status(&["20", "3", "sameness", "wrong=transitive"]), Some(1));
+    assert_eq!(status(&["20", "3", "files", "wrong=import_dsp's image"]), Some(1));
     assert_eq!(status(&["20", "3", "blocks", "wrong=image"]), Some(2));
     for words in [&["20"][..], &["20", "x"], &["20", "3", "others"]] {
         assert_eq!(status(words), Some(2));

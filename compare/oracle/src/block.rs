@@ -36,6 +36,20 @@ pub fn join(
     Ok(bytes.into_owned())
 }
 
+/// Joins the bytes of blocks with these coefficients, in their order, through `extend_samples`.
+pub fn join_all<'b>(
+    bodies: impl IntoIterator<Item = &'b [u8]>,
+    coefficients: &Coefficients,
+) -> Vec<u8> {
+    let mut bytes = Cow::Owned(vec![]);
+    let mut params = Info { coefficients: *coefficients, ..Info::default() };
+    let others = params;
+    for body in bodies {
+        GcAdpcm::extend_samples(&mut bytes, &mut params, body, &others).unwrap();
+    }
+    bytes.into_owned()
+}
+
 /// The number of the sample at an address.
 pub fn address_to_sample(address: usize) -> usize {
     GcAdpcm::address_to_sample(address)

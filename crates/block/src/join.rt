@@ -15,8 +15,8 @@ pub(crate) fn shorter(room: usize, first: usize, second: usize) -> bool
     room - first < second
 }
 
-// The bytes of `source`, written to the output from `to` on.
-pub(crate) fn copy(source: &[u8], out: &mut [u8], to: usize)
+// The bytes of `source`, written to the output from `to` on. It is internal: crate dsp calls it.
+pub fn copy(source: &[u8], out: &mut [u8], to: usize)
     requires { ⌜ to + length (now source) ≤ length (now out) ⌝ }
     ensures { λ _. ⌜ now (out .exit) ≡ sets (now (out .entry)) to (now (source .entry)) ⌝ }
 {

@@ -1,7 +1,7 @@
 // Blocks of DSP ADPCM: addresses, contexts, playing bytes, joining.
 pub mod coefficients;
 mod frame;
-mod join;
+pub mod join;
 pub mod part;
 pub mod play;
 mod sample;

@@ -41,21 +41,21 @@ unfolding coefficientBytes
 coefficient-length [] = refl
 coefficient-length (x ∷ cs) = omega (arith, coefficient-length cs)
 
-pub coefficient-none : (l : List ℕ) (cs : List ℤ) → l ≡ sets l 16 (coefficientBytes (take 0 cs))
+pub coefficient-none : (l : List ℕ) (at : ℕ) (cs : List ℤ) → l ≡ sets l at (coefficientBytes (take 0 cs))
 unfolding coefficientBytes
-coefficient-none l cs = refl
+coefficient-none l at cs = refl
 
 -- a coefficient more
-pub coefficient-turn : (l₀ l out : List ℕ) (cs : List ℤ) (i r : ℕ) → i < length cs → mag (getD cs i (pos 0)) < 2 ^ 15
-    → l ≡ sets l₀ 16 (coefficientBytes (take i cs)) → r ≡ ofZ w16 (toZ w16 (ofZ w16 (getD cs i (pos 0)))) → out ≡ sets l (16 + 2 * i) (be16 r)
-    → out ≡ sets l₀ 16 (coefficientBytes (take (i + 1) cs))
-coefficient-turn l₀ l out cs i r lt hm e q eo =
-    let k : 16 + 2 * i ≡ 16 + length (coefficientBytes (take i cs)) = omega (arith, coefficient-length (take i cs), length-take-le i cs (omega arith)) in
+pub coefficient-turn : (l₀ l out : List ℕ) (at : ℕ) (cs : List ℤ) (i r : ℕ) → i < length cs → mag (getD cs i (pos 0)) < 2 ^ 15
+    → l ≡ sets l₀ at (coefficientBytes (take i cs)) → r ≡ ofZ w16 (toZ w16 (ofZ w16 (getD cs i (pos 0)))) → out ≡ sets l (at + 2 * i) (be16 r)
+    → out ≡ sets l₀ at (coefficientBytes (take (i + 1) cs))
+coefficient-turn l₀ l out at cs i r lt hm e q eo =
+    let k : at + 2 * i ≡ at + length (coefficientBytes (take i cs)) = omega (arith, coefficient-length (take i cs), length-take-le i cs (omega arith)) in
     let f : SFits w16 (getD cs i (pos 0)) = record { sfits = hm } in
     eo
-    ∙ ap₂ (λ (m : List ℕ) (z : ℕ). sets m (16 + 2 * i) (be16 z)) e (q ∙ ap (ofZ w16) (toZ-ofZ f))
-    ∙ sets-then l₀ 16 (16 + 2 * i) (coefficientBytes (take i cs)) (sample16 (getD cs i (pos 0))) k
-    ∙ ap (λ (v : List ℕ). sets l₀ 16 v)
+    ∙ ap₂ (λ (m : List ℕ) (z : ℕ). sets m (at + 2 * i) (be16 z)) e (q ∙ ap (ofZ w16) (toZ-ofZ f))
+    ∙ sets-then l₀ at (at + 2 * i) (coefficientBytes (take i cs)) (sample16 (getD cs i (pos 0))) k
+    ∙ ap (λ (v : List ℕ). sets l₀ at v)
     (sym (coefficient-snoc (take i cs) (getD cs i (pos 0))) ∙ ap coefficientBytes (sym (take-suc cs i (pos 0) lt) ∙ ap (λ (a : ℕ). take a cs) (sym (add-one i))))
 
 -- four runs one after the other

@@ -2,6 +2,8 @@
 pub mod ValidState
 pub mod FieldRuns
 pub mod Tables
+pub mod FieldsAgain
+pub mod LaidOut
 pub mod ByOutcome
 pub mod AcceptedCalls
 pub mod Storing

@@ -5,7 +5,7 @@ use mathlib.Core.List.{List, [], _∷_, _++_, append-assoc, append-nil}
 use Prim.Native.Nat.{ℕ, zero, suc, _+_, _*_, _≤_, _<_}
 use native.Mathlib.Numerals.{add-one}
 use native.Mathlib.Omega.{arith}
-use lib.ListN.{length, replicate, length-append}
+use lib.ListN.{length, length-append}
 use lib.Seq.{sets}
 use Rattle.whole.proofs.Stores.{sets-then, sets-part, sets-right-at}
 use Rattle.layout.specs.declared.Shape.{Shape}
@@ -35,29 +35,35 @@ table-snoc f s j (suc k) t e =
 abbrev pub bare : ℕ → List ℕ
 bare j = noContext
 
-pub table-none : (l : List ℕ) (s : Shape) → l ≡ sets l 56 (tableBytes bare s 0 0)
+pub table-none : (f : ℕ → List ℕ) (l : List ℕ) (s : Shape) → l ≡ sets l 56 (tableBytes f s 0 0)
 unfolding tableBytes
-table-none l s = refl
+table-none f l s = refl
 
--- an entry more
-pub table-turn : (l₀ l out : List ℕ) (s : Shape) (k o v : ℕ) → o ≡ blockOffset s k → v ≡ blockLength s k → l ≡ sets l₀ 56 (tableBytes bare s 0 k)
-    → out ≡ sets l (entryPlace k) (be32 o ++ (be32 v ++ replicate 8 0)) → out ≡ sets l₀ 56 (tableBytes bare s 0 (k + 1))
+-- an entry more, with its context
+pub table-turn : (f : ℕ → List ℕ) → ((i : ℕ) → length (f i) ≡ 6) → (l₀ l out : List ℕ) (s : Shape) (k o v : ℕ) (c : List ℕ) → o ≡ blockOffset s k → v ≡ blockLength s k → c ≡ f k
+    → l ≡ sets l₀ 56 (tableBytes f s 0 k) → out ≡ sets l (entryPlace k) (be32 o ++ (be32 v ++ (c ++ (0 ∷ 0 ∷ [])))) → out ≡ sets l₀ 56 (tableBytes f s 0 (k + 1))
 unfolding entryBytes blockOffset blockLength blockCount frameCount lastSamples
-table-turn l₀ l out s k o v eo es e d =
-    let t : List ℕ = tableBytes bare s 0 k in
-    let len : length t ≡ 16 * k = table-length bare (λ i. refl) s 0 k in
+table-turn f six l₀ l out s k o v c eo es ec e d =
+    let t : List ℕ = tableBytes f s 0 k in
+    let len : length t ≡ 16 * k = table-length f six s 0 k in
     d
-    ∙ ap (λ (m : List ℕ). sets m (entryPlace k) (be32 o ++ (be32 v ++ replicate 8 0))) e
-    ∙ ap₂ (λ (x y : ℕ). sets (sets l₀ 56 t) (entryPlace k) (be32 x ++ (be32 y ++ replicate 8 0))) eo es
-    ∙ sets-then l₀ 56 (entryPlace k) t (entryBytes s k noContext) (omega (arith, len))
-    ∙ ap (sets l₀ 56) (sym (table-snoc bare s 0 k k (omega arith)) ∙ ap (tableBytes bare s 0) (sym (add-one k)))
+    ∙ ap (λ (m : List ℕ). sets m (entryPlace k) (be32 o ++ (be32 v ++ (c ++ (0 ∷ 0 ∷ []))))) e
+    ∙ ap₂ (λ (x y : ℕ). sets (sets l₀ 56 t) (entryPlace k) (be32 x ++ (be32 y ++ (c ++ (0 ∷ 0 ∷ []))))) eo es
+    ∙ ap (λ (z : List ℕ). sets (sets l₀ 56 t) (entryPlace k) (entryBytes s k z)) ec
+    ∙ sets-then l₀ 56 (entryPlace k) t (entryBytes s k (f k)) (omega (arith, len))
+    ∙ ap (sets l₀ 56) (sym (table-snoc f s 0 k k (omega arith)) ∙ ap (tableBytes f s 0) (sym (add-one k)))
 
 -- ---- one context changed
 
-pub table-same : (f g : ℕ → List ℕ) (s : Shape) (j k : ℕ) → ((i : ℕ) → j ≤ i → f i ≡ g i) → tableBytes f s j k ≡ tableBytes g s j k
+-- tables of the same contexts
+pub table-below : (f g : ℕ → List ℕ) (s : Shape) (j k : ℕ) → ((i : ℕ) → j ≤ i → i < j + k → f i ≡ g i) → tableBytes f s j k ≡ tableBytes g s j k
 unfolding tableBytes
-table-same f g s j zero h = refl
-table-same f g s j (suc k) h = ap₂ (λ (c t : List ℕ). entryBytes s j c ++ t) (h j (omega arith)) (table-same f g s (suc j) k (λ i q. h i (omega arith)))
+table-below f g s j zero h = refl
+table-below f g s j (suc k) h =
+    ap₂ (λ (c t : List ℕ). entryBytes s j c ++ t) (h j (omega arith) (omega arith)) (table-below f g s (suc j) k (λ i p q. h i (omega arith) (omega arith)))
+
+pub table-same : (f g : ℕ → List ℕ) (s : Shape) (j k : ℕ) → ((i : ℕ) → j ≤ i → f i ≡ g i) → tableBytes f s j k ≡ tableBytes g s j k
+table-same f g s j k h = table-below f g s j k (λ i p q. h i p)
 
 -- an entry's first eight bytes
 abbrev leading : Shape → ℕ → List ℕ

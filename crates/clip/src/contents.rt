@@ -28,8 +28,8 @@ use layout::sizes::loop_count;
 use layout::sizes::shape_of;
 use whole::History;
 
-// The mark, at the image's start.
-fn put_mark(image: &mut [u8])
+// The mark, at the image's start. It is internal: crate dsp calls it.
+pub fn put_mark(image: &mut [u8])
     requires { ⌜ 4 ≤ length (now image) ⌝ }
     ensures { λ _. ⌜ now (image .exit) ≡ sets (now (image .entry)) 0 mark ⌝ }
 {
@@ -40,8 +40,8 @@ fn put_mark(image: &mut [u8])
     image[3] = m[3];
 }
 
-// A block's context: its first header byte, and the history before it.
-pub(crate) fn put_context(image: &mut [u8], at: usize, header: u16, history: History)
+// A block's context: its first header byte, and the history before it. It is internal: crate dsp calls it.
+pub fn put_context(image: &mut [u8], at: usize, header: u16, history: History)
     requires { ⌜ at + 6 ≤ length (now image) ⌝ }
     ensures { λ _. ⌜ now (image .exit) ≡ sets (now (image .entry)) at (contextBytes header history) ⌝ }
 {
@@ -50,14 +50,14 @@ pub(crate) fn put_context(image: &mut [u8], at: usize, header: u16, history: His
     put16(image, at + 4, bits16(history.older));
 }
 
-// The coefficients, two bytes each.
-pub(crate) fn put_coefficients(image: &mut [u8], coefficients: [i16; 16])
-    requires { ⌜ 48 ≤ length (now image) ⌝ }
-    ensures { λ _. ⌜ now (image .exit) ≡ sets (now (image .entry)) 16 (coefficientBytes coefficients) ⌝ }
+// The coefficients, two bytes each. It is internal: crate dsp calls it.
+pub fn put_coefficients(image: &mut [u8], at: usize, coefficients: [i16; 16])
+    requires { ⌜ at + 32 ≤ length (now image) ⌝ }
+    ensures { λ _. ⌜ now (image .exit) ≡ sets (now (image .entry)) at (coefficientBytes coefficients) ⌝ }
 {
     let mut i: usize = 0;
     while i < 16 {
-        put16(image, 16 + 2 * i, bits16(coefficients[i]));
+        put16(image, at + 2 * i, bits16(coefficients[i]));
         i += 1;
     }
 }
@@ -109,8 +109,8 @@ fn put_rest(image: &mut [u8], gain: u16, loops: u16, blocks: u32)
     put32(image, 52, blocks);
 }
 
-// The head with no mark.
-fn put_head(image: &mut [u8], g: Start, blocks: u32)
+// The head with no mark. It is internal: crate dsp calls it.
+pub fn put_head(image: &mut [u8], g: Start, blocks: u32)
     requires { ⌜ (56 ≤ length (now image)) × (blocks ≡ blockCount (startShape g)) ⌝ }
     ensures { λ _. ⌜ now (image .exit) ≡ sets (now (image .entry)) 0 (headBytes noMark g) ⌝ }
 {
@@ -118,7 +118,7 @@ fn put_head(image: &mut [u8], g: Start, blocks: u32)
     let looped = g.looped;
     zeros(image, 0, 4);
     put_numbers(image, g.total, g.rate, g.block);
-    put_coefficients(image, coefficients);
+    put_coefficients(image, 16, coefficients);
     put_rest(image, g.gain, loop_count(looped) as u16, blocks);
 }
 
@@ -139,8 +139,8 @@ pub(crate) fn put_fresh(image: &mut [u8], g: Start)
     );
 }
 
-// The entry that a loop adds.
-fn put_loop(image: &mut [u8], at: usize, looped: Loop, context: FrameContext)
+// The entry that a loop adds. It is internal: crate dsp calls it.
+pub fn put_loop(image: &mut [u8], at: usize, looped: Loop, context: FrameContext)
     requires { ⌜ at + 16 * loopCount looped ≤ length (now image) ⌝ }
     ensures { λ _. ⌜ now (image .exit) ≡ sets (now (image .entry)) at (loopBytes looped context) ⌝ }
 {

@@ -5,7 +5,7 @@ ghost use Rattle.clip.specs.Encoding.{code, outcome, left, start, feed, 
 
 mod checks;
 mod closing;
-mod contents;
+pub mod contents;
 mod feeding;
 pub mod starting;
 

@@ -15,6 +15,9 @@ use Rattle.image.specs.Opening as ImageNumbers
 use Rattle.block.specs.declared.Refusal as Block
 use Rattle.block.specs.declared.Refusal.the-variants as OfBlock
 use Rattle.block.specs.Refusals as BlockNumbers
+use Rattle.dsp.specs.declared.Refusal as Dsp
+use Rattle.dsp.specs.declared.Refusal.the-variants as OfDsp
+use Rattle.dsp.specs.Answers as DspNumbers
 use Rattle.doilycairn.specs.Codes.{RefusalNumber}
 
 pub measuring-refused : (r : Measuring.Refusal) → RefusalNumber (MeasuringNumbers.code r)
@@ -53,3 +56,15 @@ block-refused OfBlock.LengthOutOfRange = (omega arith, λ e. omega arith)
 block-refused OfBlock.LowestPair = (omega arith, λ e. omega arith)
 block-refused OfBlock.OutputTooShort = (omega arith, λ e. omega arith)
 block-refused OfBlock.CoefficientsDiffer = (omega arith, λ e. omega arith)
+
+pub dsp-refused : (r : Dsp.Refusal) → RefusalNumber (DspNumbers.code r)
+dsp-refused OfDsp.BadSampleCount = (omega arith, λ e. omega arith)
+dsp-refused OfDsp.RateZero = (omega arith, λ e. omega arith)
+dsp-refused OfDsp.BadBlockSize = (omega arith, λ e. omega arith)
+dsp-refused OfDsp.ImageTooShort = (omega arith, λ e. omega arith)
+dsp-refused OfDsp.LowestPair = (omega arith, λ e. omega arith)
+dsp-refused OfDsp.OutputTooShort = (omega arith, λ e. omega arith)
+dsp-refused OfDsp.FileTooShort = (omega arith, λ e. omega arith)
+dsp-refused OfDsp.BadField = (omega arith, λ e. omega arith)
+dsp-refused (OfDsp.OtherHistory j) = (omega arith, λ e. omega arith)
+dsp-refused (OfDsp.OfImage r) = image-refused r

@@ -26,8 +26,10 @@ use Rattle.doilycairn.specs.declared.reading.Opening.{Opening}
 use Rattle.doilycairn.specs.declared.reading.Part.{Part}
 use Rattle.doilycairn.specs.declared.reading.Turns.{Turns}
 use Rattle.doilycairn.specs.declared.writing.Frame.{Frame}
+use Rattle.doilycairn.specs.declared.files.Written.{Written}
 use Rattle.doilycairn.specs.Blocks as Blocks
 use Rattle.doilycairn.specs.Blocks.{joinedAnswer, playSeen, joinSeen}
+use Rattle.doilycairn.specs.Files.{writtenAnswer, writtenSeen}
 use Rattle.doilycairn.specs.Measuring.{processSeen, finishSeen}
 use Rattle.doilycairn.specs.Reading.{openSeen, bodyAt, handed, bodyInC, partAnswer, partSeen, turnsAnswer, turnsSeen}
 use Rattle.doilycairn.specs.Writing.{frameCode, frameSeen, clipSeen}
@@ -92,3 +94,8 @@ body-refused l k n j p r z q = rw (p, r, z, q)
 pub join-seen : (o : Outcome ℕ) (out : List ℕ) {e : Effect (Outcome ℕ) (List ℕ)} {r : Joining}
     → r ≡ joinedAnswer o → effect o out ≡ e → effect r out ≡ joinSeen e
 join-seen o out p q = ap (λ (r : Joining). effect r out) p ∙ ap joinSeen q
+
+-- ---- .dsp files
+
+pub written-seen : (o : Outcome ℕ) (l : List ℕ) {e : Effect (Outcome ℕ) (List ℕ)} {r : Written} → r ≡ writtenAnswer o → effect o l ≡ e → effect r l ≡ writtenSeen e
+written-seen o l p q = ap (λ (r : Written). effect r l) p ∙ ap writtenSeen q

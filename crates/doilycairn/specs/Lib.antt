@@ -4,4 +4,5 @@ pub mod Codes
 pub mod Measuring
 pub mod Writing
 pub mod Blocks
+pub mod Files
 pub mod Reading

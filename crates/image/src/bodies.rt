@@ -20,8 +20,8 @@ pub struct Entry {
     pub context: FrameContext,
 }
 
-// The context of entry k: a block's, or after those the loop's.
-pub(crate) fn read_context(image: &[u8], k: usize) -> FrameContext
+// The context of entry k: a block's, or after those the loop's. It is internal: crate dsp calls it.
+pub fn read_context(image: &[u8], k: usize) -> FrameContext
     requires { ⌜ (k ≤ 1048576) × (entryPlace k + 16 ≤ length (now image)) ⌝ }
     ensures { λ r. ⌜ r ≡ contextIn (now (image .entry)) k ⌝ }
 {
@@ -55,8 +55,8 @@ pub fn read_entry(image: &[u8], k: usize) -> Entry
     }
 }
 
-// The bytes from an offset on that hold so many nibbles.
-pub(crate) fn find_body<'a>(image: &'a [u8], offset: usize, nibbles: usize) -> &'a [u8]
+// The bytes from an offset on that hold so many nibbles. It is internal: crate dsp calls it.
+pub fn find_body<'a>(image: &'a [u8], offset: usize, nibbles: usize) -> &'a [u8]
     requires { ⌜ offset + (nibbles + 1) / 2 ≤ length (now image) ⌝ }
     ensures { λ r. ⌜ now r ≡ take ((nibbles + 1) / 2) (drop offset (now (image .entry))) ⌝ }
     ensures { λ r. ⌜ r .ptr ≡ (image .entry .ptr .0, image .entry .ptr .1 + offset) ⌝ }

@@ -46,8 +46,8 @@ pub(crate) fn room_answer(coefficients: [i16; 16], samples: u64, room: usize) ->
     Answer::Accepted
 }
 
-// Codes 15, 20, 21, 22, 24 and 13.
-fn compare_answer(image: &[u8]) -> Answer
+// Codes 15, 20, 21, 22, 24 and 13. It is internal: crate dsp calls it.
+pub fn compare_answer(image: &[u8]) -> Answer
     ensures { λ r. ⌜ outcome r ≡ compareAnswer (now (image .entry)) ⌝ }
 {
     let answer = open_answer(image);

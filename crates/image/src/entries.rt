@@ -15,8 +15,8 @@ use layout::sizes::block_length;
 use layout::sizes::bodies_place;
 use layout::sizes::entry_place;
 
-// The number that a byte is.
-pub(crate) fn byte(x: u8) -> u32
+// The number that a byte is. It is internal: crate dsp calls it.
+pub fn byte(x: u8) -> u32
     ensures { λ r. ⌜ r ≡ x ⌝ }
 {
     x as u32

@@ -70,32 +70,32 @@ pub(crate) fn head_ok(image: &[u8]) -> bool
     numbers_fit(total, rate, block, blocks, loops, image.len())
 }
 
-// The shape that N, B and the number of loops say.
-pub(crate) fn read_shape(image: &[u8]) -> Shape
+// The shape that N, B and the number of loops say. It is internal: crate dsp calls it.
+pub fn read_shape(image: &[u8]) -> Shape
     requires { ⌜ 56 ≤ length (now image) ⌝ }
     ensures { λ r. ⌜ r ≡ shapeIn (now (image .entry)) ⌝ }
 {
     shape_of(get32(image, 4), get32(image, 12), get16(image, 50))
 }
 
-// The number of 16 bits that two bytes are.
-pub(crate) fn word_at(image: &[u8], at: usize) -> u16
+// The number of 16 bits that two bytes are. It is internal: crate dsp calls it.
+pub fn word_at(image: &[u8], at: usize) -> u16
     requires { ⌜ at + 2 ≤ length (now image) ⌝ }
     ensures { λ r. ⌜ r ≡ at16 (now (image .entry)) at ⌝ }
 {
     get16(image, at) as u16
 }
 
-// The signed number that two bytes are.
-pub(crate) fn signed_at(image: &[u8], at: usize) -> i16
+// The signed number that two bytes are. It is internal: crate dsp calls it.
+pub fn signed_at(image: &[u8], at: usize) -> i16
     requires { ⌜ at + 2 ≤ length (now image) ⌝ }
     ensures { λ r. ⌜ r ≡ signedAt (now (image .entry)) at ⌝ }
 {
     signed16(word_at(image, at))
 }
 
-// The sixteen coefficients.
-pub(crate) fn read_coefficients(image: &[u8]) -> [i16; 16]
+// The sixteen coefficients. It is internal: crate dsp calls it.
+pub fn read_coefficients(image: &[u8]) -> [i16; 16]
     requires { ⌜ 56 ≤ length (now image) ⌝ }
     ensures { λ r. ⌜ r ≡ coefficientsIn (now (image .entry)) ⌝ }
 {

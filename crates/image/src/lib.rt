@@ -12,11 +12,11 @@ ghost use Rattle.image.specs.WholeImage.{playAll};
 
 mod agreeing;
 pub mod bodies;
-mod checks;
+pub mod checks;
 mod comparing;
-mod entries;
-mod heading;
-mod loops;
+pub mod entries;
+pub mod heading;
+pub mod loops;
 mod playing;
 mod running;
 

@@ -31,8 +31,8 @@ use layout::sizes::entry_place;
 use whole::BYTES_PER_FRAME;
 use whole::SAMPLES_PER_FRAME;
 
-// No loop.
-pub(crate) fn no_loop() -> Loop
+// No loop. It is internal: crate dsp calls it.
+pub fn no_loop() -> Loop
     ensures { λ r. ⌜ r ≡ noLoop ⌝ }
 {
     Loop {
@@ -42,8 +42,8 @@ pub(crate) fn no_loop() -> Loop
     }
 }
 
-// The loop that the entry after the blocks' says, or none.
-pub(crate) fn read_loop(image: &[u8]) -> Loop
+// The loop that the entry after the blocks' says, or none. It is internal: crate dsp calls it.
+pub fn read_loop(image: &[u8]) -> Loop
     requires { ⌜ Headed (now image) ⌝ }
     ensures { λ r. ⌜ r ≡ loopIn (now (image .entry)) ⌝ }
 {
@@ -60,8 +60,8 @@ pub(crate) fn read_loop(image: &[u8]) -> Loop
     }
 }
 
-// The context at the loop's start, as it is stored; zeros without a loop.
-pub(crate) fn loop_context(image: &[u8], looped: Loop) -> FrameContext
+// The context at the loop's start, as it is stored; zeros without a loop. It is internal: crate dsp calls it.
+pub fn loop_context(image: &[u8], looped: Loop) -> FrameContext
     requires { ⌜ Headed (now image) × (looped ≡ loopIn (now image)) ⌝ }
     ensures { λ r. ⌜ r ≡ loopContextIn (now (image .entry)) ⌝ }
 {

@@ -41,6 +41,7 @@ use Rattle.round_trip.specs.ClosedClip.{storedContext, ClosedClip, seen,
 use Rattle.round_trip.proofs.ImageOpens.{total-is, rate-is, block-is, gain-is, blocks-are, coefficients-are, image-opens}
 use Rattle.round_trip.proofs.ImagePlayed.{all-heard, pairs-heard, block-plays, all-plays, part-plays, header-heard}
 use Rattle.round_trip.proofs.SameAgain.{same-again}
+use Rattle.round_trip.proofs.FileOfX.{exports, returns}
 use Rattle.round_trip.proofs.LoopOfX.{loop-plays, none-plays, edge-context, loop-told, context-told}
 use Rattle.round_trip.proofs.Pieces.{coefficients-length, coefficients-sampled, measured-answers, last-answer, encoded-after, encoded-answers}
 
@@ -93,13 +94,15 @@ module _ (g : Start) (F : Fine g) (xs : List ℤ) (l : List ℕ) (A : Audible g 
         loop-edge = rw e (edge-context g F xs rest A);
         pairs = rw e (pairs-heard g F xs rest A);
         same-again = rw e (same-again g F xs rest A);
+        exports = rw e (exports g F xs rest A);
+        returns = rw e (returns g F xs rest A);
         near = rw e near;
       }
 
 -- The theorem on closed images. From an accepted start, with any coefficients of 16 bits that starting accepts, with a loop or without, take any list of
 -- feedings and closings on its buffer, refused ones included, after which the clip is closed. Then the image is that of the samples accepted; it opens and
--- tells its loop; its blocks play from their entries, exactly as many samples as were accepted, each within its distance of the original; and its loop
--- plays as many times over as asked.
+-- tells its loop; its blocks play from their entries, exactly as many samples as were accepted, each within its distance of the original; its loop
+-- plays as many times over as asked; and the file that it is exported to, imported at its own block size, is the image again.
 pub closed-image : (g : Start) (l : List ℕ) → length (g .coefficients) ≡ 16 → Sampled (g .coefficients) → FitHistory (g .history) → start g l .outcome ≡ accepted tt → (ks : List Call)
     → (let m = plainAfter (cut g) (plain [] false) ks in m .closed ≡ true → Sampled (m .samples) → ClosedClip (cut g) (m .samples) l (after (start g l .left) ks))
 closed-image g l sixteen cf hf ok ks closed fits =

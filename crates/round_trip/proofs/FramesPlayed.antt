@@ -86,7 +86,7 @@ module _ (g : Start) (xs : List ℤ) where
   alone A i m l = frame-replayed (historyAt g xs i) (frameAt xs i) (g .coefficients) (A .bounded) (history-sampled g xs A i) (frame-sampled g xs A i) m l
 
   -- the history after a whole frame is that before the next
-  next-history : (i : ℕ) → historyAfter (historyAt g xs i) (encodedAt g xs i .samples) 14 ≡ historyAt g xs (suc i)
+  pub next-history : (i : ℕ) → historyAfter (historyAt g xs i) (encodedAt g xs i .samples) 14 ≡ historyAt g xs (suc i)
   unfolding historyAt encodedAt
   next-history i = refl
 

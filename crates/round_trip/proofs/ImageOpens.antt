@@ -1,12 +1,11 @@
 -- The closed image of X opens, and says what it was started with.
-use mathlib.Core.Path.{_≡_, refl, sym, ap, ap₂, _∙_, subst}
+use mathlib.Core.Path.{_≡_, refl, sym, ap, ap₂, _∙_}
 use mathlib.Core.Bool.{Bool, true, false, cond}
-use mathlib.Core.List.{List, [], _∷_, _++_}
-use Prim.Native.Nat.{ℕ, zero, suc, _+_, _-_, _*_, _/_, _%_, _≤_, _<_}
+use mathlib.Core.List.{List, _++_}
+use Prim.Native.Nat.{ℕ, _+_, _-_, _*_, _/_, _%_, _≤_, _<_}
 use native.Mathlib.Omega.{arith}
-use lib.IntN.{ℤ, pos}
-use lib.ListN.{length, getD, take, length-append}
-use lib.Seq.{take-suc, take-all}
+use lib.IntN.{ℤ}
+use lib.ListN.{length, getD, length-append}
 use mir.Syntax.{w16}
 use mir.Val.{ofZ, toZ}
 use mir.ValLaws.{toZ-ofZ}
@@ -22,13 +21,15 @@ use Rattle.clip.specs.declared.starting.Start.{Start}
 use Rattle.clip.specs.Runs.{historyAt, encodedAt, loopContextAt, loopEntry}
 use Rattle.layout.proofs.LimitLaws.{loop-few, loop-right}
 use Rattle.layout.proofs.SizeLaws.{block-first, block-place}
+use Rattle.clip.proofs.LaidOut as laid
 use Rattle.clip.proofs.ImageByFrames.{Fine, listed, filled, built, built-length, entry-last}
+use Rattle.dsp.proofs.FieldsAgain.{sample-back, coefficients-back}
 use Rattle.round_trip.proofs.FieldsReadBack as read
 use Rattle.round_trip.proofs.BlocksOfX.{block-parts, frame-place, frame-of}
 use Rattle.round_trip.specs.Job.{Sampled}
 use Rattle.round_trip.proofs.FramesPlayed.{Audible, contextBefore, contextWithin, history-sampled, within-sampled}
 use Rattle.whole.specs.Outcome.{accepted}
-use Rattle.image.specs.Reading.{shapeIn, totalIn, rateIn, blockIn, gainIn, loopsIn, blocksIn, signedAt, coefficientsUpTo, coefficientsIn, offsetIn, lengthIn, headerIn, newestIn, olderIn, entryZeroIn, contextIn, loopIn, loopContextIn}
+use Rattle.image.specs.Reading.{shapeIn, totalIn, rateIn, blockIn, gainIn, loopsIn, blocksIn, signedAt, coefficientsIn, offsetIn, lengthIn, headerIn, newestIn, olderIn, entryZeroIn, contextIn, loopIn, loopContextIn}
 use Rattle.image.specs.Opening.{EntryFits, markOk, loopFits, openAnswer}
 use Rattle.image.specs.inner.Asked.{Headed, Opens}
 use Rattle.image.proofs.LawsLoop.{loop-stored, fits-right, fits-zero}
@@ -51,46 +52,35 @@ module _ (g : Start) (F : Fine g) (xs : List ℤ) (rest : List ℕ) where
 
   pub total-is : totalIn image ≡ g .total
   unfolding totalIn
-  total-is = ap (λ (l : List ℕ). at32 l 4) parts ∙ read.head-total g tail (F .sixteen)
+  total-is = ap (λ (l : List ℕ). at32 l 4) parts ∙ laid.head-total g tail (F .sixteen)
 
   pub rate-is : rateIn image ≡ g .rate
   unfolding rateIn
-  rate-is = ap (λ (l : List ℕ). at32 l 8) parts ∙ read.head-rate g tail (F .sixteen)
+  rate-is = ap (λ (l : List ℕ). at32 l 8) parts ∙ laid.head-rate g tail (F .sixteen)
 
   pub block-is : blockIn image ≡ g .block
   unfolding blockIn
-  block-is = ap (λ (l : List ℕ). at32 l 12) parts ∙ read.head-block g tail (F .sixteen)
+  block-is = ap (λ (l : List ℕ). at32 l 12) parts ∙ laid.head-block g tail (F .sixteen)
 
   pub gain-is : gainIn image ≡ g .gain
   unfolding gainIn
-  gain-is = ap (λ (l : List ℕ). at16 l 48) parts ∙ read.head-gain g tail (F .sixteen)
+  gain-is = ap (λ (l : List ℕ). at16 l 48) parts ∙ laid.head-gain g tail (F .sixteen)
 
   pub loops-are : loopsIn image ≡ loopCount (g .looped)
   unfolding loopsIn
-  loops-are = ap (λ (l : List ℕ). at16 l 50) parts ∙ read.head-loops g tail (F .sixteen)
+  loops-are = ap (λ (l : List ℕ). at16 l 50) parts ∙ laid.head-loops g tail (F .sixteen)
 
   pub blocks-are : blocksIn image ≡ blockCount (startShape g)
   unfolding blocksIn
-  blocks-are = ap (λ (l : List ℕ). at32 l 52) parts ∙ read.head-blocks g tail (F .sixteen)
+  blocks-are = ap (λ (l : List ℕ). at32 l 52) parts ∙ laid.head-blocks g tail (F .sixteen)
 
   marked : markOk image ≡ true
   unfolding markOk headBytes coefficientBytes blockCount frameCount
   marked = ap markOk parts
 
   -- coefficients of 16 bits are read back
-  coefficients-upto : Sampled (g .coefficients) → (k : ℕ) → k ≤ 16 → coefficientsUpTo image k ≡ take k (g .coefficients)
-  unfolding coefficientsUpTo signedAt
-  coefficients-upto fit zero h = refl
-  coefficients-upto fit (suc k) h =
-      let cs = g .coefficients in
-      let x = getD cs k (pos 0) in
-      let e : at16 image (16 + 2 * k) ≡ ofZ w16 x = ap (λ (l : List ℕ). at16 l (16 + 2 * k)) parts ∙ read.head-coefficient g tail (F .sixteen) k (omega arith) in
-      ap₂ (λ (l : List ℤ) (z : ℤ). l ++ (z ∷ [])) (coefficients-upto fit k (omega arith)) (ap (toZ w16) e ∙ toZ-ofZ w16 x (fit k))
-      ∙ sym (take-suc cs k (pos 0) (omega (arith, F .sixteen)))
-
   pub coefficients-are : Sampled (g .coefficients) → coefficientsIn image ≡ g .coefficients
-  unfolding coefficientsIn
-  coefficients-are fit = coefficients-upto fit 16 (omega arith) ∙ take-all 16 (g .coefficients) (omega (arith, F .sixteen))
+  coefficients-are = coefficients-back image (g .coefficients) (F .sixteen) (λ i h. ap (λ (l : List ℕ). at16 l (16 + 2 * i)) parts ∙ laid.head-coefficient g tail (F .sixteen) i h)
 
   -- ---- head and entries
 
@@ -142,12 +132,12 @@ module _ (g : Start) (F : Fine g) (xs : List ℤ) (rest : List ℕ) where
 
     -- its context is that which its first frame is played from
     pub context-is : Audible g xs → contextIn image j ≡ contextBefore g xs (j * (g .block / 8))
-    unfolding contextIn newestIn olderIn signedAt
+    unfolding contextIn newestIn olderIn
     context-is A =
         let h = historyAt g xs (j * (g .block / 8)) in
         let f = history-sampled g xs A (j * (g .block / 8)) in
-        let n = ap (toZ w16) (read.entry-newest g F xs (frameCount (g .total)) rest j few first-frame) ∙ toZ-ofZ w16 (h .newest) (f .newest-fits) in
-        let o = ap (toZ w16) (read.entry-older g F xs (frameCount (g .total)) rest j few first-frame) ∙ toZ-ofZ w16 (h .older) (f .older-fits) in
+        let n = sample-back image (entryPlace j + 10) (h .newest) (read.entry-newest g F xs (frameCount (g .total)) rest j few first-frame) (f .newest-fits) in
+        let o = sample-back image (entryPlace j + 12) (h .older) (read.entry-older g F xs (frameCount (g .total)) rest j few first-frame) (f .older-fits) in
         rw (header-is, n, o)
 
   -- ---- the loop
@@ -182,7 +172,7 @@ module _ (g : Start) (F : Fine g) (xs : List ℤ) (rest : List ℕ) where
     start-frame = let r = rule in let a = r .0 in let b = r .1 in frame-of (g .total) start (omega arith)
 
     -- its frame is encoded
-    known : loopContextAt g xs (frameCount (g .total)) ≡ contextWithin g xs (start / 14) (start % 14)
+    pub known : loopContextAt g xs (frameCount (g .total)) ≡ contextWithin g xs (start / 14) (start % 14)
     unfolding loopContextAt
     known = rw (here, lt-ltb (start / 14) (frameCount (g .total)) start-frame)
 

@@ -6,8 +6,9 @@ use Prim.Native.Nat.{ℕ, zero, suc, _+_, _-_, _*_, _/_, _≤_, _<_, min}
 use native.Mathlib.Omega.{arith}
 use lib.IntN.{ℤ}
 use lib.ListN.{length, getD, take, drop}
+use Rattle.block.specs.declared.FrameContext.{FrameContext}
 use Rattle.block.specs.Address.{addressToSample}
-use Rattle.block.specs.Frame.{Playing}
+use Rattle.block.specs.Frame.{Playing, playing}
 use Rattle.block.specs.Play as Block
 use Rattle.block.specs.Refusals.{lowestPair}
 use Rattle.layout.specs.Sizes.{bodiesPlace, blockCount, blockLength}
@@ -18,8 +19,8 @@ use Rattle.clip.specs.declared.starting.Start.{Start}
 use Rattle.clip.specs.Runs.{encodedAt}
 use Rattle.clip.proofs.ImageByFrames.{Fine}
 use Rattle.round_trip.proofs.FieldsReadBack as read
-use Rattle.round_trip.proofs.FramesPlayed.{Audible}
-use Rattle.round_trip.proofs.BlocksOfX.{blockSound, blocksSound, soundOf, block-played, all-blocks, frame-place}
+use Rattle.round_trip.proofs.FramesPlayed.{Audible, contextWithin}
+use Rattle.round_trip.proofs.BlocksOfX.{wholes, ending, blockSound, blocksSound, soundOf, block-played, all-blocks, frame-place}
 use Rattle.whole.specs.Outcome.{Outcome, accepted, Effect}
 use Rattle.image.specs.Reading.{coefficientsIn, offsetIn, lengthIn, contextIn}
 use Rattle.image.specs.Bodies.{bodyIn}
@@ -42,17 +43,23 @@ module _ (g : Start) (F : Fine g) (xs : List ℤ) (rest : List ℕ) (A : Audible
   abbrev l : List ℕ
   l = image g F xs rest
 
-  pub block-heard : (j : ℕ) → j < blockCount (startShape g) → blockSamples l j ≡ blockSound g xs j
-  unfolding blockSamples bodyIn
-  block-heard j few =
+  -- what playing block j from its entry leaves
+  pub entry-played : (j : ℕ) → j < blockCount (startShape g)
+      → Block.play (bodyIn l j) (coefficientsIn l) (lengthIn l j) (contextIn l j)
+      ≡ playing (contextWithin g xs (j * (g .block / 8) + wholes (g .total) (g .block) j) (ending (g .total) (g .block) j)) (blockSound g xs j)
+  unfolding bodyIn
+  entry-played j few =
       let e = entry-made g F xs rest j few in
       let bytes = take ((lengthIn l j + 1) / 2) (drop (offsetIn l j) l) in
       let at : (i : ℕ) → i < (blockLength (startShape g) j + 1) / 2 → getD bytes i 0
       ≡ getD l (offsetIn l j + i) 0 = λ i h. part-at l (offsetIn l j) ((lengthIn l j + 1) / 2) i (omega (arith, e .nibbles)) in
-      let p = block-played g F xs rest j few bytes (λ i h. at i h ∙ ap (λ (o : ℕ). getD l (o + i) 0) (e .offset)) A in
-      ap₂ (λ (cs : List ℤ) (n : ℕ). Block.play bytes cs n (contextIn l j) .samples) (coefficients-are g F xs rest (A .coefficients)) (e .nibbles)
-      ∙ ap (λ (c : _). Block.play bytes (g .coefficients) (blockLength (startShape g) j) c .samples) (context-is g F xs rest j few A)
-      ∙ ap (λ (q : Playing). q .samples) p
+      ap₂ (λ (cs : List ℤ) (n : ℕ). Block.play bytes cs n (contextIn l j)) (coefficients-are g F xs rest (A .coefficients)) (e .nibbles)
+      ∙ ap (λ (c : FrameContext). Block.play bytes (g .coefficients) (blockLength (startShape g) j) c) (context-is g F xs rest j few A)
+      ∙ block-played g F xs rest j few bytes (λ i h. at i h ∙ ap (λ (o : ℕ). getD l (o + i) 0) (e .offset)) A
+
+  pub block-heard : (j : ℕ) → j < blockCount (startShape g) → blockSamples l j ≡ blockSound g xs j
+  unfolding blockSamples
+  block-heard j few = ap (λ (p : Playing). p .samples) (entry-played j few)
 
   blocks-heard : (k : ℕ) → k ≤ blockCount (startShape g) → samplesFrom l 0 k ≡ blocksSound g xs k
   unfolding blocksSound samplesFrom

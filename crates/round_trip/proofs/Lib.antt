@@ -9,6 +9,7 @@ pub mod ImageOpens
 pub mod ImagePlayed
 pub mod SameAgain
 pub mod LoopOfX
+pub mod FileOfX
 pub mod Pieces
 pub mod ClipTheorem
 pub mod AnyCalls

@@ -191,7 +191,8 @@ module _ (g : Start) (F : Fine g) (xs : List ℤ) (rest : List ℕ) (A : Audible
         ∙ ap (contextWith (getD (encodedAt g xs (start / per * (b / 8)) .bytes) 0 0)) (history-start (historyAt g xs (start / per * (b / 8))) (encodedAt g xs (start / per * (b / 8)) .samples))
         ∙ sym (context-is g F xs rest (start / per) few A)
 
-  no-context : loopIn l .present ≡ false → loopContextIn l ≡ newContext
+  -- without a loop the stored context is zeros
+  pub no-context : loopIn l .present ≡ false → loopContextIn l ≡ newContext
   unfolding loopContextIn
   no-context e = rw e
 

@@ -28,7 +28,8 @@ module _ (g : Start) (F : Fine g) (xs : List ℤ) (rest : List ℕ) (A : Audible
   abbrev image : List ℕ
   image = bytes ++ rest
 
-  compared : compareAnswer image ≡ accepted tt
+  -- it may be compared
+  pub compared : compareAnswer image ≡ accepted tt
   compared = compare-accepts image (record { opens = image-made g F xs rest; pairs = pairs-heard g F xs rest A })
 
   size-is : imageSize (shapeIn image) ≡ length bytes

@@ -30,6 +30,9 @@ use Rattle.image.specs.Part.{samplesPerBlock, touched, playFrom}
 use Rattle.image.specs.Playing.{play}
 use Rattle.image.specs.Sameness.{blockSamples, samplesIn, same}
 use Rattle.image.specs.WholeImage.{playAll}
+use Rattle.dsp.specs.File.{fileBytes}
+use Rattle.dsp.specs.Export.{exportImage}
+use Rattle.dsp.specs.Import.{importFile}
 use Rattle.round_trip.specs.Job.{Sampled, joined, measuringCalls, encodingCalls, lastCoefficients, encodingAnswers}
 
 -- "the two samples played before the start, newest first (from the starting history where too few)": before sample s of ys, after h
@@ -83,6 +86,11 @@ pub record ClosedClip (g : Start) (xs : List ℤ) (l : List ℕ) (closed : Left)
       → (let s = g .looped .start in let p = samplesPerBlock (g .block) in s % p ≡ 0 → storedContext g (closed .bytes) ≡ contextIn (closed .bytes) (s / p))
   -- any image of the same start and the same samples is the same, whatever stands behind it
   pub same-again : (rest : List ℕ) → same (closed .bytes) (imageAfter g xs true ++ rest) ≡ accepted true
+  -- export accepts it where there is room
+  pub exports : (out : List ℕ) → fileBytes (g .total) ≤ length out → exportImage (closed .bytes) out .outcome ≡ accepted (fileBytes (g .total))
+  -- "exported and imported at its own block size, returns byte for byte": what export leaves, with whatever stands behind the file
+  pub returns : (out into : List ℕ) → fileBytes (g .total) ≤ length out → imageSize (startShape g) ≤ length into
+      → importFile (exportImage (closed .bytes) out .left) (g .block) into ≡ effect (accepted (imageSize (startShape g))) (imageAfter g xs true ++ drop (imageSize (startShape g)) into)
   -- each sample in a frame of exponent p below 12 is within ⌊(3 × 2^p + 1) / 2⌋ of its original; "p is its frame's header & 15"
   pub near : (i : ℕ) → i < length xs
       → (let p = getD (closed .bytes) (framePlace (startShape g) (i / 14)) 0 % 16 in

@@ -1,4 +1,4 @@
-//! The eight calls that test a table name the same entry, and beside it an answer is as a refused one; beside every other code there is no entry.
+//! The nine calls that test a table name the same entry, and beside it an answer is as a refused one; beside every other code there is no entry.
 
 use super::*;
 
@@ -93,6 +93,17 @@ fn turns_say(image: &[u8], times: u32, room: usize) -> Verdict {
     (code, entry)
 }
 
+/// What exporting with this room says: a refused call writes nothing.
+fn export_says(image: &[u8], room: usize) -> Verdict {
+    let mut out = vec![0x5a; room];
+    let Written { code, entry, bytes } = export_dsp(image, &mut out);
+    if code != 0 {
+        assert_eq!(bytes, 0);
+        assert!(out.iter().all(|byte| *byte == 0x5a));
+    }
+    (code, entry)
+}
+
 /// What comparing says, and comparing the sound too: they are refused alike.
 fn comparison_says(first: &[u8], second: &[u8]) -> Verdict {
     let [verdict, by_sound] = [same(first, second), sounds_same(first, second)].map(|comparison| {
@@ -123,6 +134,7 @@ fn verdict(damaged: &[u8], whole: &[u8]) -> Verdict {
         for times in [0, 1, u32::MAX] {
             assert_eq!(turns_say(damaged, times, room), verdict);
         }
+        assert_eq!(export_says(damaged, 2 * room), verdict);
     }
     assert_eq!(comparison_says(damaged, whole), verdict);
     assert_eq!(comparison_says(whole, damaged), verdict);
@@ -207,6 +219,7 @@ fn beside_an_accepted_call_there_is_none() {
     assert_eq!(playback_says(15, |out| play_all(&whole, out)), (0, 0));
     assert_eq!(part_says(&whole, 13, 9), (0, 0));
     assert_eq!(comparison_says(&whole, &whole), (0, 0));
+    assert_eq!(export_says(&whole, 106), (0, 0));
     let (coefficients, context) = (Coefficients([0; 16]), FrameContext::default());
     let bytes = |out: &mut [i16]| play_bytes(&[0; 8], 16, &coefficients, context, out);
     assert_eq!(playback_says(14, bytes), (0, 0));
@@ -221,6 +234,7 @@ fn beside_13_there_is_none() {
     assert_eq!(playback_says(15, |out| play_all(&lowest, out)), (13, 0));
     assert_eq!(part_says(&lowest, 13, 9), (13, 0));
     assert_eq!(turns_say(&lowest, 0, 9), (13, 0));
+    assert_eq!(export_says(&lowest, 0), (13, 0));
     assert_eq!(comparison_says(&lowest, &altered(&whole, &[79])), (13, 0));
     assert_eq!(comparison_says(&altered(&whole, &[79]), &lowest), (21, 1));
     assert_eq!(comparison_says(&whole, &lowest), (13, 0));
@@ -264,4 +278,24 @@ fn playing_the_loop_tests_in_sequence() {
         let last = if times == 0 { (0, 0) } else { (14, 0) };
         assert_eq!(verdicts, [(15, 0), (20, 0), (21, 1), (22, 1), (24, 0), (13, 0), last]);
     }
+}
+
+/// Everything wrong at once, and mended in turn: the head, entries, a body, the loop, the lowest pair, a history, the room.
+#[test]
+fn exporting_tests_in_sequence() {
+    let whole = looped_silence();
+    let mut image = altered(&whole, &[55, 59, 79, 112, 103, 83]);
+    image[16..20].copy_from_slice(&[0x80, 0, 0x80, 0]);
+    let mut verdicts = vec![];
+    for place in [55, 59, 79, 112, 103] {
+        verdicts.push(export_says(&image, 0));
+        image[place] ^= 1;
+    }
+    verdicts.push(export_says(&image, 0));
+    image[16..20].copy_from_slice(&whole[16..20]);
+    verdicts.push(export_says(&image, 0));
+    image[83] ^= 1;
+    verdicts.extend([0, 105, 106].map(|room| export_says(&image, room)));
+    assert_eq!(verdicts[..5], [(15, 0), (20, 0), (21, 1), (22, 1), (24, 0)]);
+    assert_eq!(verdicts[5..], [(13, 0), (35, 1), (14, 0), (14, 0), (0, 0)]);
 }

@@ -12,6 +12,7 @@ static void codes(void) {
     NUMBER(PIECE_TOO_LONG), NUMBER(UNFINISHED), NUMBER(LENGTH_OUT_OF_RANGE), NUMBER(LOWEST_PAIR), NUMBER(OUTPUT_TOO_SHORT);
     NUMBER(BAD_HEAD), NUMBER(NO_SUCH_BLOCK), NUMBER(COEFFICIENTS_DIFFER), NUMBER(NO_SUCH_SAMPLE);
     NUMBER(BAD_OFFSET), NUMBER(BAD_LENGTH), NUMBER(BAD_HEADER), NUMBER(LOOP_OUTSIDE), NUMBER(BAD_LOOP);
+    NUMBER(FILE_TOO_SHORT), NUMBER(BAD_FIELD), NUMBER(OTHER_HISTORY);
 }
 
 int main(void) {
@@ -35,6 +36,7 @@ int main(void) {
     SIZE(part), FIELD(part, code), FIELD(part, entry), FIELD(part, samples), FIELD(part, blocks);
     SIZE(turns), FIELD(turns, code), FIELD(turns, entry), FIELD(turns, samples);
     SIZE(comparison), FIELD(comparison, code), FIELD(comparison, entry), FIELD(comparison, same);
+    SIZE(written), FIELD(written, code), FIELD(written, entry), FIELD(written, bytes);
     SIZE(joining), FIELD(joining, code), FIELD(joining, nibbles);
     NUMBER(VERSION_MAJOR), NUMBER(VERSION_MINOR), NUMBER(VERSION_PATCH);
     NUMBER(MAX_PAIR_SUM), NUMBER(MAX_SAMPLES), NUMBER(MIN_BLOCK_SIZE), NUMBER(MAX_BLOCK_SIZE);

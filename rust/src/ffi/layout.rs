@@ -60,6 +60,7 @@ fn rust_layouts() -> String {
     layout!(text, "part", Part, code, entry, samples, blocks);
     layout!(text, "turns", Turns, code, entry, samples);
     layout!(text, "comparison", Comparison, code, entry, same);
+    layout!(text, "written", Written, code, entry, bytes);
     layout!(text, "joining", Joining, code, nibbles);
     text
 }

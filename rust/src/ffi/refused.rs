@@ -107,8 +107,21 @@ fn reading_gives_zeros() {
     assert_eq!((part.code, part.entry, part.samples, part.blocks), (19, 0, 0, 0));
     let turns = play_loop(&[], 3, &mut [0; 9]);
     assert_eq!((turns.code, turns.entry, turns.samples), (15, 0, 0));
+    let written = export_dsp(&image, &mut [0; 107]);
+    assert_eq!((written.code, written.entry, written.bytes), (14, 0, 0));
     for comparison in [same(&image, &[]), sounds_same(&image, &[])] {
         assert_eq!((comparison.code, comparison.entry, comparison.same), (15, 0, false));
+    }
+}
+
+#[test]
+fn importing_gives_no_bytes() {
+    let mut file = [0; 98];
+    file[3] = 1; // one sample, at rate 0
+    for (code, file) in [(25, &file[..97]), (4, &[0; 96]), (5, &file)] {
+        for written in [dsp_image_size(file, 8), import_dsp(file, 8, &mut [0; 74])] {
+            assert_eq!((written.code, written.entry, written.bytes), (code, 0, 0));
+        }
     }
 }
 

@@ -14,7 +14,7 @@ fn each_number_gives_its_refusal_and_no_other_does() {
         let listed = Refusal::NUMBERS.contains(&number).then_some(number);
         assert_eq!(Refusal::from_number(number, 7).map(Refusal::number), listed);
     }
-    for unused in [0, 16, 25, u32::MAX] {
+    for unused in [0, 16, 27, 34, 36, u32::MAX] {
         assert_eq!(Refusal::from_number(unused, 0), None);
     }
 }
@@ -28,9 +28,9 @@ fn numbers_rise_as_refusals_do() {
 }
 
 #[test]
-fn the_block_counts_with_20_21_and_22_alone() {
+fn the_block_counts_with_20_21_22_and_35_alone() {
     for (refusal, other) in all(7).into_iter().zip(all(u32::MAX)) {
-        let names_block = (20..=22).contains(&refusal.number());
+        let names_block = [20, 21, 22, 35].contains(&refusal.number());
         assert_eq!(refusal.block(), names_block.then_some(7));
         assert_eq!(other.block(), names_block.then_some(u32::MAX));
         assert_eq!(refusal == other, !names_block);
@@ -47,6 +47,9 @@ fn a_code_and_an_entry_are_checked() {
     assert_eq!(Refusal::check(22, 1_048_575), Err(Refusal::BadHeader { block: 1_048_575 }));
     assert_eq!(Refusal::check(23, 0), Err(Refusal::LoopOutside));
     assert_eq!(Refusal::check(24, 0), Err(Refusal::BadLoop));
+    assert_eq!(Refusal::check(25, 0), Err(Refusal::FileTooShort));
+    assert_eq!(Refusal::check(26, 0), Err(Refusal::BadField));
+    assert_eq!(Refusal::check(35, 7), Err(Refusal::OtherHistory { block: 7 }));
 }
 
 #[test]
@@ -83,6 +86,18 @@ fn words_name_the_number_and_the_block() {
         (
             Refusal::BadLoop,
             "the loop's entry is wrong: its start or end, its header or its zero bytes (refusal 24)",
+        ),
+        (
+            Refusal::FileTooShort,
+            "the .dsp file lacks bytes of its header or of its samples (refusal 25)",
+        ),
+        (
+            Refusal::BadField,
+            "a field of the .dsp file's header is not as it should be (refusal 26)",
+        ),
+        (
+            Refusal::OtherHistory { block: 3 },
+            "block 3: it does not begin from what the block before it leaves, which a .dsp file cannot hold (refusal 35)",
         ),
     ] {
         assert_eq!(refusal.to_string(), words);

@@ -78,4 +78,7 @@ fn the_readme_s_example() {
     let whole = [voice, clip[1000..].to_vec()].concat();
     let wanted = image_with(&whole, 32_000, 8192, coefficients, History::default());
     assert_eq!(folder.read("whole.dspc"), wanted);
+    for name in ["back.dspc", "studio.dspc"] {
+        assert_eq!(folder.read(name), folder.read("voice.dspc"));
+    }
 }

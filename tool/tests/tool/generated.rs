@@ -5,7 +5,8 @@ use std::process::{Command, Stdio};
 
 /// Options that help names, of every command.
 fn options(folder: &Folder) -> Vec<String> {
-    let commands = ["encode", "decode", "info", "check", "same", "join", "trim"];
+    let commands =
+        ["encode", "decode", "export", "import", "info", "check", "same", "join", "trim"];
     let help: String = commands.map(|name| folder.done(&format!("help {name}")).out).concat();
     let words = help.split(|c: char| !c.is_ascii_lowercase() && c != '-');
     let mut options: Vec<String> =
@@ -74,7 +75,10 @@ fn bash_completes() {
     assert_eq!(completed(&folder, &["encode", "--blo"]), ["--block-size"]);
     assert_eq!(completed(&folder, &["decode", "--co"]), ["--count"]);
     assert_eq!(completed(&folder, &["decode", "--f"]), ["--from", "--force"]);
-    assert_eq!(completed(&folder, &["decode", "--l"]), ["--loop", "--lead-in"]);
+    assert_eq!(completed(&folder, &["decode", "--l"]), ["--loop", "--lead-in", "--lenient"]);
+    assert_eq!(completed(&folder, &["im"]), ["import"]);
+    assert_eq!(completed(&folder, &["import", "--l"]), ["--lenient"]);
+    assert_eq!(completed(&folder, &["export", "--i"]), ["--into"]);
     assert_eq!(completed(&folder, &["trim", "--dr"]), ["--drop-loop"]);
     assert_eq!(completed(&folder, &["--json", "check", "--st"]), ["--strict"]);
     assert_eq!(completed(&folder, &["help", "ref"]), ["refusals"]);

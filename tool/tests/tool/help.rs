@@ -5,7 +5,8 @@ use doilycairn::Refusal;
 use std::ffi::OsStr;
 use std::os::unix::ffi::OsStrExt;
 
-const COMMANDS: [&str; 7] = ["encode", "decode", "info", "check", "same", "join", "trim"];
+const COMMANDS: [&str; 9] =
+    ["encode", "decode", "export", "import", "info", "check", "same", "join", "trim"];
 
 #[test]
 fn help_and_version() {
@@ -40,7 +41,7 @@ fn help_lists_the_refusals() {
         assert_eq!(&line[4..], format!("  {}", Refusal::from_number(number, 0).unwrap().message()));
     }
     assert!(entries.starts_with("An entry is a block's") && entries.contains("gave 16"));
-    assert!(entries.contains("The loop has an entry of its"));
+    assert!(entries.contains("The loop has an entry of its") && entries.contains("35 for export"));
 }
 
 #[test]
@@ -54,6 +55,10 @@ fn help_tells_every_option() {
             "decode",
             "--block --from --count --loop --lead-in --raw --force --quiet --json --help --into --jobs",
         ),
+        ("decode", "--lenient"),
+        ("export", "--into --jobs --force --quiet --json --help"),
+        ("import", "--into --jobs --block-size --lenient --force --quiet --json --help"),
+        ("info", "--lenient"),
         ("info", "--blocks --against --raw --ignore-length --svg --force --quiet --json --help"),
         ("check", "--strict --jobs --quiet --json --help"),
         ("trim", "--from --to --recording --raw --ignore-length --force --quiet --json --help"),
@@ -108,6 +113,16 @@ fn wrong_command_lines() {
         ("decode --count -1 a b", "--count: '-1' is not a number from 0 to 4,294,967,295"),
         ("decode --count", "--count lacks its value"),
         ("decode a", "OUT.wav is missing"),
+        ("export", "IN.dspc is missing; see `doilycairn export --help`"),
+        ("export a", "OUT.dsp is missing"),
+        ("export --lenient a b", "unknown option '--lenient'"),
+        ("export --block-size 8 a b", "unknown option '--block-size'"),
+        ("import", "IN.dsp is missing; see `doilycairn import --help`"),
+        ("import a", "OUT.dspc is missing"),
+        ("import a b c", "'c' is one word too many: many files go to a folder, by --into"),
+        ("import --block-size 7 a b", "--block-size: '7' is not a number from 8 to 65,536"),
+        ("import --block-size 65537 a b", "'65537' is not a number from 8 to 65,536"),
+        ("import --lenient=1 a b", "--lenient takes no value"),
         ("info", "IN.dspc is missing"),
         ("info --against - -", "standard input can be read only once"),
         ("same a", "B.dspc is missing"),

@@ -3,7 +3,7 @@
 use crate::damage::names;
 use crate::parse::Value;
 use crate::support::{Folder, image, looped, sound, wav};
-use doilycairn::Refusal;
+use doilycairn::{Image, Refusal};
 use std::ffi::OsStr;
 use std::os::unix::ffi::OsStrExt;
 
@@ -15,6 +15,7 @@ fn every_command_answers_one_object() {
     folder.write("a", image(&clip, 32_000, 80));
     folder.write("loop", looped(&clip, 80, (5, 17)));
     folder.write("none", "x");
+    folder.write("in.dsp", Image::open(&folder.read("loop")).unwrap().to_dsp().unwrap());
     let cases = [
         ("encode in.wav out", 0),
         ("encode --verify in.wav out", 0),
@@ -24,6 +25,10 @@ fn every_command_answers_one_object() {
         ("decode --force --from 100 --count 50 a new", 0),
         ("decode --force --count 0 a new", 0),
         ("decode --force --loop 2 --lead-in loop new", 0),
+        ("decode --force --loop 2 in.dsp new", 0),
+        ("export loop out.dsp", 0),
+        ("import in.dsp out", 0),
+        ("info in.dsp", 0),
         ("info a", 0),
         ("info --blocks loop", 0),
         ("check loop", 0),
@@ -48,6 +53,10 @@ fn every_command_answers_one_object() {
         ("decode --loop 1 a x", 3),
         ("decode --lead-in loop x", 2),
         ("join loop a out", 3),
+        ("export none x", 4),
+        ("export a -", 2),
+        ("import none x", 4),
+        ("import --block-size 7 in.dsp x", 2),
         ("decode none x", 4),
         ("decode --from 280 a x", 4),
         ("decode --from 280 --block 0 a x", 2),

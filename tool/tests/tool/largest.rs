@@ -67,6 +67,11 @@ fn the_largest_clip() {
         ("decode --loop 146 loop.dspc /dev/null", 30, 48_000),
         ("check --strict eight-loop.dspc", 10, 32_000),
         ("info --against in.wav out.dspc", 10, 48_000),
+        ("export out.dspc out.dsp", 10, 32_000),
+        ("export eight-loop.dspc eight-loop.dsp", 10, 48_000),
+        ("import out.dsp back.dspc", 10, 32_000),
+        ("import --block-size 8 eight-loop.dsp eight-back.dspc", 10, 48_000),
+        ("decode out.dsp dsp.wav", 10, 32_000),
         ("check eight.dspc", 10, 32_000),
         ("same --sound out.dspc eight.dspc", 10, 48_000),
         ("same eight-loop.dspc eight-loop.dspc", 10, 64_000),
@@ -79,6 +84,7 @@ fn the_largest_clip() {
     assert_eq!(folder.read("out.wav"), folder.read("eight.wav"));
     assert_eq!(folder.read("out.wav").len(), 44 + 2 * SAMPLES);
     parts(&folder);
+    files(&folder);
     too_many(&folder, clip);
 }
 
@@ -114,6 +120,13 @@ fn parts(folder: &Folder) {
         let (turns, end) = (&folder.read(name)[44..], 2 * SAMPLES - 2);
         assert!(turns[..end] == whole[..end] && turns[end..] == whole[2..end], "{name}");
     }
+}
+
+/// Images come back from .dsp files, which play as they do.
+fn files(folder: &Folder) {
+    assert!(folder.read("back.dspc") == folder.read("out.dspc"));
+    assert!(folder.read("eight-back.dspc") == folder.read("eight-loop.dspc"));
+    assert!(folder.read("dsp.wav") == folder.read("out.wav"));
 }
 
 /// One sample more is refused, however it comes.

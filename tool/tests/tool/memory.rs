@@ -1,6 +1,7 @@
 //! Short memory: a failure in words, nothing left behind.
 
 use crate::support::{Folder, Run, TOOL, image, looped, sound, wav};
+use doilycairn::Image;
 use std::process::Command;
 
 /// Runs the tool with so many kilobytes of address space.
@@ -18,12 +19,15 @@ fn what_cannot_be_had_is_told() {
     folder.write("in.wav", wav(&clip, 32_000));
     folder.write("in.dspc", image(&clip, 32_000, 8192));
     folder.write("loop.dspc", looped(&clip, 8192, (1, 1_000_000)));
+    folder.write("in.dsp", Image::open(&folder.read("in.dspc")).unwrap().to_dsp().unwrap());
     let lines = [
         "encode in.wav out",
         "trim --from 1 in.dspc out",
         "info --against in.wav in.dspc",
         "decode --raw --from 1 in.dspc raw",
         "decode --raw --loop 3 --lead-in loop.dspc raw",
+        "export in.dspc out.dsp",
+        "import --block-size 8 in.dsp out",
     ];
     for line in lines {
         // More and more, until it is enough; at first not even the program can be loaded.
@@ -37,7 +41,10 @@ fn what_cannot_be_had_is_told() {
         });
         assert!(done.is_some() && told > 0, "{line}");
     }
-    assert_eq!(folder.names(), ["in.dspc", "in.wav", "loop.dspc", "out", "raw"]);
+    assert_eq!(
+        folder.names(),
+        ["in.dsp", "in.dspc", "in.wav", "loop.dspc", "out", "out.dsp", "raw"]
+    );
 }
 
 #[test]

@@ -1,6 +1,7 @@
 //! What is left on the disk.
 
 use crate::support::{Folder, Run, TOOL, image, looped, sound, wav};
+use doilycairn::Image;
 use std::fs::{self, File, Permissions};
 use std::os::unix::fs::{PermissionsExt, symlink};
 use std::process::{Command, Stdio};
@@ -11,6 +12,7 @@ fn folder() -> Folder {
     folder.write("in.wav", wav(&sound(20_000, 1), 32_000));
     folder.write("a", image(&sound(20_020, 1), 32_000, 80));
     folder.write("loop", looped(&sound(20_020, 1), 80, (5, 17)));
+    folder.write("in.dsp", Image::open(&folder.read("a")).unwrap().to_dsp().unwrap());
     folder.write("out", "old");
     folder
 }
@@ -25,6 +27,8 @@ fn a_full_disk_leaves_the_old_output() {
         "decode --loop 9999 loop out",
         "join a a out",
         "join --reencode a a out",
+        "export a out",
+        "import in.dsp out",
     ] {
         // Files of up to 4 blocks of 512 bytes: writing fails half way.
         let script = format!("trap '' XFSZ; ulimit -f 4; exec {TOOL} {line}");
@@ -32,7 +36,7 @@ fn a_full_disk_leaves_the_old_output() {
         let run = Run::of(&output.unwrap());
         run.expect(5, "cannot write out: File too large");
         assert_eq!(folder.read("out"), b"old", "{line}");
-        assert_eq!(folder.names(), ["a", "in.wav", "loop", "out"], "{line}");
+        assert_eq!(folder.names(), ["a", "in.dsp", "in.wav", "loop", "out"], "{line}");
     }
 }
 
@@ -56,6 +60,8 @@ fn standard_output_that_fails() {
         "decode a -",
         "decode --from 9 a -",
         "decode --loop 9999 loop -",
+        "export a -",
+        "import in.dsp -",
         "encode in.wav -",
         "--help",
     ] {
@@ -82,7 +88,7 @@ fn permissions_and_links_stay() {
     assert_eq!(folder.read("out"), image(&sound(20_000, 1), 32_000, 8192));
     let mode = fs::metadata(folder.path("out")).unwrap().permissions().mode();
     assert_eq!(mode & 0o7777, 0o640);
-    assert_eq!(folder.names(), ["a", "in.wav", "link", "loop", "out"]);
+    assert_eq!(folder.names(), ["a", "in.dsp", "in.wav", "link", "loop", "out"]);
 }
 
 #[test]
@@ -127,5 +133,5 @@ fn places_that_cannot_be() {
     let long = "n".repeat(255);
     folder.done(&format!("decode a {long}"));
     folder.run(&format!("decode a {long}n")).expect(5, "cannot write ");
-    assert_eq!(folder.names(), ["a", "dir", "in.wav", "loop", &long, "out"]);
+    assert_eq!(folder.names(), ["a", "dir", "in.dsp", "in.wav", "loop", &long, "out"]);
 }

@@ -1,6 +1,7 @@
 //! Every exit status, of every command that can give it.
 
 use crate::support::{Folder, image, looped, sound, wav};
+use doilycairn::Image;
 
 #[test]
 fn every_status() {
@@ -13,6 +14,10 @@ fn every_status() {
     folder.write("rate", image(&clip, 8000, 80));
     folder.write("loop", looped(&clip, 80, (5, 17)));
     folder.write("bad", "x");
+    let dsp = Image::open(&folder.read("loop")).unwrap().to_dsp().unwrap();
+    folder.write("in.dsp", &dsp);
+    folder.write("other.dsp", [&dsp[..95], &[1], &dsp[96..]].concat());
+    folder.write("cut.dsp", &dsp[..95]);
     let cases = [
         (0, "encode in.wav out"),
         (2, "encode in.wav"),
@@ -52,6 +57,28 @@ fn every_status() {
         (5, "decode absent x"),
         (5, "decode . x"),
         (5, "decode a /dev/full"),
+        (0, "decode in.dsp wav"),
+        (0, "decode --lenient --force -q other.dsp wav"),
+        (4, "decode other.dsp x"),
+        (4, "decode cut.dsp x"),
+        (0, "export a out.dsp"),
+        (2, "export a"),
+        (2, "export a b"),
+        (4, "export bad x"),
+        (5, "export absent x"),
+        (5, "export a absent/x"),
+        (0, "import in.dsp out.dspc"),
+        (0, "import --lenient -q other.dsp out.dspc"),
+        (2, "import in.dsp"),
+        (2, "import --block-size 7 in.dsp x"),
+        (4, "import other.dsp x"),
+        (4, "import cut.dsp x"),
+        (4, "import bad x"),
+        (5, "import absent x"),
+        (5, "import in.dsp /dev/full"),
+        (0, "info in.dsp"),
+        (0, "info --lenient -q other.dsp"),
+        (4, "info other.dsp"),
         (0, "info a"),
         (2, "info"),
         (3, "info --against bad a"),

@@ -1,6 +1,6 @@
 //! The list of calls on clips.
 
-use super::{bytes, digits, digits_of, list, number, words};
+use super::{bytes, digest, digits, digits_of, list, number, words};
 use doilycairn::{
     Coefficients, EncoderState, FrameContext, History, Loop, LoopState, Refusal, Start,
 };
@@ -68,11 +68,6 @@ fn loop_fields(looped: LoopState, context: FrameContext) -> String {
     let LoopState { start, end, present } = looped;
     let (header, history) = (context.predictor_and_scale, digits_of(&context.last_samples));
     format!(" {start:08x} {end:08x} {:02x} {header:04x} {history}", u8::from(present))
-}
-
-/// Bytes as the digits of a number, modulo a prime.
-fn digest(bytes: &[u8]) -> u64 {
-    bytes.iter().fold(0, |sum, byte| (sum * 1_000_003 + u64::from(*byte) + 1) % 1_099_511_627_689)
 }
 
 struct Machine {

@@ -3,6 +3,7 @@
 mod blocks;
 mod clips;
 mod coefficients;
+mod dsp;
 mod frames;
 mod images;
 
@@ -35,6 +36,11 @@ fn number(bytes: &[u8]) -> u32 {
 /// Samples or coefficients, two bytes each.
 fn words<const N: usize>(bytes: &[u8]) -> [i16; N] {
     std::array::from_fn(|i| i16::from_be_bytes([bytes[2 * i], bytes[2 * i + 1]]))
+}
+
+/// Bytes as the digits of a number, modulo a prime.
+fn digest(bytes: &[u8]) -> u64 {
+    bytes.iter().fold(0, |sum, byte| (sum * 1_000_003 + u64::from(*byte) + 1) % 1_099_511_627_689)
 }
 
 /// Two digits a byte.

@@ -13,13 +13,13 @@ use Rattle.clip.proofs.contents.put_coefficients.Statement.{statement}
 use Rattle.clip.proofs.contents.put_coefficients.Tie as tie
 
 abbrev Inv-loop : tie.InvT-loop
-Inv-loop image₀ cs i₀ image i = (i ≤ 16) × (image ≡ sets image₀ 16 (coefficientBytes (take i cs)))
+Inv-loop image₀ at cs i₀ image i = (i ≤ 16) × (image ≡ sets image₀ at (coefficientBytes (take i cs)))
 
 abbrev μ-loop : tie.MeasureT-loop
-μ-loop image₀ cs i₀ image i = 16 - i
+μ-loop image₀ at cs i₀ image i = 16 - i
 
 loop-holds : tie.Need-loop-holds Inv-loop μ-loop
-loop-holds c = (omega arith, coefficient-none (c .before .args .image .now) (c .before .args .t2))
+loop-holds c = (omega arith, coefficient-none (c .before .args .image .now) (c .before .args .at) (c .before .args .t3))
 
 mul-put16 : tie.Need-mul-put16 Inv-loop μ-loop
 mul-put16 c = omega arith
@@ -49,9 +49,9 @@ loop-again : tie.Need-loop-again Inv-loop μ-loop
 loop-again c =
     let a = c .before .before .before .before .before .before .before .before .before .args in
     let l = c .before .before .before .before .before .before .before .loop in
-    let n : length (a .t2) ≡ 16 = search needs in (
+    let n : length (a .t3) ≡ 16 = search needs in (
       omega arith,
-      coefficient-turn (a .image .now) (l .image) (c .before .before .put16 .last .0) (a .t2) (l .i) (c .before .before .before .bits16 .result) (omega arith)
+      coefficient-turn (a .image .now) (l .image) (c .before .before .put16 .last .0) (a .at) (a .t3) (l .i) (c .before .before .before .bits16 .result) (omega arith)
           (c .before .before .before .before .bits16-arg .given) (l .inv .1) (c .before .before .before .bits16 .ensures) (c .before .before .put16 .ensures),
     )
 
@@ -61,9 +61,9 @@ same-length c = ap length (c .before .loop .inv .1) ∙ simp length-sets
 returns : tie.Need-returns Inv-loop μ-loop
 returns c =
     let a = c .before .before .before .args in
-    let n : length (a .t2) ≡ 16 = search needs in
-    let e : c .before .loop .i ≡ length (a .t2) = omega arith in
-    c .before .loop .inv .1 ∙ ap (λ (k : ℕ). sets (a .image .now) 16 (coefficientBytes (take k (a .t2)))) e ∙ ap (λ (v : List ℤ). sets (a .image .now) 16 (coefficientBytes v)) (take-length (a .t2))
+    let n : length (a .t3) ≡ 16 = search needs in
+    let e : c .before .loop .i ≡ length (a .t3) = omega arith in
+    c .before .loop .inv .1 ∙ ap (λ (k : ℕ). sets (a .image .now) (a .at) (coefficientBytes (take k (a .t3)))) e ∙ ap (λ (v : List ℤ). sets (a .image .now) (a .at) (coefficientBytes v)) (take-length (a .t3))
 
 pub put-coefficients-spec : {M : Type 1} → statement M
 put-coefficients-spec =

@@ -36,6 +36,10 @@ put-rest-requires c κs = search needs
 same-length : tie.Need-same-length
 same-length c = search needs
 
+-- a coefficient in each of sixteen places
+sixteen : (c : tie.Start) → length (c .args .g .coefficients) ≡ 16
+sixteen c = search needs
+
 returns : tie.Need-returns
 unfolding headBytes coefficientBytes blockCount frameCount
 returns c = let s = c .before .before .before .before .before .before .before .before .before .before .before .before .before .before .before .before .before .before .before .before in
@@ -47,7 +51,7 @@ returns c = let s = c .before .before .before .before .before .before .before .b
     let x = c .before .before .before .loop-count in
     let r = c .before .before .put-rest in
     let cs = g .coefficients in
-    let m : length cs ≡ 16 = search needs in
+    let m : length cs ≡ 16 = sixteen s in
     let len : 48 ≡ 16 + length (coefficientBytes cs) = omega (arith, coefficient-length cs, m) in
     runs4 (a .image .now) (z .last .0) (n .last .0) (k .last .0) (r .last .0)
     noMark (be32 (g .total) ++ (be32 (g .rate) ++ be32 (g .block))) (coefficientBytes cs) (be16 (g .gain) ++ (be16 (x .result) ++ be32 (a .blocks))) 0 4 16 48

@@ -7,7 +7,7 @@ use lib.Seq.{sets}
 use Rattle.layout.specs.declared.Shape.{Shape}
 use Rattle.layout.specs.Sizes.{blockCount, bodiesPlace, blockOffset}
 use Rattle.layout.proofs.SizeLaws.{blocks-most, start-most}
-use Rattle.clip.specs.Image.{tableBytes}
+use Rattle.clip.specs.Image.{noContext, tableBytes}
 use Rattle.clip.proofs.Tables.{bare, table-none, table-turn}
 use Rattle.clip.proofs.contents.put_table.Statement.{statement}
 use Rattle.clip.proofs.contents.put_table.Tie as tie
@@ -50,7 +50,7 @@ block-count-requires : tie.Need-block-count-requires Inv-loop μ-loop
 block-count-requires c κs = c .before .before .pre .0
 
 loop-holds : tie.Need-loop-holds Inv-loop μ-loop
-loop-holds c = (omega arith, table-none (c .before .before .before .args .image .now) (c .before .before .before .args .shape), refl)
+loop-holds c = (omega arith, table-none bare (c .before .before .before .args .image .now) (c .before .before .before .args .shape), refl)
 
 mul-offset : tie.Need-mul-offset Inv-loop μ-loop
 mul-offset c = omega (arith, near c)
@@ -86,8 +86,8 @@ loop-again c = let d = c .before .before .before .before .before .before in
     let b = c .before .before .before .before .before .block-length in
     let e = c .before .before .put-entry in (
       omega arith,
-      table-turn (a .image .now) (l .image) (e .last .0) (a .shape) (l .k) (d .before .before .before .bodies-place .result + l .k * a .shape .block) (b .result)
-          (offset-is (a .shape) (l .k) (d .before .before .before .bodies-place .result) (bodies d)) (b .ensures .0) (l .inv .1) (e .ensures ∙ rw (c .before .before .before .entry-place .ensures)),
+      table-turn bare (λ i. refl) (a .image .now) (l .image) (e .last .0) (a .shape) (l .k) (d .before .before .before .bodies-place .result + l .k * a .shape .block) (b .result) noContext
+          (offset-is (a .shape) (l .k) (d .before .before .before .bodies-place .result) (bodies d)) (b .ensures .0) refl (l .inv .1) (e .ensures ∙ rw (c .before .before .before .entry-place .ensures)),
       e .kept .0 ∙ l .inv .2,
     )
 

@@ -1,0 +1,27 @@
+-- Laws, each after those that it cites.
+pub mod PlayedInParts
+pub mod FilePlays
+pub mod AcceptedFile
+pub mod FieldsAgain
+pub mod HeaderFields
+pub mod Fitting
+pub mod BytesAgain
+pub mod BlockLengths
+pub mod JoinedBodies
+pub mod GoesOn
+pub mod LaidOutHead
+pub mod LaidOutOpens
+pub mod ImportedImage
+pub mod ImportedBlocks
+pub mod ExportedAgain
+pub mod DroppedBytes
+pub mod ImportedFiles
+pub mod ExportedFields
+pub mod ExportAccepts
+pub mod WrittenAgain
+pub mod ExportReturns
+pub mod ExportedImages
+pub mod TestLaws
+pub mod HeaderRuns
+pub mod HistoriesInTurn
+pub mod Contents
