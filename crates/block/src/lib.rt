@@ -20,7 +20,7 @@ use whole::{History, SAMPLES_PER_FRAME};
 
 // What playing carries from frame to frame: the header, and the newest sample and the one before it.
 #[repr(C)]
-#[derive(Drop)]
+#[derive(Clone, Copy)]
 pub struct FrameContext {
     pub predictor_and_scale: u16,
     pub last_samples: History,

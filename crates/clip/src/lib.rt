@@ -41,7 +41,7 @@ pub enum Answer {
 
 // The encoding state: what the clip was started with, the samples fed so far, the history, the unfinished frame, the passes made, the loop, and the context at its start once that is known.
 #[repr(C)]
-#[derive(Drop)]
+#[derive(Clone, Copy)]
 pub struct Encoder {
     pub total: u32,
     pub rate: u32,

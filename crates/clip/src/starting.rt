@@ -10,7 +10,7 @@ use layout::sizes::{cut_down, told_loop};
 use whole::History;
 
 // What a clip is started with: N, the rate, the block size, the gain, the coefficients, the history before its first sample, and its loop.
-#[derive(Drop)]
+#[derive(Clone, Copy)]
 pub struct Start {
     pub total: u32,
     pub rate: u32,

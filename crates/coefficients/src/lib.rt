@@ -32,7 +32,7 @@ pub enum Answer {
 
 // The measuring state: samples so far, records, and the last samples. The records lie in a store that the caller lends.
 #[repr(C)]
-#[derive(Drop)]
+#[derive(Clone, Copy)]
 pub struct CoefficientCalculator {
     pub samples: u32,
     pub records: u32,

@@ -4,14 +4,14 @@ ghost use Rattle.coefficients.specs.Analysis as Analysis;
 ghost use Rattle.coefficients.specs.inner.SharedTerms as SharedTerms;
 
 // A record: the two numbers that follow the leading 1.
-#[derive(Drop)]
+#[derive(Clone, Copy)]
 pub(crate) struct Record {
     pub v1: f64,
     pub v2: f64,
 }
 
 // A vector of three numbers.
-#[derive(Drop)]
+#[derive(Clone, Copy)]
 pub(crate) struct Vec3 {
     pub x0: f64,
     pub x1: f64,
@@ -19,7 +19,7 @@ pub(crate) struct Vec3 {
 }
 
 // The parts of a contrast that depend on the vector alone: the two that are multiplied stand side by side.
-#[derive(Drop)]
+#[derive(Clone, Copy)]
 pub(crate) struct VectorTerms {
     pub val2: f64,
     pub val3: f64,
@@ -27,7 +27,7 @@ pub(crate) struct VectorTerms {
 }
 
 // Those that depend on the record alone.
-#[derive(Drop)]
+#[derive(Clone, Copy)]
 pub(crate) struct Side {
     pub twice: f64,
     pub last: f64,

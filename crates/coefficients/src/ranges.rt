@@ -15,7 +15,7 @@ pub(crate) struct Merged {
 }
 
 // Rows 1 and 2 of the matrix, columns 1 and 2.
-#[derive(Drop)]
+#[derive(Clone, Copy)]
 pub(crate) struct Mat2 {
     pub a11: f64,
     pub a12: f64,

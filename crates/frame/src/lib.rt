@@ -20,7 +20,7 @@ use quantise::magnitudes;
 use whole::History;
 
 // A frame's eight bytes, the passes over all eight candidates, and the samples that the bytes play.
-#[derive(Drop)]
+#[derive(Clone, Copy)]
 pub struct EncodedFrame {
     pub bytes: [u8; 8],
     pub passes: u32,

@@ -11,7 +11,7 @@ pub(crate) struct Traced {
 }
 
 // What a pass compares with and adds: a step less one unit, sixteen steps, fifteen; half a step, and eight.
-#[derive(Drop)]
+#[derive(Clone, Copy)]
 pub(crate) struct Scales {
     pub mask: i64,
     pub all: i64,

@@ -54,7 +54,7 @@ pub enum Answer {
 
 // What the head of an image says: N, rate, B, gain, coefficients and K.
 #[repr(C)]
-#[derive(Drop)]
+#[derive(Clone, Copy)]
 pub struct Head {
     pub total: u32,
     pub rate: u32,

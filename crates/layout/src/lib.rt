@@ -13,7 +13,7 @@ pub const ENTRY_BYTES: usize = 16;
 
 // A loop: the sample that it starts at, and the one after its last; or none.
 #[repr(C)]
-#[derive(Drop)]
+#[derive(Clone, Copy)]
 pub struct Loop {
     pub start: u32,
     pub end: u32,
@@ -21,7 +21,7 @@ pub struct Loop {
 }
 
 // What fixes the sizes and places of a clip: N, B, and how many entries follow those of its K blocks.
-#[derive(Drop)]
+#[derive(Clone, Copy)]
 pub struct Shape {
     pub total: usize,
     pub block: usize,

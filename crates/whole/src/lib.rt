@@ -13,7 +13,7 @@ pub const MOST_SAMPLES: u32 = 14_680_064;
 
 // The newest sample and the one before it.
 #[repr(C)]
-#[derive(Drop)]
+#[derive(Clone, Copy)]
 pub struct History {
     pub newest: i16,
     pub older: i16,
