@@ -1,4 +1,5 @@
 // Blocks of DSP ADPCM: addresses, contexts, playing bytes, joining.
+#![tactic(auto)]
 pub mod coefficients;
 mod frame;
 pub mod join;

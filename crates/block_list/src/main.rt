@@ -3,6 +3,7 @@
 // each), 8 and 16 the lengths in nibbles (eight each, the first also the address), 24 the context's header and its two samples, 36 and 100
 // the two blocks' coefficients (four each), 164 and 260 their bytes. The output has 5A in each byte at first. A line of the answers: 00
 // or the refusal's number, the count or the lengths' sum, the context after playing, the output; or the two addresses' values.
+#![tactic(auto)]
 ghost use Rattle.std.specs.Prelude.{◌+◌, ◌≤◌, ◌≡◌, length};
 
 use block::{FrameContext, JoinAnswer, PlayAnswer};

@@ -7,6 +7,7 @@
 // loop into the state; s starts a clip, with the state's loop where 7 says so; b adds the samples to the piece that is to come; f does the
 // same and feeds that piece; c closes. s, f and c are answered by a line: 00 or the refusal's number, the state's fields from N on, closed,
 // the loop and its context where one of their numbers is not zero, the digest of the lent buffer, and its bytes where the line asks for them.
+#![tactic(auto)]
 mod record;
 mod text;
 

@@ -3,6 +3,7 @@
 // n starts a new clip, b adds the samples to the piece that is to come, m does the same and measures that piece, a asks for the
 // coefficients. A line of the output is what an asking gives: the number of records, with the one of the frame that is filled up;
 // each record's two patterns, one and the same for every NaN; the sixteen coefficients' patterns. A refusal writes its number.
+#![tactic(auto)]
 ghost use Rattle.std.specs.Prelude.{◌≤◌};
 
 use coefficients::{Answer, CoefficientCalculator, Refusal};

@@ -1,4 +1,5 @@
 // The codec for C and for other languages: every call over numbers, slices and structs by value.
+#![tactic(auto)]
 pub mod blocks;
 pub mod files;
 pub mod measuring;

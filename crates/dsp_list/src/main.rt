@@ -5,6 +5,7 @@
 // exports the image in the source, i imports the file in it, r asks how much room that needs. Before a call byte i of the output is made i
 // modulo 251. A call is answered by a line: 00 or the refusal's number; the block that it names, or 0; how many bytes; the digest of the
 // lent output, and its bytes where the line asks for them.
+#![tactic(auto)]
 mod text;
 
 use dsp::Written;

@@ -1,6 +1,7 @@
 // Replays a list of answers of the Rust's f64 methods. A line of the input is a letter (m mul_add, a abs, x max, n min, r round)
 // and three operands, each 16 hexadecimal digits of a pattern, those that the function does not take zero. A line of the
 // output is the answer's pattern, one and the same for every NaN.
+#![tactic(auto)]
 use replay::{float_bits, quad_word};
 
 // The float of a pattern.

@@ -1,6 +1,7 @@
 // Replays a list of the Rust's encoded frames. A line of the input, in hexadecimal digits: the number of real samples (2), the
 // newest and the older history sample (4 each), fourteen samples and sixteen coefficients (4 each, joined). A line of the output: the
 // eight bytes, the passes (2), the newest and the older history sample after the real samples; or "refused" and document 01's number.
+#![tactic(auto)]
 ghost use Rattle.std.specs.Prelude.{◌≤◌};
 ghost use Rattle.frame.specs.Choice.{AllBounded};
 

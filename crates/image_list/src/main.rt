@@ -6,6 +6,7 @@
 // second, r the second with the first, h and v do so by the sound alone. A call is answered by a line: 00 or the refusal's number; the block
 // whose entry is bad, or 0; then the head's values and, where there is a loop, its start, end and context, the body, the count, the context or
 // the number of blocks touched, and the whole output, which has 5A in each byte at first, or 1 where the images are, or sound, the same.
+#![tactic(auto)]
 mod text;
 
 ghost use Rattle.std.specs.Prelude.{◌≡◌, length};

@@ -1,4 +1,5 @@
 // What the replay programs share: numbers in hexadecimal digits of lower case, read from a line and written to the output.
+#![tactic(auto)]
 ghost use Rattle.std.specs.Prelude.{◌≡◌, ◌+◌, ◌-◌, ◌*◌, ◌≤◌, ◌<◌, length};
 ghost use Rattle.std.proofs.lemmas.List.Edits.{sets};
 ghost use Rattle.replay.specs.Digits.{digit, byte, word, double_word, quad_word, sample_at, samples_at, least, beginning, ending, float_bits};

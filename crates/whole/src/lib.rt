@@ -1,4 +1,6 @@
 // What the crates of the codec share: whole-number helpers (clamping to 16 bits, division towards zero, arithmetic shift), two samples of history, what a frame has, and the most samples of a recording.
+#![tactic(auto)]
+
 ghost use Rattle.std.specs.Prelude.{◌≡◌};
 ghost use Rattle.whole.specs.Whole.{clamp16, towards_zero, floored};
 

@@ -7,5 +7,5 @@ use Rattle.whole.proofs.shift_11.Tie as tie
 returns : tie.Need-returns
 returns c = rw (to_z-of_z c.ranges.x, to_z-of_z (shr-fits 2048 c.ranges.x))
 
-pub shift-11-spec : {M : Type 1} → statement M
-shift-11-spec = tie.close (tie.spec returns)
+pub shift_11_spec : {M : Type 1} → statement M
+shift_11_spec = tie.close (tie.spec returns)

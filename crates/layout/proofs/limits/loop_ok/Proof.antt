@@ -4,17 +4,17 @@ use Rattle.layout.specs.Limits.{loop_ok}
 use Rattle.layout.proofs.limits.loop_ok.Statement.{statement}
 use Rattle.layout.proofs.limits.loop_ok.Tie as tie
 
-returns : tie.Need-returns
+returns : tie.Need-returns-then-start-end
 unfolding loop_ok
-returns c = simp (c.before.if1.true, le-ltb _ _ c.if2.true)
+returns c = simp (c.before.if-present.true, le-ltb _ _ c.if-start-end.true)
 
-returns-2 : tie.Need-returns-2
+returns-2 : tie.Need-returns-then-present
 unfolding loop_ok
-returns-2 c = simp (c.before.if1.true, lt-ltb _ _ c.if2.false)
+returns-2 c = simp (c.before.if-present.true, lt-ltb _ _ c.if-start-end.false)
 
-returns-3 : tie.Need-returns-3
+returns-3 : tie.Need-returns
 unfolding loop_ok
-returns-3 c = simp c.if1.false
+returns-3 c = simp c.if-present.false
 
-pub loop-ok-spec : {M : Type 1} → statement M
-loop-ok-spec = tie.close (tie.spec returns returns-2 returns-3)
+pub loop_ok_spec : {M : Type 1} → statement M
+loop_ok_spec = tie.close (tie.spec returns returns-2 returns-3)

@@ -4,54 +4,54 @@ use Rattle.layout.specs.Limits.{numbers_ok}
 use Rattle.layout.proofs.limits.numbers_ok.Statement.{statement}
 use Rattle.layout.proofs.limits.numbers_ok.Tie as tie
 
-returns : tie.Need-returns
+returns : tie.Need-returns-then-n-total
 unfolding numbers_ok
-returns c = simp (lt-leb _ _ c.if1.true)
+returns c = simp (lt-leb _ _ c.if-n-total.true)
 
-returns-2 : tie.Need-returns-2
+returns-2 : tie.Need-returns-then-total-lt1
 unfolding numbers_ok
-returns-2 c = simp (le-leb _ _ c.before.if1.false, lt-leb _ _ c.if2.true)
+returns-2 c = simp (le-leb _ _ c.before.if-n-total.false, lt-leb _ _ c.if-total-lt1.true)
 
-returns-3 : tie.Need-returns-3
+returns-3 : tie.Need-returns-then-total-gt-MOST_SAMPLES
 unfolding numbers_ok
-returns-3 c = simp (le-leb _ _ c.before.before.if1.false, le-leb _ _ c.before.if2.false, lt-leb _ _ c.if3.true)
+returns-3 c = simp (le-leb _ _ c.before.before.if-n-total.false, le-leb _ _ c.before.if-total-lt1.false, lt-leb _ _ c.if-total-gt-MOST_SAMPLES.true)
 
-returns-4 : tie.Need-returns-4
+returns-4 : tie.Need-returns-then-block-lt8
 unfolding numbers_ok
-returns-4 c = simp (le-leb _ _ c.before.before.before.if1.false, le-leb _ _ c.before.before.if2.false, le-leb _ _ c.before.if3.false, lt-leb _ _ c.if4.true)
+returns-4 c = simp (le-leb _ _ c.before.before.before.if-n-total.false, le-leb _ _ c.before.before.if-total-lt1.false, le-leb _ _ c.before.if-total-gt-MOST_SAMPLES.false, lt-leb _ _ c.if-block-lt8.true)
 
-returns-5 : tie.Need-returns-5
+returns-5 : tie.Need-returns-then-block-gt65536
 unfolding numbers_ok
 returns-5 c = simp (
-  le-leb _ _ c.before.before.before.before.if1.false,
-  le-leb _ _ c.before.before.before.if2.false,
-  le-leb _ _ c.before.before.if3.false,
-  le-leb _ _ c.before.if4.false,
-  lt-leb _ _ c.if5.true,
+  le-leb _ _ c.before.before.before.before.if-n-total.false,
+  le-leb _ _ c.before.before.before.if-total-lt1.false,
+  le-leb _ _ c.before.before.if-total-gt-MOST_SAMPLES.false,
+  le-leb _ _ c.before.if-block-lt8.false,
+  lt-leb _ _ c.if-block-gt65536.true,
 )
 
-returns-6 : tie.Need-returns-6
+returns-6 : tie.Need-returns-then-block-ne0
 unfolding numbers_ok
 returns-6 c = simp (
-  le-leb _ _ c.before.before.before.before.before.if1.false,
-  le-leb _ _ c.before.before.before.before.if2.false,
-  le-leb _ _ c.before.before.before.if3.false,
-  le-leb _ _ c.before.before.if4.false,
-  le-leb _ _ c.before.if5.false,
-  ne_eqb _ _ c.if6.true,
+  le-leb _ _ c.before.before.before.before.before.if-n-total.false,
+  le-leb _ _ c.before.before.before.before.if-total-lt1.false,
+  le-leb _ _ c.before.before.before.if-total-gt-MOST_SAMPLES.false,
+  le-leb _ _ c.before.before.if-block-lt8.false,
+  le-leb _ _ c.before.if-block-gt65536.false,
+  ne_eqb _ _ c.if-block-ne0.true,
 )
 
-returns-7 : tie.Need-returns-7
+returns-7 : tie.Need-returns
 unfolding numbers_ok
 returns-7 c = simp (
-  le-leb _ _ c.before.before.before.before.before.if1.false,
-  le-leb _ _ c.before.before.before.before.if2.false,
-  le-leb _ _ c.before.before.before.if3.false,
-  le-leb _ _ c.before.before.if4.false,
-  le-leb _ _ c.before.if5.false,
-  eq-eqb _ _ c.if6.false,
+  le-leb _ _ c.before.before.before.before.before.if-n-total.false,
+  le-leb _ _ c.before.before.before.before.if-total-lt1.false,
+  le-leb _ _ c.before.before.before.if-total-gt-MOST_SAMPLES.false,
+  le-leb _ _ c.before.before.if-block-lt8.false,
+  le-leb _ _ c.before.if-block-gt65536.false,
+  eq-eqb _ _ c.if-block-ne0.false,
 )
 
-pub numbers-ok-spec : {M : Type 1} → statement M
-numbers-ok-spec =
+pub numbers_ok_spec : {M : Type 1} → statement M
+numbers_ok_spec =
     tie.close (tie.spec returns returns-2 returns-3 returns-4 returns-5 returns-6 returns-7)

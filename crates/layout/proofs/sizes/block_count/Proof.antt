@@ -12,31 +12,31 @@ use Rattle.layout.proofs.sizes.frame_count.Reads as frame-count-reads
 use Rattle.whole.specs.Frames.{frame_count}
 
 -- src/sizes.rt:36:10
-frame-count-requires : tie.Need-frame-count-requires
+frame-count-requires : tie.Need-frame_count-requires
 frame-count-requires c κs = search rules
 
 -- src/sizes.rt:36:6
-mul-result : tie.Need-overflow-mul-result
+mul-result : tie.Need-overflow_mul-result
 mul-result c = search rules
 
 -- src/sizes.rt:36:6
-add-result : tie.Need-overflow-add-result
+add-result : tie.Need-overflow_add-result
 add-result c = search rules
 
 -- src/sizes.rt:36:6
-sub-result : tie.Need-overflow-sub-result
+sub-result : tie.Need-overflow_sub-result
 sub-result c = search rules
 
 -- src/sizes.rt:36:5
-div-result : tie.Need-nonzero-div-result
+div-result : tie.Need-nonzero_div-result
 div-result c = search rules
 
 -- src/sizes.rt:30:1
 returns : tie.Need-returns
 unfolding block_count frame_count
 returns c = let s = c.before.args.shape in
-    (ap (λ (f : ℕ). (8 * f + s.block - 1) / s.block) c.frame-count.ensures.0, omega (arith, blocks-le c.frame-count.result s.block c.before.requires.wide, c.frame-count.ensures.1))
+    (ap (λ (f : ℕ). (8 * f + s.block - 1) / s.block) c.frame_count.ensures.0, omega (arith, blocks-le c.frame_count.result s.block c.before.requires.wide, c.frame_count.ensures.1))
 
-pub block-count-spec : {M : Type 1} → statement M
-block-count-spec =
+pub block_count_spec : {M : Type 1} → statement M
+block_count_spec =
     tie.close (tie.spec frame-count-requires mul-result add-result sub-result div-result returns)

@@ -14,71 +14,71 @@ use Rattle.layout.proofs.sizes.frame_count.Reads as frame-count-reads
 use Rattle.layout.proofs.sizes.last_samples.Reads as last-samples-reads
 
 -- src/sizes.rt:87:9
-frame-count-requires : tie.Need-frame-count-requires
+frame-count-requires : tie.Need-frame_count-f-requires
 frame-count-requires c κs = search rules
 
 -- src/sizes.rt:88:17
-mul-first : tie.Need-overflow-mul-first
+mul-first : tie.Need-overflow_mul-first
 mul-first c =
     let k = c.before.before in
-    omega (arith, block-first k.args.shape k.args.j k.requires.0 k.requires.1, c.frame-count.ensures.0, c.frame-count.ensures.1)
+    omega (arith, block-first k.args.shape k.args.j k.requires.0 k.requires.1, c.frame_count-f.ensures.0, c.frame_count-f.ensures.1)
 
 -- src/sizes.rt:89:8
-add-if1 : tie.Need-overflow-add-if1
+add-if1 : tie.Need-overflow_add-first
 add-if1 c =
     let k = c.before.before in
-    omega (arith, block-first k.args.shape k.args.j k.requires.0 k.requires.1, c.frame-count.ensures.0, c.frame-count.ensures.1, c.before.before.requires.0.narrow)
+    omega (arith, block-first k.args.shape k.args.j k.requires.0 k.requires.1, c.frame_count-f.ensures.0, c.frame_count-f.ensures.1, c.before.before.requires.0.narrow)
 
 -- src/sizes.rt:90:16
-mul-result : tie.Need-overflow-mul-result
+mul-result : tie.Need-overflow_mul-result
 mul-result c = search rules
 
 -- src/sizes.rt:90:9
-returns : tie.Need-returns
+returns : tie.Need-returns-then-first-per
 unfolding block_length frame_count last_frame_samples
-returns c = let l = lt-ltb _ _ (rw c.before.frame-count.ensures.0 at c.if1.true) in
+returns c = let l = lt-ltb _ _ (rw c.before.frame_count-f.ensures.0 at c.if-first-per.true) in
     (simp l, omega (arith, c.before.before.before.requires.0.narrow))
 
 -- src/sizes.rt:92:11
-sub-result : tie.Need-overflow-sub-result
-sub-result c = let g = frames-some c.before.before.before.args.shape.total c.before.before.before.requires.0.some in omega (arith, g.0, c.before.frame-count.ensures.0)
+sub-result : tie.Need-overflow_sub-result
+sub-result c = let g = frames-some c.before.before.before.args.shape.total c.before.before.before.requires.0.some in omega (arith, g.0, c.before.frame_count-f.ensures.0)
 
 -- src/sizes.rt:92:11
-sub-result-2 : tie.Need-overflow-sub-result-2
+sub-result-2 : tie.Need-overflow_sub-result-2
 sub-result-2 c =
     let k = c.before.before.before in
-    omega (arith, block-first k.args.shape k.args.j k.requires.0 k.requires.1, c.before.frame-count.ensures.0)
+    omega (arith, block-first k.args.shape k.args.j k.requires.0 k.requires.1, c.before.frame_count-f.ensures.0)
 
 -- src/sizes.rt:92:5
-mul-result-2 : tie.Need-overflow-mul-result-2
+mul-result-2 : tie.Need-overflow_mul-result-2
 mul-result-2 c = search rules
 
 -- src/sizes.rt:92:29
-last-samples-requires : tie.Need-last-samples-requires
+last-samples-requires : tie.Need-last_samples-requires
 last-samples-requires c κs = search rules
 
 -- src/sizes.rt:92:29
-add-result : tie.Need-overflow-add-result
+add-result : tie.Need-overflow_add-result
 add-result c = search rules
 
 -- src/sizes.rt:92:5
-add-result-2 : tie.Need-overflow-add-result-2
+add-result-2 : tie.Need-overflow_add-result-2
 add-result-2 c = search rules
 
 -- src/sizes.rt:80:1
-returns-2 : tie.Need-returns-2
+returns-2 : tie.Need-returns
 unfolding block_length frame_count last_frame_samples
 returns-2 c = let k = c.before.before.before.before in
     let s = k.args.shape in
     let j = k.args.j in
-    let e = c.before.before.frame-count.ensures.0 in
-    let l = le-ltb (j * (s.block / 8) + s.block / 8) (frame_count s.total) (rw e at c.before.if1.false) in (
-      ap₂ (λ (f m : ℕ). 16 * (f - 1 - j * (s.block / 8)) + (m + 2)) e c.last-samples.ensures.0 ∙ simp l,
-      omega (arith, c.last-samples.ensures.1, c.before.before.frame-count.ensures.1),
+    let e = c.before.before.frame_count-f.ensures.0 in
+    let l = le-ltb (j * (s.block / 8) + s.block / 8) (frame_count s.total) (rw e at c.before.if-first-per.false) in (
+      ap₂ (λ (f m : ℕ). 16 * (f - 1 - j * (s.block / 8)) + (m + 2)) e c.last_samples.ensures.0 ∙ simp l,
+      omega (arith, c.last_samples.ensures.1, c.before.before.frame_count-f.ensures.1),
     )
 
-pub block-length-spec : {M : Type 1} → statement M
-block-length-spec =
+pub block_length_spec : {M : Type 1} → statement M
+block_length_spec =
     tie.close
     (tie.spec
     frame-count-requires

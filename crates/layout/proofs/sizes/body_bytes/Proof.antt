@@ -12,43 +12,43 @@ use Rattle.layout.proofs.sizes.frame_count.Reads as frame-count-reads
 use Rattle.layout.proofs.sizes.last_samples.Reads as last-samples-reads
 
 -- src/sizes.rt:45:10
-frame-count-requires : tie.Need-frame-count-requires
+frame-count-requires : tie.Need-frame_count-requires
 frame-count-requires c κs = search rules
 
 -- src/sizes.rt:45:10
-sub-result : tie.Need-overflow-sub-result
+sub-result : tie.Need-overflow_sub-result
 unfolding frame_count
-sub-result c = omega (arith, c.frame-count.ensures.0)
+sub-result c = omega (arith, c.frame_count.ensures.0)
 
 -- src/sizes.rt:45:5
-mul-result : tie.Need-overflow-mul-result
+mul-result : tie.Need-overflow_mul-result
 mul-result c = search rules
 
 -- src/sizes.rt:45:5
-add-result : tie.Need-overflow-add-result
+add-result : tie.Need-overflow_add-result
 add-result c = search rules
 
 -- src/sizes.rt:45:36
-last-samples-requires : tie.Need-last-samples-requires
+last-samples-requires : tie.Need-last_samples-requires
 last-samples-requires c κs = search rules
 
 -- src/sizes.rt:45:36
-add-result-2 : tie.Need-overflow-add-result-2
+add-result-2 : tie.Need-overflow_add-result-2
 add-result-2 c = search rules
 
 -- src/sizes.rt:45:5
-add-result-3 : tie.Need-overflow-add-result-3
+add-result-3 : tie.Need-overflow_add-result-3
 add-result-3 c = search rules
 
 -- src/sizes.rt:40:1
 returns : tie.Need-returns
 unfolding body_bytes frame_count last_frame_samples
-returns c = let e = c.before.frame-count.ensures.0 in
-    let l = c.last-samples.ensures.0 in
-    (ap₂ (λ (f m : ℕ). 8 * (f - 1) + 1 + (m + 1) / 2) e l, omega (arith, c.before.frame-count.ensures.1, c.last-samples.ensures.1))
+returns c = let e = c.before.frame_count.ensures.0 in
+    let l = c.last_samples.ensures.0 in
+    (ap₂ (λ (f m : ℕ). 8 * (f - 1) + 1 + (m + 1) / 2) e l, omega (arith, c.before.frame_count.ensures.1, c.last_samples.ensures.1))
 
-pub body-bytes-spec : {M : Type 1} → statement M
-body-bytes-spec =
+pub body_bytes_spec : {M : Type 1} → statement M
+body_bytes_spec =
     tie.close
     (tie.spec
     frame-count-requires

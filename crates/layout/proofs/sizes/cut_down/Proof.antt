@@ -7,7 +7,7 @@ use Rattle.layout.proofs.sizes.cut_down.Reads as reads
 use Rattle.layout.proofs.sizes.cut_down.Lts as lts
 
 -- src/sizes.rt:76:5
-mul-result : tie.Need-overflow-mul-result
+mul-result : tie.Need-overflow_mul-result
 mul-result c = search rules
 
 -- src/sizes.rt:73:1
@@ -15,5 +15,5 @@ returns : tie.Need-returns
 unfolding cut_down
 returns c = refl
 
-pub cut-down-spec : {M : Type 1} → statement M
-cut-down-spec = tie.close (tie.spec mul-result returns)
+pub cut_down_spec : {M : Type 1} → statement M
+cut_down_spec = tie.close (tie.spec mul-result returns)

@@ -8,7 +8,7 @@ use Rattle.layout.proofs.sizes.frame_count.Reads as reads
 use Rattle.layout.proofs.sizes.frame_count.Lts as lts
 
 -- src/sizes.rt:17:6
-add-result : tie.Need-overflow-add-result
+add-result : tie.Need-overflow_add-result
 add-result c = search rules
 
 -- src/sizes.rt:12:1
@@ -16,5 +16,5 @@ returns : tie.Need-returns
 unfolding frame_count
 returns c = (refl, omega arith)
 
-pub frame-count-spec : {M : Type 1} → statement M
-frame-count-spec = tie.close (tie.spec add-result returns)
+pub frame_count_spec : {M : Type 1} → statement M
+frame_count_spec = tie.close (tie.spec add-result returns)

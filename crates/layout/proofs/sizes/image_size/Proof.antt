@@ -13,22 +13,22 @@ use Rattle.layout.proofs.sizes.body_bytes.Reads as body-bytes-reads
 use Rattle.whole.specs.Frames.{frame_count}
 
 -- src/sizes.rt:69:5
-bodies-place-requires : tie.Need-bodies-place-requires
+bodies-place-requires : tie.Need-bodies_place-requires
 bodies-place-requires c κs = search rules
 
 -- src/sizes.rt:69:27
-body-bytes-requires : tie.Need-body-bytes-requires
+body-bytes-requires : tie.Need-body_bytes-requires
 body-bytes-requires c κs = search rules
 
 -- src/sizes.rt:69:5
-add-result : tie.Need-overflow-add-result
+add-result : tie.Need-overflow_add-result
 add-result c = let s = c.before.before.args.shape in
-    omega (arith, c.before.bodies-place.ensures, c.body_bytes.ensures.1, blocks-most s c.before.before.requires, c.before.before.requires.further)
+    omega (arith, c.before.bodies_place.ensures, c.body_bytes.ensures.1, blocks-most s c.before.before.requires, c.before.before.requires.further)
 
 -- src/sizes.rt:65:1
 returns : tie.Need-returns
 unfolding image_size block_count body_bytes frame_count last_frame_samples
-returns c = ap₂ (λ (p t : ℕ). p + t) c.before.bodies-place.ensures c.body_bytes.ensures.0
+returns c = ap₂ (λ (p t : ℕ). p + t) c.before.bodies_place.ensures c.body_bytes.ensures.0
 
-pub image-size-spec : {M : Type 1} → statement M
-image-size-spec = tie.close (tie.spec bodies-place-requires body-bytes-requires add-result returns)
+pub image_size_spec : {M : Type 1} → statement M
+image_size_spec = tie.close (tie.spec bodies-place-requires body-bytes-requires add-result returns)

@@ -11,29 +11,29 @@ use Rattle.layout.proofs.sizes.last_samples.Lts as lts
 use Rattle.layout.proofs.sizes.frame_count.Reads as frame-count-reads
 
 -- src/sizes.rt:26:19
-frame-count-requires : tie.Need-frame-count-requires
+frame-count-requires : tie.Need-frame_count-requires
 frame-count-requires c κs = search rules
 
 -- src/sizes.rt:26:19
-sub-result : tie.Need-overflow-sub-result
+sub-result : tie.Need-overflow_sub-result
 unfolding frame_count
-sub-result c = omega (arith, c.frame-count.ensures.0)
+sub-result c = omega (arith, c.frame_count.ensures.0)
 
 -- src/sizes.rt:26:13
-mul-result : tie.Need-overflow-mul-result
+mul-result : tie.Need-overflow_mul-result
 mul-result c = search rules
 
 -- src/sizes.rt:26:5
-sub-result-2 : tie.Need-overflow-sub-result-2
+sub-result-2 : tie.Need-overflow_sub-result-2
 unfolding frame_count
-sub-result-2 c = omega (arith, c.frame-count.ensures.0)
+sub-result-2 c = omega (arith, c.frame_count.ensures.0)
 
 -- src/sizes.rt:21:1
 returns : tie.Need-returns
 unfolding last_frame_samples frame_count
 returns c = let n = c.before.args.total in
-    let e = c.frame-count.ensures.0 in
+    let e = c.frame_count.ensures.0 in
     (ap (λ (f : ℕ). n - 14 * (f - 1)) e, omega (arith, e))
 
-pub last-samples-spec : {M : Type 1} → statement M
-last-samples-spec = tie.close (tie.spec frame-count-requires sub-result mul-result sub-result-2 returns)
+pub last_samples_spec : {M : Type 1} → statement M
+last_samples_spec = tie.close (tie.spec frame-count-requires sub-result mul-result sub-result-2 returns)

@@ -2,11 +2,11 @@
 use Rattle.layout.proofs.sizes.told_loop.Statement.{statement}
 use Rattle.layout.proofs.sizes.told_loop.Tie as tie
 
-returns : tie.Need-returns
-returns c = rw c.if1.true
+returns : tie.Need-returns-then-present
+returns c = rw c.if-present.true
 
-returns-2 : tie.Need-returns-2
-returns-2 c = rw c.if1.false
+returns-2 : tie.Need-returns
+returns-2 c = rw c.if-present.false
 
-pub told-loop-spec : {M : Type 1} → statement M
-told-loop-spec = tie.close (tie.spec returns returns-2)
+pub told_loop_spec : {M : Type 1} → statement M
+told_loop_spec = tie.close (tie.spec returns returns-2)
