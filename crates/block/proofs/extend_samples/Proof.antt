@@ -19,26 +19,26 @@ use Rattle.block.proofs.extend_samples.Tie as tie
 shorter-requires : tie.Need-shorter-requires
 shorter-requires c κs = search rules
 
-returns : tie.Need-returns
+returns : tie.Need-returns-then-shorter
 returns c =
     let a = c.before.before.before.before.before.args in
     join-14 a.first.now a.first-len a.first-coefficients a.second.now a.second-len a.second-coefficients a.out.now
-    (sym c.before.shorter.ensures ∙ c.if1.true)
+    (sym c.before.shorter.ensures ∙ c.if-shorter.true)
 
 -- the output is long enough
-enough : (c : tie.Else1) → let a = c.before.before.before.before.before.args in
+enough : (c : tie.Else-shorter) → let a = c.before.before.before.before.before.args in
     ltb (length a.out.now) (length a.first.now + length a.second.now) ≡ false
-enough c = sym c.before.shorter.ensures ∙ c.if1.false
+enough c = sym c.before.shorter.ensures ∙ c.if-shorter.false
 
-equal-coefficients-requires : tie.Need-equal-coefficients-requires
+equal-coefficients-requires : tie.Need-equal_coefficients-requires
 equal-coefficients-requires c κs = search rules
 
-returns-2 : tie.Need-returns-2
+returns-2 : tie.Need-returns-then-not-equal_coefficients
 returns-2 c =
     let e = c.before.before in
     let a = e.before.before.before.before.before.args in
     join-18 a.first.now a.first-len a.first-coefficients a.second.now a.second-len a.second-coefficients a.out.now (enough e)
-    (sym c.before.equal-coefficients.ensures ∙ not-true _ c.if2.true)
+    (sym c.before.equal_coefficients.ensures ∙ not-true _ c.if-not-equal_coefficients.true-raw)
 
 copy-requires : tie.Need-copy-requires
 copy-requires c κs =
@@ -53,13 +53,13 @@ copy-requires-2 c κs =
     let a = e.before.before.before.before.before.args in
     omega (arith, ltb-false (length a.out.now) (length a.first.now + length a.second.now) (enough e), simp length-sets at (ap length f.copy.ensures))
 
-add-t23 : tie.Need-overflow-add-t23
+add-t23 : tie.Need-overflow_add-result
 add-t23 c = search rules
 
-same_length : tie.Need-same-length
+same_length : tie.Need-shape_of-out
 same_length c = search rules
 
-returns-3 : tie.Need-returns-3
+returns-3 : tie.Need-returns
 returns-3 c =
     let d = c.before.before in
     let f = d.before.before.before.before in
@@ -67,14 +67,14 @@ returns-3 c =
     let e = t.before.before in
     let a = e.before.before.before.before.before.args in
     ap (λ (o : List ℕ). effect (accepted (a.first-len + a.second-len)) o)
-    (d.copy2.ensures
+    (d.copy-2.ensures
     ∙ ap (λ (o : List ℕ). sets o (length a.first.now) a.second.now) f.copy.ensures
     ∙ sets_then a.out.now 0 (length a.first.now) a.first.now a.second.now (sym (zero-add (length a.first.now))))
     ∙ join-done a.first.now a.first-len a.first-coefficients a.second.now a.second-len a.second-coefficients a.out.now (enough e)
-    (sym t.before.equal-coefficients.ensures ∙ not-false _ t.if2.false)
+    (sym t.before.equal_coefficients.ensures ∙ not-false _ t.if-not-equal_coefficients.false-raw)
 
-pub extend-samples-spec : {M : Type 1} → statement M
-extend-samples-spec =
+pub extend_samples_spec : {M : Type 1} → statement M
+extend_samples_spec =
     tie.close
     (tie.spec
     shorter-requires

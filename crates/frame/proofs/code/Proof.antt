@@ -12,5 +12,5 @@ seven CoefficientOutside = refl
 returns : tie.Need-returns
 returns c = seven c.args.refusal
 
-pub code-spec : {M : Type 1} → statement M
-code-spec = tie.close (tie.spec returns)
+pub code_spec : {M : Type 1} → statement M
+code_spec = tie.close (tie.spec returns)

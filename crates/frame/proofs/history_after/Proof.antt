@@ -18,44 +18,44 @@ use Rattle.frame.proofs.history_after.Tie as tie
 abbrev history : ℤ → ℤ → History
 history a b = record { newest = a; older = b }
 
-newest-fits : (c : tie.After-newest) → SFits w16 (get_or c.before.before.args.t2 (c.before.before.args.m - 1) (pos 0))
-newest-fits c = record { sfits = c.newest.given }
+newest-fits : (c : tie.After-newest-1) → SFits w16 (get_or c.before.before.args.samples (c.before.before.args.m - 1) (pos 0))
+newest-fits c = record { sfits = c.newest-1.given }
 
-returns : tie.Need-returns
-returns c = let s = c.before.args in history-none s.history s.t2 ∙ ap (history_after s.history s.t2) (sym c.if1.true)
+returns : tie.Need-returns-then-m-eq0
+returns c = let s = c.before.args in history-none s.history s.samples ∙ ap (history_after s.history s.samples) (sym c.if-m-eq0.true)
 
-sub-newest : tie.Need-overflow-sub-newest
+sub-newest : tie.Need-overflow_sub-newest
 sub-newest c = search rules
 
-mul-newest : tie.Need-overflow-mul-newest
+mul-newest : tie.Need-offset_bounds-samples-m
 mul-newest c = search rules
 
-array-copy-out-newest : tie.Need-array-copy-out-newest
+array-copy-out-newest : tie.Need-bounds-samples-m
 array-copy-out-newest c = search rules
 
-returns-2 : tie.Need-returns-2
+returns-2 : tie.Need-returns-then-m-eq1
 returns-2 c =
     let s = c.before.before.before.before.args in
-    let o : SFits w16 s.history.newest = record { sfits = c.struct_told.given.0.1 } in
-    ap₂ history (to_z-of_z (newest-fits c.before.before)) (to_z-of_z o) ∙ history-one s.history s.t2 s.m c.before.if2.true
+    let o : SFits w16 s.history.newest = record { sfits = c.struct_told-1.given.0.1 } in
+    ap₂ history (to_z-of_z (newest-fits c.before.before)) (to_z-of_z o) ∙ history-one s.history s.samples s.m c.before.if-m-eq1.true
 
-sub-older : tie.Need-overflow-sub-older
+sub-older : tie.Need-overflow_sub-older
 sub-older c = search rules
 
-mul-older : tie.Need-overflow-mul-older
+mul-older : tie.Need-offset_bounds-samples-m-2
 mul-older c = search rules
 
-array-copy-out-older : tie.Need-array-copy-out-older
+array-copy-out-older : tie.Need-bounds-samples-m-2
 array-copy-out-older c = search rules
 
-returns-3 : tie.Need-returns-3
+returns-3 : tie.Need-returns
 returns-3 c =
     let s = c.before.before.before.before.args in
-    let o : SFits w16 (get_or s.t2 (s.m - 2) (pos 0)) = record { sfits = c.older.given } in
-    ap₂ history (to_z-of_z (newest-fits c.before.before)) (to_z-of_z o) ∙ history-more s.history s.t2 s.m (omega arith)
+    let o : SFits w16 (get_or s.samples (s.m - 2) (pos 0)) = record { sfits = c.older-1.given } in
+    ap₂ history (to_z-of_z (newest-fits c.before.before)) (to_z-of_z o) ∙ history-more s.history s.samples s.m (omega arith)
 
-pub history-after-spec : {M : Type 1} → statement M
-history-after-spec =
+pub history_after_spec : {M : Type 1} → statement M
+history_after_spec =
     tie.close
     (tie.spec
     returns

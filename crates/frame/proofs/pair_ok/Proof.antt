@@ -11,5 +11,5 @@ returns : tie.Need-returns
 unfolding pair_ok
 returns c = rw (c.magnitudes.ensures, to_z-of_z c.before.ranges.c0, to_z-of_z c.before.ranges.c1)
 
-pub pair-ok-spec : {M : Type 1} → statement M
-pair-ok-spec = tie.close (tie.spec magnitudes-requires returns)
+pub pair_ok_spec : {M : Type 1} → statement M
+pair_ok_spec = tie.close (tie.spec magnitudes-requires returns)

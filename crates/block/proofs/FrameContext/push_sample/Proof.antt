@@ -10,8 +10,8 @@ returns : tie.Need-returns
 unfolding push_sample
 returns c =
     let s = c.before.before in
-    let f : SFits w16 s.args.self.last_samples.newest = record { sfits = c.struct_told.given.0.1 } in
+    let f : SFits w16 s.args.self.last_samples.newest = record { sfits = c.struct_told-1.given.0.1 } in
     rw (to_z-of_z s.ranges.sample, to_z-of_z f)
 
-pub push-sample-spec : {M : Type 1} → statement M
-push-sample-spec = tie.close (tie.spec returns)
+pub push_sample_spec : {M : Type 1} → statement M
+push_sample_spec = tie.close (tie.spec returns)

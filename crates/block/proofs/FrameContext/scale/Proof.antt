@@ -4,14 +4,14 @@ use Rattle.block.proofs.LawsContext.{scale-word}
 use Rattle.block.proofs.FrameContext.scale.Statement.{statement}
 use Rattle.block.proofs.FrameContext.scale.Tie as tie
 
-cast-result : tie.Need-overflow-cast-result
+cast-result : tie.Need-overflow_cast-result
 cast-result c = search rules
 
-shl-result : tie.Need-overflow-shl-result
+shl-result : tie.Need-overflow_shl-result
 shl-result c = search rules
 
 returns : tie.Need-returns
 returns c = scale-word c.before.args.self.predictor_and_scale
 
-pub scale-spec : {M : Type 1} → statement M
-scale-spec = tie.close (tie.spec cast-result shl-result returns)
+pub scale_spec : {M : Type 1} → statement M
+scale_spec = tie.close (tie.spec cast-result shl-result returns)

@@ -8,5 +8,5 @@ returns : tie.Need-returns
 unfolding with_header
 returns c = refl
 
-pub with-header-spec : {M : Type 1} → statement M
-with-header-spec = tie.close (tie.spec returns)
+pub with_header_spec : {M : Type 1} → statement M
+with_header_spec = tie.close (tie.spec returns)

@@ -6,5 +6,5 @@ use Rattle.block.proofs.coefficients.equal.Tie as tie
 returns : tie.Need-returns
 returns c = equal-bits c.args.x c.args.y c.ranges.x c.ranges.y
 
-pub equal-spec : {M : Type 1} → statement M
-equal-spec = tie.close (tie.spec returns)
+pub equal_spec : {M : Type 1} → statement M
+equal_spec = tie.close (tie.spec returns)

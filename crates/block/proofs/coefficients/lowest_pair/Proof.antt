@@ -12,71 +12,71 @@ use Rattle.block.proofs.LawsRefusals.{lowest-more}
 use Rattle.block.proofs.coefficients.lowest_pair.Statement.{statement}
 use Rattle.block.proofs.coefficients.lowest_pair.Tie as tie
 
-abbrev invariant-loop : tie.invariant-loop
+abbrev invariant-loop : tie.invariant-loop-k
 invariant-loop coefficients found₀ k₀ found k = (k ≤ 8) × (found ≡ lowest_among coefficients k)
 
-abbrev decreases-loop : tie.decreases-loop
+abbrev decreases-loop : tie.decreases-loop-k
 decreases-loop coefficients found₀ k₀ found k = 8 - k
 
-loop-holds : tie.Need-loop-init invariant-loop decreases-loop
+loop-holds : tie.Need-loop-k-init invariant-loop decreases-loop
 unfolding lowest_among
 loop-holds c = (omega arith, refl)
 
-mul-equal : tie.Need-overflow-mul-equal invariant-loop decreases-loop
+mul-equal : tie.Need-overflow_mul-k invariant-loop decreases-loop
 mul-equal c = omega arith
 
-mul-equal-2 : tie.Need-overflow-mul-equal-2 invariant-loop decreases-loop
+mul-equal-2 : tie.Need-offset_bounds-coefficients-k invariant-loop decreases-loop
 mul-equal-2 c = omega arith
 
-array-copy-out-equal : tie.Need-array-copy-out-equal invariant-loop decreases-loop
+array-copy-out-equal : tie.Need-bounds-coefficients-k invariant-loop decreases-loop
 array-copy-out-equal c = omega arith
 
-equal-requires : tie.Need-equal-requires invariant-loop decreases-loop
+equal-requires : tie.Need-equal-c0-requires invariant-loop decreases-loop
 equal-requires c κs = tt
 
-mul-equal-3 : tie.Need-overflow-mul-equal-3 invariant-loop decreases-loop
+mul-equal-3 : tie.Need-overflow_mul-k-in-loop-k invariant-loop decreases-loop
 mul-equal-3 c = omega arith
 
-add-equal : tie.Need-overflow-add-equal invariant-loop decreases-loop
+add-equal : tie.Need-overflow_add-k invariant-loop decreases-loop
 add-equal c = omega arith
 
-mul-equal-4 : tie.Need-overflow-mul-equal-4 invariant-loop decreases-loop
+mul-equal-4 : tie.Need-offset_bounds-coefficients-k-in-loop-k invariant-loop decreases-loop
 mul-equal-4 c = omega arith
 
-array-copy-out-equal-2 : tie.Need-array-copy-out-equal-2 invariant-loop decreases-loop
+array-copy-out-equal-2 : tie.Need-bounds-coefficients-k-in-loop-k invariant-loop decreases-loop
 array-copy-out-equal-2 c = omega arith
 
-equal-requires-2 : tie.Need-equal-requires-2 invariant-loop decreases-loop
+equal-requires-2 : tie.Need-equal-c1-requires invariant-loop decreases-loop
 equal-requires-2 c κs = tt
 
 both-requires : tie.Need-both-requires invariant-loop decreases-loop
 both-requires c κs = tt
 
-either-requires : tie.Need-either-requires invariant-loop decreases-loop
+either-requires : tie.Need-either-found-requires invariant-loop decreases-loop
 either-requires c κs = tt
 
-add-k : tie.Need-overflow-add-k invariant-loop decreases-loop
+add-k : tie.Need-overflow_add-k-in-loop-k invariant-loop decreases-loop
 add-k c = omega arith
 
-loop-less : tie.Need-loop-smaller invariant-loop decreases-loop
+loop-less : tie.Need-loop-k-smaller invariant-loop decreases-loop
 loop-less c = omega arith
 
-loop-again : tie.Need-loop-preserved invariant-loop decreases-loop
+loop-again : tie.Need-loop-k-preserved invariant-loop decreases-loop
 loop-again c =
     let l = c.before.before.before.before.before.before.before in
     let d = c.before.before in
-    let f : SFits w16 (get_or l.before.args.t1 (2 * l.loop.k) (pos 0)) = record { sfits = d.before.before.before.equal-arg.given } in
-    let g : SFits w16 (get_or l.before.args.t1 (2 * l.loop.k + 1) (pos 0)) = record { sfits = d.before.equal-arg2.given } in
-    let e = rw (to_z-of_z f) at d.before.before.equal.ensures in
-    let h = rw (to_z-of_z g) at d.equal2.ensures in
-    (omega arith, rw (lowest-more, c.either.ensures, c.before.both.ensures, e, h, l.loop.invariant.1))
+    let f : SFits w16 (get_or l.before.args.coefficients (2 * l.loop-k.k) (pos 0)) = record { sfits = d.before.before.before.equal-arg-1.given } in
+    let g : SFits w16 (get_or l.before.args.coefficients (2 * l.loop-k.k + 1) (pos 0)) = record { sfits = d.before.equal-arg-in-loop-k-1.given } in
+    let e = rw (to_z-of_z f) at d.before.before.equal-c0.ensures in
+    let h = rw (to_z-of_z g) at d.equal-c1.ensures in
+    (omega arith, rw (lowest-more, c.either-found.ensures, c.before.both.ensures, e, h, l.loop-k.invariant.1))
 
 returns : tie.Need-returns invariant-loop decreases-loop
 unfolding lowest_pair
-returns c = let e : c.before.loop.k ≡ 8 = omega arith in rw e at c.before.loop.invariant.1
+returns c = let e : c.before.loop-k.k ≡ 8 = omega arith in rw e at c.before.loop-k.invariant.1
 
-pub lowest-pair-spec : {M : Type 1} → statement M
-lowest-pair-spec =
+pub lowest_pair_spec : {M : Type 1} → statement M
+lowest_pair_spec =
     tie.close
     (tie.spec
     invariant-loop

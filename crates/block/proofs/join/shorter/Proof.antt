@@ -7,10 +7,10 @@ use Rattle.block.proofs.LawsRefusals.{ltb-same}
 use Rattle.block.proofs.join.shorter.Statement.{statement}
 use Rattle.block.proofs.join.shorter.Tie as tie
 
-returns : tie.Need-returns
+returns : tie.Need-returns-then-room-first
 returns c = sym (lt-ltb c.before.args.room (c.before.args.first + c.before.args.second) (omega arith))
 
-returns-2 : tie.Need-returns-2
+returns-2 : tie.Need-returns
 returns-2 c =
     let a = c.before.args in
     ltb-same (a.room - a.first) a.second a.room (a.first + a.second) (λ h. omega arith) (λ h. omega arith)

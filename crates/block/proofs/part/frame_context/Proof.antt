@@ -5,14 +5,14 @@ use Rattle.block.specs.Frame.{Playing}
 use Rattle.block.proofs.part.frame_context.Statement.{statement}
 use Rattle.block.proofs.part.frame_context.Tie as tie
 
-slice-aggregate-play-frame : tie.Need-slice-aggregate-play-frame
+slice-aggregate-play-frame : tie.Need-slice_bounds-play_frame-end
 slice-aggregate-play-frame c = search rules
 
-play-frame-requires : tie.Need-play-frame-requires
+play-frame-requires : tie.Need-play_frame-requires
 play-frame-requires c κs = search rules
 
 returns : tie.Need-returns
-returns c = ap (λ (x : Playing). x.context) c.before.play-frame.ensures
+returns c = ap (λ (x : Playing). x.context) c.before.play_frame.ensures
 
-pub frame-context-spec : {M : Type 1} → statement M
-frame-context-spec = tie.close (tie.spec slice-aggregate-play-frame play-frame-requires returns)
+pub frame_context_spec : {M : Type 1} → statement M
+frame_context_spec = tie.close (tie.spec slice-aggregate-play-frame play-frame-requires returns)

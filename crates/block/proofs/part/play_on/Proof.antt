@@ -13,13 +13,13 @@ use Rattle.block.proofs.part.play_on.Tie as tie
 room : (c : tie.Start) → c.args.from + (16 - c.args.from % 16) ≤ c.args.len → 16 - c.args.from % 16 ≤ length c.args.out.now
 room c h = room-frame c.args.from c.args.len (length c.args.out.now) c.requires.0 h c.requires.3
 
-sub-rest : tie.Need-overflow-sub-rest
+sub-rest : tie.Need-overflow_sub-rest
 sub-rest c = search rules
 
-sub-if1 : tie.Need-overflow-sub-if1
+sub-if1 : tie.Need-overflow_sub-len
 sub-if1 c = search rules
 
-play-rest-requires : tie.Need-play-rest-requires
+play-rest-requires : tie.Need-play_rest-requires
 play-rest-requires c κs =
     let s = c.before.before.before in
     let p = s.requires in
@@ -27,53 +27,53 @@ play-rest-requires c κs =
     let e : a.len ≤ 16 * (a.from / 16) + 16 = omega arith in
     (p.0, p.1, e, p.2, room-rest a.from a.len (length a.out.now) p.0 (omega arith) e p.3)
 
-same_length : tie.Need-same-length
+same_length : tie.Need-shape_of-out-then-len-from
 same_length c = search rules
 
-returns : tie.Need-returns
+returns : tie.Need-returns-then-len-from
 returns c = search rules
 
-add-end : tie.Need-overflow-add-end
+add-end : tie.Need-overflow_add-end
 add-end c = search rules
 
-play-rest-requires-2 : tie.Need-play-rest-requires-2
+play-rest-requires-2 : tie.Need-play_rest-after-requires
 play-rest-requires-2 c κs =
     let s = c.before.before.before in
     let p = s.requires in
     let q = room s (omega arith) in
     (p.0, omega arith, omega arith, omega arith, omega (arith, q))
 
-shared-slice-read-with-header : tie.Need-shared-slice-read-with-header
+shared-slice-read-with-header : tie.Need-bounds-bytes-end
 shared-slice-read-with-header c = search rules
 
-with-header-requires : tie.Need-with-header-requires
+with-header-requires : tie.Need-with_header-next-requires
 with-header-requires c κs = search rules
 
-sub-play-into : tie.Need-overflow-sub-play-into
+sub-play-into : tie.Need-slice_bounds-play_into-count
 sub-play-into c = search rules
 
-part-play-into-start : tie.Need-slice-bounds-play-into-start
+part-play-into-start : tie.Need-slice_bounds-play_into-start
 part-play-into-start c = search rules
 
-part-play-into-end : tie.Need-slice-bounds-play-into-end
+part-play-into-end : tie.Need-slice_bounds-play_into-end
 part-play-into-end c = search rules
 
-sub-play-into-2 : tie.Need-overflow-sub-play-into-2
+sub-play-into-2 : tie.Need-overflow_sub-len-2
 sub-play-into-2 c = search rules
 
-mul-play-into : tie.Need-overflow-mul-play-into
+mul-play-into : tie.Need-offset_bounds-out-rest
 mul-play-into c = search rules
 
-sub-play-into-3 : tie.Need-overflow-sub-play-into-3
-sub-play-into-3 c = let o = c.before.before.before in let q = room o.before.before.before.before.before (omega arith) in omega (arith, q, o.out2.given)
+sub-play-into-3 : tie.Need-slice_bounds-play_into-count-2
+sub-play-into-3 c = let o = c.before.before.before in let q = room o.before.before.before.before.before (omega arith) in omega (arith, q, o.out-2-1.given)
 
-part-play-into-start-2 : tie.Need-slice-bounds-play-into-start-2
-part-play-into-start-2 c = let o = c.before.before.before in let q = room o.before.before.before.before.before (omega arith) in omega (arith, q, o.out2.given)
+part-play-into-start-2 : tie.Need-slice_bounds-play_into-start-2
+part-play-into-start-2 c = let o = c.before.before.before in let q = room o.before.before.before.before.before (omega arith) in omega (arith, q, o.out-2-1.given)
 
-part-play-into-end-2 : tie.Need-slice-bounds-play-into-end-2
+part-play-into-end-2 : tie.Need-slice_bounds-play_into-end-2
 part-play-into-end-2 c = search rules
 
-play-into-requires : tie.Need-play-into-requires
+play-into-requires : tie.Need-play_into-requires
 play-into-requires c κs =
     let w = c.before.before in
     let o = w.before.before in
@@ -83,25 +83,25 @@ play-into-requires c κs =
     let b = ap length (part-all a.bytes.now ((a.from + rest) / 2)) ∙ length-drop ((a.from + rest) / 2) a.bytes.now in
     let p = s.requires in
     let l = room-later a.from a.len (length a.out.now) p.0 (omega arith) p.3 in
-    let left = o.before.play-rest2.new.1.1.1.1.1.0 in
+    let left = o.before.play_rest-after.new.1.1.1.1.1.0 in
     let d = ap length (part-all left rest) ∙ length-drop rest left in
-    (omega arith, omega (arith, b, p.2), omega (arith, l, d, o.out2.given))
+    (omega arith, omega (arith, b, p.2), omega (arith, l, d, o.out-2-1.given))
 
-same-length-2 : tie.Need-same-length-2
+same-length-2 : tie.Need-shape_of-out
 same-length-2 c = search rules
 
-returns-2 : tie.Need-returns-2
+returns-2 : tie.Need-returns
 returns-2 c =
     let p = c.before in
     let w = p.before.before.before in
     let r = w.before.before.before in
     let s = r.before.before.before.before in
     let a = s.args in
-    on-made a.bytes.now a.coefficients a.from a.len a.context r.play-rest2.result w.with-header.result p.play-into.result a.out.now _ _
-    s.requires.0 (omega arith) s.requires.3 r.play-rest2.ensures w.with-header.ensures p.play-into.ensures
+    on-made a.bytes.now a.coefficients a.from a.len a.context r.play_rest-after.result w.with_header-next.result p.play_into.result a.out.now _ _
+    s.requires.0 (omega arith) s.requires.3 r.play_rest-after.ensures w.with_header-next.ensures p.play_into.ensures
 
-pub play-on-spec : {M : Type 1} → statement M
-play-on-spec =
+pub play_on_spec : {M : Type 1} → statement M
+play_on_spec =
     tie.close
     (tie.spec
     sub-rest

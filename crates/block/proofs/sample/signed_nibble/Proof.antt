@@ -8,22 +8,22 @@ use Rattle.whole.specs.Whole.{signed_nibble}
 use Rattle.block.proofs.sample.signed_nibble.Statement.{statement}
 use Rattle.block.proofs.sample.signed_nibble.Tie as tie
 
-cast-result : tie.Need-overflow-cast-result
+cast-result : tie.Need-overflow_cast-result
 cast-result c = search rules
 
-returns : tie.Need-returns
+returns : tie.Need-returns-then-nibble-lt8
 unfolding signed_nibble
-returns c = rw (lt-ltb _ _ c.if1.true) (is-nat w64 c.before.args.nibble 15 (omega arith) tt).is
+returns c = rw (lt-ltb _ _ c.if-nibble-lt8.true) (is-nat w64 c.before.args.nibble 15 (omega arith) tt).is
 
-cast-result-2 : tie.Need-overflow-cast-result-2
+cast-result-2 : tie.Need-overflow_cast-result-2
 cast-result-2 c = search rules
 
-sub-result : tie.Need-overflow-sub-result
+sub-result : tie.Need-overflow_sub-result
 sub-result c = chk-sub (is-nat w64 c.before.args.nibble 15 (omega arith) tt) (is-lit w64 16 tt) tt
 
-returns-2 : tie.Need-returns-2
+returns-2 : tie.Need-returns
 unfolding signed_nibble
-returns-2 c = rw (le-ltb _ _ c.if1.false) (is-sub (is-nat w64 c.before.args.nibble 15 (omega arith) tt) (is-lit w64 16 tt) tt).is
+returns-2 c = rw (le-ltb _ _ c.if-nibble-lt8.false) (is-sub (is-nat w64 c.before.args.nibble 15 (omega arith) tt) (is-lit w64 16 tt) tt).is
 
-pub signed-nibble-spec : {M : Type 1} → statement M
-signed-nibble-spec = tie.close (tie.spec cast-result returns cast-result-2 sub-result returns-2)
+pub signed_nibble_spec : {M : Type 1} → statement M
+signed_nibble_spec = tie.close (tie.spec cast-result returns cast-result-2 sub-result returns-2)

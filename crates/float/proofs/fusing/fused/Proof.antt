@@ -7,40 +7,40 @@ use Rattle.float.proofs.Decomposition.{product-justified, addend-justified, fuse
 use Rattle.float.proofs.fusing.fused.Statement.{statement}
 use Rattle.float.proofs.fusing.fused.Tie as tie
 
-decomposed-requires : tie.Need-decomposed-requires
+decomposed-requires : tie.Need-decomposed-x-requires
 decomposed-requires c κs = search rules
 
-decomposed-requires-2 : tie.Need-decomposed-requires-2
+decomposed-requires-2 : tie.Need-decomposed-y-requires
 decomposed-requires-2 c κs = search rules
 
-decomposed-requires-3 : tie.Need-decomposed-requires-3
+decomposed-requires-3 : tie.Need-decomposed-z-requires
 decomposed-requires-3 c κs = search rules
 
-mul-wide-mul : tie.Need-overflow-mul-wide-mul
+mul-wide-mul : tie.Need-overflow_mul-x
 mul-wide-mul c = search rules
 
-mul-wide-mul-2 : tie.Need-overflow-mul-wide-mul-2
+mul-wide-mul-2 : tie.Need-overflow_mul-y
 mul-wide-mul-2 c = search rules
 
-wide-mul-requires : tie.Need-wide-mul-requires
+wide-mul-requires : tie.Need-wide_mul-p-requires
 wide-mul-requires c κs = search rules
 
-add-aligned-sum : tie.Need-overflow-add-aligned-sum
+add-aligned-sum : tie.Need-overflow_add-x
 add-aligned-sum c = search rules
 
-mul-aligned-sum : tie.Need-overflow-mul-aligned-sum
+mul-aligned-sum : tie.Need-overflow_mul-z
 mul-aligned-sum c = search rules
 
-add-aligned-sum-2 : tie.Need-overflow-add-aligned-sum-2
+add-aligned-sum-2 : tie.Need-overflow_add-z
 add-aligned-sum-2 c = search rules
 
-aligned-sum-requires : tie.Need-aligned-sum-requires
+aligned-sum-requires : tie.Need-aligned_sum-requires
 aligned-sum-requires c κs =
-    let q = c.before.before.before.before.wide-mul in
+    let q = c.before.before.before.before.wide_mul-p in
     let k = c.before.before.before.before.before.before.before in
-    let z = k.decomposed3 in
-    let y = k.before.decomposed2 in
-    let x = k.before.before.decomposed in (
+    let z = k.decomposed-z in
+    let y = k.before.decomposed-y in
+    let x = k.before.before.decomposed-x in (
       subst (λ (n : ℕ). LeftJustified n) (sym q.ensures) (product-justified x.result.m y.result.m x.ensures.least x.ensures.most y.ensures.least y.ensures.most),
       addend-justified z.result.m z.ensures.least z.ensures.most,
       sum_lt x.result.e y.result.e x.ensures.low y.ensures.low,
@@ -55,11 +55,11 @@ aligned-sum-requires c κs =
 
 returns : tie.Need-returns
 returns c =
-    let q = c.before.before.before.before.before.wide-mul in
+    let q = c.before.before.before.before.before.wide_mul-p in
     let k = c.before.before.before.before.before.before.before.before in
-    let z = k.decomposed3 in
-    let y = k.before.decomposed2 in
-    let x = k.before.before.decomposed in
+    let z = k.decomposed-z in
+    let y = k.before.decomposed-y in
+    let x = k.before.before.decomposed-x in
     let a = k.before.before.before.args in
     let s = leb (2 ^ 63) a.a in
     let t = leb (2 ^ 63) a.b in
@@ -70,8 +70,8 @@ returns c =
     (fused-law (of_bits binary64 a.a) (of_bits binary64 a.b) (of_bits binary64 a.c) s t r x.result.m x.result.e y.result.m y.result.e z.result.m z.result.e
     x.ensures y.ensures z.ensures)
 
-pub fused-spec : {M : Type 1} → statement M
-fused-spec =
+pub fused_spec : {M : Type 1} → statement M
+fused_spec =
     tie.close
     (tie.spec
     decomposed-requires

@@ -8,48 +8,48 @@ use Rattle.float.proofs.packing.rounded.Tie as tie
 pattern-requires : tie.Need-pattern-requires
 pattern-requires c κs = (zero-le, inl refl)
 
-sub-nearest-even : tie.Need-overflow-sub-nearest-even
+sub-nearest-even : tie.Need-overflow_sub-x
 sub-nearest-even c = search rules
 
-nearest-even-requires : tie.Need-nearest-even-requires
+nearest-even-requires : tie.Need-nearest_even-requires
 nearest-even-requires c κs = search rules
 
-pattern-requires-2 : tie.Need-pattern-requires-2
+pattern-requires-2 : tie.Need-pattern-requires-then-x-lt1251
 pattern-requires-2 c κs =
     let a = c.before.before.before in
-    (subst (λ (z : ℕ). z ≤ 2 ^ 53) (sym c.nearest-even.ensures) (closest-le a.args.w (1262 - a.args.x) a.ranges.w.fits (omega arith)), inl refl)
+    (subst (λ (z : ℕ). z ≤ 2 ^ 53) (sym c.nearest_even.ensures) (closest-le a.args.w (1262 - a.args.x) a.ranges.w.fits (omega arith)), inl refl)
 
-nearest-even-53-requires : tie.Need-nearest-even-53-requires
+nearest-even-53-requires : tie.Need-nearest_even_53-requires
 nearest-even-53-requires c κs = search rules
 
-pattern-requires-3 : tie.Need-pattern-requires-3
+pattern-requires-3 : tie.Need-pattern-requires-else-x-lt1251
 pattern-requires-3 c κs =
     let a = c.before.before.before in (
-      subst (λ (z : ℕ). z ≤ 2 ^ 53) (sym c.nearest-even-53.ensures) (closest-le a.args.w 11 a.ranges.w.fits (omega arith)),
-      inr (subst (λ (z : ℕ). 2 ^ 52 ≤ z) (sym c.nearest-even-53.ensures) (closest-ge a.args.w a.requires.0)),
+      subst (λ (z : ℕ). z ≤ 2 ^ 53) (sym c.nearest_even_53.ensures) (closest-le a.args.w 11 a.ranges.w.fits (omega arith)),
+      inr (subst (λ (z : ℕ). 2 ^ 52 ≤ z) (sym c.nearest_even_53.ensures) (closest-ge a.args.w a.requires.0)),
     )
 
-returns : tie.Need-returns
+returns : tie.Need-returns-then-x-lt1198
 returns c m j =
     let a = c.before.before in
-    c.pattern.ensures ∙ ap (to_bits binary64) (sym (at_none a.args.neg m a.args.w a.args.x j a.requires.0 a.ranges.w.fits c.before.if1.true))
+    c.pattern.ensures ∙ ap (to_bits binary64) (sym (at_none a.args.neg m a.args.w a.args.x j a.requires.0 a.ranges.w.fits c.before.if-x-lt1198.true))
 
-returns-2 : tie.Need-returns-2
+returns-2 : tie.Need-returns-then-x-lt1251
 returns-2 c m j =
     let a = c.before.before.before.before in
-    c.pattern2.ensures
-    ∙ ap (λ (z : ℕ). to_bits binary64 (units binary64 a.args.neg z 0)) c.before.nearest-even.ensures
-    ∙ ap (to_bits binary64) (sym (at_low a.args.neg m a.args.w a.args.x j a.requires.0 a.ranges.w.fits c.before.before.if2.true))
+    c.pattern-then-x-lt1251.ensures
+    ∙ ap (λ (z : ℕ). to_bits binary64 (units binary64 a.args.neg z 0)) c.before.nearest_even.ensures
+    ∙ ap (to_bits binary64) (sym (at_low a.args.neg m a.args.w a.args.x j a.requires.0 a.ranges.w.fits c.before.before.if-x-lt1251.true))
 
-returns-3 : tie.Need-returns-3
+returns-3 : tie.Need-returns-else-x-lt1251
 returns-3 c m j =
     let a = c.before.before.before.before in
-    c.pattern3.ensures
-    ∙ ap (λ (z : ℕ). to_bits binary64 (units binary64 a.args.neg z (a.args.x - 1251))) c.before.nearest-even-53.ensures
-    ∙ ap (to_bits binary64) (sym (at-normal a.args.neg m a.args.w a.args.x j a.requires.0 a.ranges.w.fits c.before.before.if2.false))
+    c.pattern-else-x-lt1251.ensures
+    ∙ ap (λ (z : ℕ). to_bits binary64 (units binary64 a.args.neg z (a.args.x - 1251))) c.before.nearest_even_53.ensures
+    ∙ ap (to_bits binary64) (sym (at-normal a.args.neg m a.args.w a.args.x j a.requires.0 a.ranges.w.fits c.before.before.if-x-lt1251.false))
 
-pub rounded-spec : {M : Type 1} → statement M
-rounded-spec =
+pub rounded_spec : {M : Type 1} → statement M
+rounded_spec =
     tie.close
     (tie.spec
     pattern-requires

@@ -7,15 +7,15 @@ use Rattle.float.proofs.two_words.merged.Tie as tie
 flipped-requires : tie.Need-flipped-requires
 flipped-requires c κs = search rules
 
-carried-requires : tie.Need-carried-requires
+carried-requires : tie.Need-carried-s-requires
 carried-requires c κs = search rules
 
-add-carried : tie.Need-overflow-add-carried
+add-carried : tie.Need-overflow_add-ah
 add-carried c =
     let a = c.before.before.before in
-    let s = c.before.carried in
+    let s = c.before.carried-s in
     let x = c.before.before.flipped in
-    record { fits = bound a.args.ah s.result.hi a.requires.0 (carry-le s.result.hi s.result.lo a.args.al x.result s.ensures a.ranges.al.fits x.type-inv) }
+    record { fits = bound a.args.ah s.result.hi a.requires.0 (carry-le s.result.hi s.result.lo a.args.al x.result s.ensures a.ranges.al.fits x.type_inv) }
   where
     bound : (a c : ℕ) → a < 2 ^ 62 → c ≤ 1 → a + c < 2 ^ 64
     bound a c h k = omega arith
@@ -23,7 +23,7 @@ add-carried c =
 flipped-requires-2 : tie.Need-flipped-requires-2
 flipped-requires-2 c κs = search rules
 
-carried-requires-2 : tie.Need-carried-requires-2
+carried-requires-2 : tie.Need-carried-t-requires
 carried-requires-2 c κs = search rules
 
 flipped-requires-3 : tie.Need-flipped-requires-3
@@ -32,22 +32,22 @@ flipped-requires-3 c κs = search rules
 missing-requires : tie.Need-missing-requires
 missing-requires c κs = search rules
 
-carried-requires-3 : tie.Need-carried-requires-3
+carried-requires-3 : tie.Need-carried-w-requires
 carried-requires-3 c κs = search rules
 
 flipped-requires-4 : tie.Need-flipped-requires-4
 flipped-requires-4 c κs = search rules
 
-add-t11 : tie.Need-overflow-add-t11
+add-t11 : tie.Need-overflow_add-result
 add-t11 c =
-    let t = c.before.before.before.before.before.before.carried2.result.lo in
-    let w = c.before.before.carried3 in
-    let y = c.before.before.before.before.flipped3 in
+    let t = c.before.before.before.before.before.before.carried-t.result.lo in
+    let w = c.before.before.carried-w in
+    let y = c.before.before.before.before.flipped-3 in
     let o = c.before.before.before.missing in
-    let z = c.before.flipped4 in
+    let z = c.before.flipped-4 in
     record {
       fits = bound z.result w.result.hi (flip_top (leb (2 ^ 63) t) t z.result refl z.ensures)
-          (carry-le w.result.hi w.result.lo y.result o.result w.ensures y.type-inv o.type-inv);
+          (carry-le w.result.hi w.result.lo y.result o.result w.ensures y.type_inv o.type_inv);
     }
   where
     bound : (a c : ℕ) → a < 2 ^ 63 → c ≤ 1 → a + c < 2 ^ 64
@@ -58,22 +58,22 @@ returns c =
     let k = c.before.before.before.before.before in
     let l = k.before.before.before in
     let x = l.before.before.flipped in
-    let s = l.before.carried in
-    let y = k.before.before.flipped2 in
-    let t = k.before.carried2 in
-    let u = c.before.before.before.before.flipped3 in
-    let v = c.before.flipped4 in
+    let s = l.before.carried-s in
+    let y = k.before.before.flipped-2 in
+    let t = k.before.carried-t in
+    let u = c.before.before.before.before.flipped-3 in
+    let v = c.before.flipped-4 in
     let o = c.before.before.before.missing in
-    let w = c.before.before.carried3 in
+    let w = c.before.before.carried-w in
     let b = l.before.before.before in
     let a = b.args in
     merge-law a.ah a.al a.bh a.bl s.result.hi s.result.lo t.result.hi t.result.lo
-    b.requires.0 b.requires.1 b.ranges.al.fits b.ranges.bl.fits l.struct_known.given.1.0.fits k.struct-known2.given.1.0.fits
+    b.requires.0 b.requires.1 b.ranges.al.fits b.ranges.bl.fits l.struct_known-1.given.1.0.fits k.struct_known-2-1.given.1.0.fits
     a.apart (leb (2 ^ 63) t.result.lo) x.result y.result u.result v.result o.result w.result.hi w.result.lo
     x.ensures y.ensures s.ensures t.ensures refl u.ensures v.ensures o.ensures w.ensures
 
-pub merged-spec : {M : Type 1} → statement M
-merged-spec =
+pub merged_spec : {M : Type 1} → statement M
+merged_spec =
     tie.close
     (tie.spec
     flipped-requires

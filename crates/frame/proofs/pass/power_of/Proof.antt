@@ -5,14 +5,14 @@ use Rattle.whole.proofs.SignedLocals.{is-one-shl}
 use Rattle.frame.proofs.pass.power_of.Statement.{statement}
 use Rattle.frame.proofs.pass.power_of.Tie as tie
 
-cast-result : tie.Need-overflow-cast-result
+cast-result : tie.Need-overflow_cast-result
 cast-result c = search rules
 
-shl-result : tie.Need-overflow-shl-result
+shl-result : tie.Need-overflow_shl-result
 shl-result c = search rules
 
 returns : tie.Need-returns
 returns c = (is-one-shl w64 c.args.p 12 c.requires tt).is
 
-pub power-of-spec : {M : Type 1} → statement M
-power-of-spec = tie.close (tie.spec cast-result shl-result returns)
+pub power_of_spec : {M : Type 1} → statement M
+power_of_spec = tie.close (tie.spec cast-result shl-result returns)

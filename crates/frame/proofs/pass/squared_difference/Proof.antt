@@ -15,24 +15,24 @@ up z = of_z w64 (to_z w16 (of_z w16 z))
 d-is : (c : tie.Start) → Is w64 (of_z w64 (to_z w64 (up c.args.x) -ℤ to_z w64 (up c.args.y))) (c.args.x -ℤ c.args.y) 65536
 d-is c = is-sub (is-16 c.ranges.x) (is-16 c.ranges.y) tt
 
-cast-d : tie.Need-overflow-cast-d
+cast-d : tie.Need-overflow_cast-d
 cast-d c = chk-cast (is-in c.ranges.x) tt
 
-cast-d-2 : tie.Need-overflow-cast-d-2
+cast-d-2 : tie.Need-overflow_cast-d-2
 cast-d-2 c = chk-cast (is-in c.ranges.y) tt
 
-sub-d : tie.Need-overflow-sub-d
+sub-d : tie.Need-overflow_sub-d
 sub-d c = chk-sub (is-16 c.ranges.x) (is-16 c.ranges.y) tt
 
-mul-result : tie.Need-overflow-mul-result
+mul-result : tie.Need-overflow_mul-result
 mul-result c = chk-mul (d-is c) (d-is c) tt
 
-cast-result : tie.Need-overflow-cast-result
+cast-result : tie.Need-overflow_cast-result
 cast-result c = chk-cast-u (is_eq (is_mul (d-is c) (d-is c) tt) (mul-self (c.args.x -ℤ c.args.y))) tt
 
 returns : tie.Need-returns
 unfolding squared_difference
 returns c = is-cast-u (is_eq (is_mul (d-is c) (d-is c) tt) (mul-self (c.args.x -ℤ c.args.y)))
 
-pub squared-difference-spec : {M : Type 1} → statement M
-squared-difference-spec = tie.close (tie.spec cast-d cast-d-2 sub-d mul-result cast-result returns)
+pub squared_difference_spec : {M : Type 1} → statement M
+squared_difference_spec = tie.close (tie.spec cast-d cast-d-2 sub-d mul-result cast-result returns)

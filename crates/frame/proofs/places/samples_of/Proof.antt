@@ -13,51 +13,51 @@ use Rattle.frame.proofs.places.samples_of.Statement.{statement}
 use Rattle.frame.proofs.places.samples_of.Tie as tie
 use Rattle.frame.proofs.places.samples_of.Lts as lts
 
-abbrev invariant-loop : tie.invariant-loop
+abbrev invariant-loop : tie.invariant-loop-i
 invariant-loop frame out₀ i₀ out i = (i ≤ 14) × (out ≡ take i (drop 2 frame) ++ replicate (14 - i) (pos 0))
 
-abbrev decreases-loop : tie.decreases-loop
+abbrev decreases-loop : tie.decreases-loop-i
 decreases-loop frame out₀ i₀ out i = 14 - i
 
-loop-holds : tie.Need-loop-init invariant-loop decreases-loop
+loop-holds : tie.Need-loop-i-init invariant-loop decreases-loop
 loop-holds c = (omega arith, refl)
 
-add-x : tie.Need-overflow-add-x invariant-loop decreases-loop
+add-x : tie.Need-overflow_add-x invariant-loop decreases-loop
 add-x c = omega arith
 
-mul-x : tie.Need-overflow-mul-x invariant-loop decreases-loop
+mul-x : tie.Need-offset_bounds-frame-i invariant-loop decreases-loop
 mul-x c = omega arith
 
-element-copy-out-x : tie.Need-element-copy-out-x invariant-loop decreases-loop
+element-copy-out-x : tie.Need-bounds-frame-i invariant-loop decreases-loop
 element-copy-out-x c = omega arith
 
-mul-out : tie.Need-overflow-mul-out invariant-loop decreases-loop
+mul-out : tie.Need-offset_bounds-out-i invariant-loop decreases-loop
 mul-out c = omega arith
 
-array-set-from-out : tie.Need-array-set-from-out invariant-loop decreases-loop
+array-set-from-out : tie.Need-bounds-out-i invariant-loop decreases-loop
 array-set-from-out c = omega arith
 
-add-i : tie.Need-overflow-add-i invariant-loop decreases-loop
+add-i : tie.Need-overflow_add-i invariant-loop decreases-loop
 add-i c = omega arith
 
-loop-less : tie.Need-loop-smaller invariant-loop decreases-loop
+loop-less : tie.Need-loop-i-smaller invariant-loop decreases-loop
 loop-less c = omega arith
 
-loop-again : tie.Need-loop-preserved invariant-loop decreases-loop
+loop-again : tie.Need-loop-i-preserved invariant-loop decreases-loop
 loop-again c =
-    let l = c.before.before.loop in
-    let f : SFits w16 (get_or c.before.before.before.args.frame.now (l.i + 2) (pos 0)) = record { sfits = c.x.given } in (
+    let l = c.before.before.loop-i in
+    let f : SFits w16 (get_or c.before.before.before.args.frame.now (l.i + 2) (pos 0)) = record { sfits = c.x-1.given } in (
       omega arith,
       rw (to_z-of_z f, l.invariant.1) (samples-more c.before.before.before.args.frame.now l.i c.before.before.before.requires.length-is (omega arith)),
     )
 
 returns : tie.Need-returns invariant-loop decreases-loop
 returns c =
-    let l = c.before.loop in
-    rw l.invariant.1 (samples-done c.before.before.args.frame.now l.i c.loop-test.false l.invariant.0)
+    let l = c.before.loop-i in
+    rw l.invariant.1 (samples-done c.before.before.args.frame.now l.i c.loop-i-test.false l.invariant.0)
 
-pub samples-of-spec : {M : Type 1} → statement M
-samples-of-spec =
+pub samples_of_spec : {M : Type 1} → statement M
+samples_of_spec =
     tie.close
     (tie.spec
     invariant-loop

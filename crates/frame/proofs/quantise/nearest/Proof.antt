@@ -20,60 +20,60 @@ d-is c = is-sized c.args.d c.requires.0 tt
 half_is : (c : tie.Start) → Is w64 (of_z w64 (pos 1024 *ℤ to_z w64 ((1 * 2 ^ c.args.p) % 18446744073709551616))) (pos 1024 *ℤ pos (2 ^ c.args.p)) 4194304
 half_is c = is_mul (is-lit w64 1024 tt) (is-one-shl w64 c.args.p 12 c.requires.1 tt) tt
 
-cast-half : tie.Need-overflow-cast-half
+cast-half : tie.Need-overflow_cast-half
 cast-half c = search rules
 
-shl-half : tie.Need-overflow-shl-half
+shl-half : tie.Need-overflow_shl-half
 shl-half c = search rules
 
-mul-half : tie.Need-overflow-mul-half
+mul-half : tie.Need-overflow_mul-half
 mul-half c = chk-mul (is-lit w64 1024 tt) (is-one-shl w64 c.args.p 12 c.requires.1 tt) tt
 
-add-result : tie.Need-overflow-add-result
+add-result : tie.Need-overflow_add-result
 add-result c = chk-add (d-is c.before) (half_is c.before) tt
 
-sub-result : tie.Need-overflow-sub-result
+sub-result : tie.Need-overflow_sub-result
 sub-result c = chk-sub (is-add (d-is c.before) (half_is c.before) tt) (is-lit w64 1 tt) tt
 
-add-result-2 : tie.Need-overflow-add-result-2
+add-result-2 : tie.Need-overflow_add-result-then-d-gt0
 add-result-2 c = search rules
 
-cast-result : tie.Need-overflow-cast-result
+cast-result : tie.Need-overflow_cast-result
 cast-result c = search rules
 
-shr-result : tie.Need-overflow-shr-result
+shr-result : tie.Need-overflow_shr-result
 shr-result c = search rules
 
-returns : tie.Need-returns
+returns : tie.Need-returns-then-d-gt0
 returns c =
     let s = c.before in
     let p = s.args.p in
     (is-shr (is-sub (is-add (d-is s) (half_is s) tt) (is-lit w64 1 tt) tt) (2 ^ (p + 11)) tt).is
     ∙ ap (λ (m : ℕ). shr_z (s.args.d +ℤ pos (1024 * 2 ^ p) -ℤ pos 1) m) (scale-is p)
-    ∙ down_pos s.args.d (2048 * 2 ^ p) (1024 * 2 ^ p) (omega (arith, pow_pos p)) (omega arith) (rw (to_z-of_z s.ranges.d) at c.if1.true)
+    ∙ down_pos s.args.d (2048 * 2 ^ p) (1024 * 2 ^ p) (omega (arith, pow_pos p)) (omega arith) (rw (to_z-of_z s.ranges.d) at c.if-d-gt0.true)
 
-add-result-3 : tie.Need-overflow-add-result-3
+add-result-3 : tie.Need-overflow_add-result-2
 add-result-3 c = chk-add (d-is c.before) (half_is c.before) tt
 
-add-result-4 : tie.Need-overflow-add-result-4
+add-result-4 : tie.Need-overflow_add-result-3
 add-result-4 c = search rules
 
-cast-result-2 : tie.Need-overflow-cast-result-2
+cast-result-2 : tie.Need-overflow_cast-result-2
 cast-result-2 c = search rules
 
-shr-result-2 : tie.Need-overflow-shr-result-2
+shr-result-2 : tie.Need-overflow_shr-result-2
 shr-result-2 c = search rules
 
-returns-2 : tie.Need-returns-2
+returns-2 : tie.Need-returns
 returns-2 c =
     let s = c.before in
     let p = s.args.p in
     (is-shr (is-add (d-is s) (half_is s) tt) (2 ^ (p + 11)) tt).is
     ∙ ap (λ (m : ℕ). shr_z (s.args.d +ℤ pos (1024 * 2 ^ p)) m) (scale-is p)
-    ∙ down-neg s.args.d (2048 * 2 ^ p) (1024 * 2 ^ p) (omega (arith, pow_pos p)) (omega arith) (rw (to_z-of_z s.ranges.d) at c.if1.false)
+    ∙ down-neg s.args.d (2048 * 2 ^ p) (1024 * 2 ^ p) (omega (arith, pow_pos p)) (omega arith) (rw (to_z-of_z s.ranges.d) at c.if-d-gt0.false)
 
-pub nearest-spec : {M : Type 1} → statement M
-nearest-spec =
+pub nearest_spec : {M : Type 1} → statement M
+nearest_spec =
     tie.close
     (tie.spec
     cast-half

@@ -14,28 +14,28 @@ half_is c = one_shl (c.args.k - 1) 8 (omega arith) tt
 half_le : (c : tie.Start) → 2 ^ (c.args.k - 1) ≤ 2 ^ 8
 half_le c = let h : c.args.k - 1 ≤ 8 = omega arith in pow_mono h
 
-shr-q : tie.Need-overflow-shr-q
+shr-q : tie.Need-overflow_shr-q
 shr-q c = search rules
 
-sub-half : tie.Need-overflow-sub-half
+sub-half : tie.Need-overflow_sub-half
 sub-half c = search rules
 
-cast-half : tie.Need-overflow-cast-half
+cast-half : tie.Need-overflow_cast-half
 cast-half c = search rules
 
-shl-half : tie.Need-overflow-shl-half
+shl-half : tie.Need-overflow_shl-half
 shl-half c = search rules
 
-add-result : tie.Need-overflow-add-result
+add-result : tie.Need-overflow_add-result
 add-result c = rw (half_is c) (omega (arith, half_le c))
 
-sub-result : tie.Need-overflow-sub-result
+sub-result : tie.Need-overflow_sub-result
 sub-result c = rw (half_is c) (omega (arith, pow_pos (c.args.k - 1)))
 
-add-result-2 : tie.Need-overflow-add-result-2
+add-result-2 : tie.Need-overflow_add-result-2
 add-result-2 c = rw (half_is c) (omega (arith, half_le c))
 
-shr-result : tie.Need-overflow-shr-result
+shr-result : tie.Need-overflow_shr-result
 shr-result c = search rules
 
 returns : tie.Need-returns
@@ -43,7 +43,7 @@ returns c =
     let k = c.args.k in
     rw (half_is c) (even_is c.args.m (2 ^ k) (2 ^ (k - 1)) (pow_pos (k - 1)) (halves k c.requires.1.0))
 
-pub nearest-even-spec : {M : Type 1} → statement M
-nearest-even-spec =
+pub nearest_even_spec : {M : Type 1} → statement M
+nearest_even_spec =
     tie.close
     (tie.spec shr-q sub-half cast-half shl-half add-result sub-result add-result-2 shr-result returns)

@@ -17,7 +17,7 @@ rounded-requires c κs = search rules
 
 -- what was rounded, as the next call reads it
 value : (c : tie.After-rounded) → to_z w64 (of_z w64 c.rounded.result) ≡ with_sign c.before.args.d (round24 (nat_abs c.before.args.d))
-value c = to_z-of_z (record { sfits = c.rounded.type-inv }) ∙ rw (to_z-of_z c.before.ranges.d) at c.rounded.ensures
+value c = to_z-of_z (record { sfits = c.rounded.type_inv }) ∙ rw (to_z-of_z c.before.ranges.d) at c.rounded.ensures
 
 nearest-requires : tie.Need-nearest-requires
 nearest-requires c κs =
@@ -33,8 +33,8 @@ returns c =
     let d = s.args.d in
     let m = round24 (nat_abs d) in
     let e = rw (value c.before) at c.nearest.ensures in
-    rw (to_z-of_z (record { sfits = c.nearest.type-inv }))
+    rw (to_z-of_z (record { sfits = c.nearest.type_inv }))
     (e ∙ ap (λ (n : ℕ). with_sign (with_sign d m) (nearest_down n (scale s.args.p))) (sign-size d m) ∙ sign-twice d m (scale s.args.p) (scale-pos s.args.p))
 
-pub quantise-spec : {M : Type 1} → statement M
-quantise-spec = tie.close (tie.spec rounded-requires nearest-requires returns)
+pub quantise_spec : {M : Type 1} → statement M
+quantise_spec = tie.close (tie.spec rounded-requires nearest-requires returns)

@@ -15,34 +15,34 @@ use Rattle.frame.proofs.quick.scales_at.Tie as tie
 u-is : (c : tie.Start) → Is w64 ((4294967296 * 2 ^ c.args.p) % 18446744073709551616) (pos (4294967296 * 2 ^ c.args.p)) 17592186044416
 u-is c = is-shl-64 4294967296 c.args.p c.requires tt
 
-cast-u : tie.Need-overflow-cast-u
+cast-u : tie.Need-overflow_cast-u
 cast-u c = search rules
 
-shl-u : tie.Need-overflow-shl-u
+shl-u : tie.Need-overflow_shl-u
 shl-u c = search rules
 
-mul-t3 : tie.Need-overflow-mul-t3
+mul-t3 : tie.Need-overflow_mul-result
 mul-t3 c = chk-mul (is-lit w64 2048 tt) (u-is c) tt
 
-sub-t4 : tie.Need-overflow-sub-t4
+sub-t4 : tie.Need-overflow_sub-result
 sub-t4 c = chk-sub (is_mul (is-lit w64 2048 tt) (u-is c) tt) (is-lit w64 1 tt) tt
 
-mul-t5 : tie.Need-overflow-mul-t5
+mul-t5 : tie.Need-overflow_mul-result-2
 mul-t5 c = chk-mul (is-lit w64 32768 tt) (u-is c) tt
 
-mul-t6 : tie.Need-overflow-mul-t6
+mul-t6 : tie.Need-overflow_mul-result-3
 mul-t6 c = chk-mul (is-lit w64 30720 tt) (u-is c) tt
 
-mul-t7 : tie.Need-overflow-mul-t7
+mul-t7 : tie.Need-overflow_mul-result-4
 mul-t7 c = chk-mul (is-lit w64 1024 tt) (u-is c) tt
 
-add-t8 : tie.Need-overflow-add-t8
+add-t8 : tie.Need-overflow_add-result
 add-t8 c = chk-add (is_mul (is-lit w64 1024 tt) (u-is c) tt) (is-lit w64 4400193994752 tt) tt
 
-mul-t9 : tie.Need-overflow-mul-t9
+mul-t9 : tie.Need-overflow_mul-result-5
 mul-t9 c = chk-mul (is-lit w64 16384 tt) (u-is c) tt
 
-sub-t10 : tie.Need-overflow-sub-t10
+sub-t10 : tie.Need-overflow_sub-result-2
 sub-t10 c = chk-sub (is_mul (is-lit w64 16384 tt) (u-is c) tt) (is-lit w64 4400193994752 tt) tt
 
 returns : tie.Need-returns
@@ -60,7 +60,7 @@ returns c =
       eight_is = (is-sub (is_mul (is-lit w64 16384 tt) (u-is c) tt) (is-lit w64 4400193994752 tt) tt).is ∙ ap (λ (n : ℕ). pos n -ℤ pos 4400193994752) e;
     }
 
-pub scales-at-spec : {M : Type 1} → statement M
-scales-at-spec =
+pub scales_at_spec : {M : Type 1} → statement M
+scales_at_spec =
     tie.close
     (tie.spec cast-u shl-u mul-t3 sub-t4 mul-t5 mul-t6 mul-t7 add-t8 mul-t9 sub-t10 returns)

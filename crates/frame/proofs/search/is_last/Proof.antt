@@ -5,13 +5,13 @@ use Rattle.frame.specs.Search.{is_last}
 use Rattle.frame.proofs.search.is_last.Statement.{statement}
 use Rattle.frame.proofs.search.is_last.Tie as tie
 
-returns : tie.Need-returns
+returns : tie.Need-returns-then-p-eq12
 unfolding is_last
-returns c = rw (eq-eqb _ _ c.if1.true)
+returns c = rw (eq-eqb _ _ c.if-p-eq12.true)
 
-returns-2 : tie.Need-returns-2
+returns-2 : tie.Need-returns-else-p-eq12
 unfolding is_last
-returns-2 c = rw (ne_eqb _ _ c.if1.false)
+returns-2 c = rw (ne_eqb _ _ c.if-p-eq12.false)
 
-pub is-last-spec : {M : Type 1} → statement M
-is-last-spec = tie.close (tie.spec returns returns-2)
+pub is_last_spec : {M : Type 1} → statement M
+is_last_spec = tie.close (tie.spec returns returns-2)

@@ -11,5 +11,5 @@ returns : tie.Need-returns
 unfolding is_roomy
 returns c = rw (c.magnitudes.ensures, to_z-of_z c.before.ranges.c0, to_z-of_z c.before.ranges.c1)
 
-pub is-roomy-spec : {M : Type 1} → statement M
-is-roomy-spec = tie.close (tie.spec magnitudes-requires returns)
+pub is_roomy_spec : {M : Type 1} → statement M
+is_roomy_spec = tie.close (tie.spec magnitudes-requires returns)

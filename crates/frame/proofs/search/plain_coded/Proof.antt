@@ -8,5 +8,5 @@ returns : tie.Need-returns
 unfolding finished
 returns c = refl
 
-pub plain-coded-spec : {M : Type 1} → statement M
-plain-coded-spec = tie.close (tie.spec returns)
+pub plain_coded_spec : {M : Type 1} → statement M
+plain_coded_spec = tie.close (tie.spec returns)

@@ -11,15 +11,15 @@ use Rattle.frame.proofs.LawsSeen.{seen-is, seen-small}
 use Rattle.frame.proofs.search.quick_pass.Statement.{statement}
 use Rattle.frame.proofs.search.quick_pass.Tie as tie
 
-is-roomy-requires : tie.Need-is-roomy-requires
+is-roomy-requires : tie.Need-is_roomy-requires
 is-roomy-requires c κs = search rules
 
-roomy : (c : tie.Then1) → let s = c.before.before in Roomy s.args.c0 s.args.c1
+roomy : (c : tie.Then-is_roomy) → let s = c.before.before in Roomy s.args.c0 s.args.c1
 roomy c =
     let s = c.before.before in
-    roomy-is s.args.c0 s.args.c1 (rw (to_z-of_z s.ranges.c0, to_z-of_z s.ranges.c1) at (sym c.before.is-roomy.ensures ∙ c.if1.true))
+    roomy-is s.args.c0 s.args.c1 (rw (to_z-of_z s.ranges.c0, to_z-of_z s.ranges.c1) at (sym c.before.is_roomy.ensures ∙ c.if-is_roomy.true))
 
-run-quick-requires : tie.Need-run-quick-requires
+run-quick-requires : tie.Need-run_quick-requires
 run-quick-requires c κs =
     let s = c.before.before.before.before in
     (rw (to_z-of_z s.ranges.c0, to_z-of_z s.ranges.c1) (roomy c.before.before), (s.requires.0, (s.requires.1.0, s.requires.1.1)))
@@ -27,30 +27,30 @@ run-quick-requires c κs =
 show-requires : tie.Need-show-requires
 show-requires c κs = search rules
 
-returns : tie.Need-returns
+returns : tie.Need-returns-then-run_quick
 returns c =
     let r = c.before.before.before.before in
     let s = r.before.before.before.before.before in
-    let t : tie.Then1 = r.before.before.before in
+    let t : tie.Then-is_roomy = r.before.before.before in
     let d = s.requires.0.0 in
     let fs = s.args.frame.now in (
-      r.run-quick.ensures.0,
+      r.run_quick.ensures.0,
       λ e.
-          let k = rw (to_z-of_z s.ranges.c0, to_z-of_z s.ranges.c1) at (r.run-quick.ensures.1 c.before.before.before.if2.true) in
+          let k = rw (to_z-of_z s.ranges.c0, to_z-of_z s.ranges.c1) at (r.run_quick.ensures.1 c.before.before.before.if-run_quick.true) in
           let u = c.show.ensures e in (
             seen-is s.args.c0 s.args.c1 (history_of fs) (samples_of fs) s.args.p fs _ _ c.show.result s.requires.1.0 (roomy t) (history-fits fs d) (samples-fit fs d) k u
-                r.run-quick.ensures.0.s-length (λ i h. sym (sample-at fs i h)),
+                r.run_quick.ensures.0.s-length (λ i h. sym (sample-at fs i h)),
             seen-small u,
           ),
     )
 
-returns-2 : tie.Need-returns-2
-returns-2 c = (c.before.run-quick.ensures.0, λ e. absurd (subst T (sym e) tt))
+returns-2 : tie.Need-returns-else-run_quick
+returns-2 c = (c.before.run_quick.ensures.0, λ e. absurd (subst T (sym e) tt))
 
-returns-3 : tie.Need-returns-3
+returns-3 : tie.Need-returns-else-is_roomy
 returns-3 c = (c.before.before.requires.1.1, λ e. absurd (subst T (sym e) tt))
 
-pub quick-pass-spec : {M : Type 1} → statement M
-quick-pass-spec =
+pub quick_pass_spec : {M : Type 1} → statement M
+quick_pass_spec =
     tie.close
     (tie.spec is-roomy-requires run-quick-requires show-requires returns returns-2 returns-3)

@@ -23,22 +23,22 @@ w-is c = is-sized c.args.w c.requires.0 tt
 eight_is : (c : tie.Start) → Is w32 ((16384 * 2 ^ c.args.p) % 4294967296) (pos (16384 * 2 ^ c.args.p)) 67108864
 eight_is c = is-shl 16384 c.args.p c.requires.1 tt
 
-cast-narrowed : tie.Need-overflow-cast-narrowed
+cast-narrowed : tie.Need-overflow_cast-p
 cast-narrowed c = search rules
 
-shl-narrowed : tie.Need-overflow-shl-narrowed
+shl-narrowed : tie.Need-overflow_shl-p
 shl-narrowed c = search rules
 
-sub-narrowed : tie.Need-overflow-sub-narrowed
+sub-narrowed : tie.Need-overflow_sub-w
 sub-narrowed c = chk-sub (w-is c) (eight_is c) tt
 
-add-narrowed : tie.Need-overflow-add-narrowed
+add-narrowed : tie.Need-overflow_add-p
 add-narrowed c = search rules
 
-cast-narrowed-2 : tie.Need-overflow-cast-narrowed-2
+cast-narrowed-2 : tie.Need-overflow_cast-p-2
 cast-narrowed-2 c = search rules
 
-shr-narrowed : tie.Need-overflow-shr-narrowed
+shr-narrowed : tie.Need-overflow_shr-w
 shr-narrowed c = search rules
 
 narrowed-requires : tie.Need-narrowed-requires
@@ -58,8 +58,8 @@ returns c =
     let e = result-is c in
     to_z-of_z (subst (λ (v : ℤ). SFits w16 v) (sym e) (clamp-fits (steps_of c.before.args.w c.before.args.p))) ∙ e
 
-pub narrowed-steps-spec : {M : Type 1} → statement M
-narrowed-steps-spec =
+pub narrowed_steps_spec : {M : Type 1} → statement M
+narrowed_steps_spec =
     tie.close
     (tie.spec
     cast-narrowed

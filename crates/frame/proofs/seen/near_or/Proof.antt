@@ -28,25 +28,25 @@ m-is c = is-shr (is-one-shl w32 c.args.p 12 c.requires.1 tt) 32 tt
 step_is : (c : tie.Start) → Is w32 ((2048 * 2 ^ c.args.p) % 4294967296) (pos (scale c.args.p)) 8388608
 step_is c = is-shl 2048 c.args.p c.requires.1 tt
 
-cast-m : tie.Need-overflow-cast-m
+cast-m : tie.Need-overflow_cast-m
 cast-m c = search rules
 
-shl-m : tie.Need-overflow-shl-m
+shl-m : tie.Need-overflow_shl-m
 shl-m c = search rules
 
-add-if1 : tie.Need-overflow-add-if1
+add-if1 : tie.Need-overflow_add-w
 add-if1 c = chk-add (w-is c) (m-is c) tt
 
-cast-if1 : tie.Need-overflow-cast-if1
+cast-if1 : tie.Need-overflow_cast-p
 cast-if1 c = search rules
 
-shl-if1 : tie.Need-overflow-shl-if1
+shl-if1 : tie.Need-overflow_shl-p
 shl-if1 c = search rules
 
-sub-if1 : tie.Need-overflow-sub-if1
+sub-if1 : tie.Need-overflow_sub-p
 sub-if1 c = chk-sub (step_is c) (is-lit w32 1 tt) tt
 
-mul-if1 : tie.Need-overflow-mul-if1
+mul-if1 : tie.Need-overflow_mul-m
 mul-if1 c = chk-mul (is-lit w32 2 tt) (m-is c) tt
 
 -- the test is the definition's
@@ -61,12 +61,12 @@ test c =
     let b = ap (of_z w32) (ap (λ (v : ℤ). v -ℤ pos 1) (step_is c).is ∙ one_less p) in
     ap₂ lt_z (ap (to_z w32) (ap₂ bit_and a b) ∙ (masked z p c.requires.1 (sfits-abs (is-add (w-is c) (m-is c) tt).size tt)).is) (is_mul (is-lit w32 2 tt) (m-is c) tt).is
 
-returns : tie.Need-returns
-returns c = rw (sym (test c.before) ∙ c.if1.true)
+returns : tie.Need-returns-then-w-m
+returns c = rw (sym (test c.before) ∙ c.if-w-m.true)
 
-returns-2 : tie.Need-returns-2
-returns-2 c = rw (sym (test c.before) ∙ c.if1.false)
+returns-2 : tie.Need-returns
+returns-2 c = rw (sym (test c.before) ∙ c.if-w-m.false)
 
-pub near-or-spec : {M : Type 1} → statement M
-near-or-spec =
+pub near_or_spec : {M : Type 1} → statement M
+near_or_spec =
     tie.close (tie.spec cast-m shl-m add-if1 cast-if1 shl-if1 sub-if1 mul-if1 returns returns-2)

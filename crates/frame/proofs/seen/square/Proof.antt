@@ -9,16 +9,16 @@ use Rattle.frame.proofs.LawsPass.{square-lt}
 use Rattle.frame.proofs.seen.square.Statement.{statement}
 use Rattle.frame.proofs.seen.square.Tie as tie
 
-d-is : (c : tie.After-apart) → c.apart.result ≡ nat_abs (c.before.args.x -ℤ c.before.args.y)
-d-is c = rw (to_z-of_z c.before.ranges.x, to_z-of_z c.before.ranges.y) at c.apart.ensures
+d-is : (c : tie.After-apart-d) → c.apart-d.result ≡ nat_abs (c.before.args.x -ℤ c.before.args.y)
+d-is c = rw (to_z-of_z c.before.ranges.x, to_z-of_z c.before.ranges.y) at c.apart-d.ensures
 
-apart-requires : tie.Need-apart-requires
+apart-requires : tie.Need-apart-d-requires
 apart-requires c κs = search rules
 
-cast-d : tie.Need-overflow-cast-d
+cast-d : tie.Need-overflow_cast-d
 cast-d c = search rules
 
-mul-result : tie.Need-overflow-mul-result
+mul-result : tie.Need-overflow_mul-result
 unfolding squared_difference
 mul-result c = let s = c.before in rw (d-is c) (omega (arith, square-lt s.args.x s.args.y s.ranges.x s.ranges.y))
 
@@ -26,5 +26,5 @@ returns : tie.Need-returns
 unfolding squared_difference
 returns c = rw (d-is c)
 
-pub square-spec : {M : Type 1} → statement M
-square-spec = tie.close (tie.spec apart-requires cast-d mul-result returns)
+pub square_spec : {M : Type 1} → statement M
+square_spec = tie.close (tie.spec apart-requires cast-d mul-result returns)
