@@ -22,7 +22,7 @@ shorter-requires c κs = search rules
 returns : tie.Need-returns-then-shorter
 returns c =
     let a = c.before.before.before.before.before.args in
-    join-14 a.first.now a.first-len a.first-coefficients a.second.now a.second-len a.second-coefficients a.out.now
+    join-14 a.first.now a.first_len a.first_coefficients a.second.now a.second_len a.second_coefficients a.out.now
     (sym c.before.shorter.ensures ∙ c.if-shorter.true)
 
 -- the output is long enough
@@ -37,7 +37,7 @@ returns-2 : tie.Need-returns-then-not-equal_coefficients
 returns-2 c =
     let e = c.before.before in
     let a = e.before.before.before.before.before.args in
-    join-18 a.first.now a.first-len a.first-coefficients a.second.now a.second-len a.second-coefficients a.out.now (enough e)
+    join-18 a.first.now a.first_len a.first_coefficients a.second.now a.second_len a.second_coefficients a.out.now (enough e)
     (sym c.before.equal_coefficients.ensures ∙ not-true _ c.if-not-equal_coefficients.true-raw)
 
 copy-requires : tie.Need-copy-requires
@@ -66,11 +66,11 @@ returns-3 c =
     let t = f.before.before in
     let e = t.before.before in
     let a = e.before.before.before.before.before.args in
-    ap (λ (o : List ℕ). effect (accepted (a.first-len + a.second-len)) o)
+    ap (λ (o : List ℕ). effect (accepted (a.first_len + a.second_len)) o)
     (d.copy-2.ensures
     ∙ ap (λ (o : List ℕ). sets o (length a.first.now) a.second.now) f.copy.ensures
     ∙ sets_then a.out.now 0 (length a.first.now) a.first.now a.second.now (sym (zero-add (length a.first.now))))
-    ∙ join-done a.first.now a.first-len a.first-coefficients a.second.now a.second-len a.second-coefficients a.out.now (enough e)
+    ∙ join-done a.first.now a.first_len a.first_coefficients a.second.now a.second_len a.second_coefficients a.out.now (enough e)
     (sym t.before.equal_coefficients.ensures ∙ not-false _ t.if-not-equal_coefficients.false-raw)
 
 pub extend_samples_spec : {M : Type 1} → statement M

@@ -72,8 +72,8 @@ loop-again c =
     let cs = l.before.args.coefficients in (
       omega arith,
       ⊎_elim
-          (λ w. w.1 ∙ pairs-bad cs l.loop-i.i (sym (pair_is a) ∙ not-true _ w.0.taken))
-          (λ w. w.1 ∙ l.loop-i.invariant.1 ∙ pairs-good cs l.loop-i.i (sym (pair_is a) ∙ not-false _ w.0.left))
+          (λ w. w.ok-is ∙ pairs-bad cs l.loop-i.i (sym (pair_is a) ∙ w.if-not-good.true))
+          (λ w. w.ok-is ∙ l.loop-i.invariant.1 ∙ pairs-good cs l.loop-i.i (sym (pair_is a) ∙ w.if-not-good.false))
           c.if-not-good.branch-raw,
     )
 

@@ -83,7 +83,7 @@ play-into-requires c κs =
     let b = ap length (part-all a.bytes.now ((a.from + rest) / 2)) ∙ length-drop ((a.from + rest) / 2) a.bytes.now in
     let p = s.requires in
     let l = room-later a.from a.len (length a.out.now) p.0 (omega arith) p.3 in
-    let left = o.before.play_rest-after.new.1.1.1.1.1.0 in
+    let left = o.before.play_rest-after.new.out in
     let d = ap length (part-all left rest) ∙ length-drop rest left in
     (omega arith, omega (arith, b, p.2), omega (arith, l, d, o.out-2-1.given))
 

@@ -14,5 +14,5 @@ returns : tie.Need-returns
 unfolding filter_round
 returns c = rw (← c.before.gather.ensures) c.renewed.ensures
 
-pub filter-round-spec : {M : Type 1} → statement M
-filter-round-spec = tie.close (tie.spec gather-requires renewed-requires returns)
+pub filter_round_spec : {M : Type 1} → statement M
+filter_round_spec = tie.close (tie.spec gather-requires renewed-requires returns)

@@ -8,5 +8,5 @@ returns : tie.Need-returns
 unfolding plus3
 returns c = refl
 
-pub plus3-spec : {M : Type 1} → statement M
-plus3-spec = tie.close (tie.spec returns)
+pub plus3_spec : {M : Type 1} → statement M
+plus3_spec = tie.close (tie.spec returns)

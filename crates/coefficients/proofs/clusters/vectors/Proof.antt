@@ -4,13 +4,13 @@ use Rattle.std.proofs.Common.{rules}
 use Rattle.coefficients.proofs.clusters.vectors.Statement.{statement}
 use Rattle.coefficients.proofs.clusters.vectors.Tie as tie
 
-first-vector-requires : tie.Need-first-vector-requires
+first-vector-requires : tie.Need-first_vector-requires
 first-vector-requires c κs = search rules
 
-with-one-requires : tie.Need-with-one-requires
+with-one-requires : tie.Need-with_one-requires
 with-one-requires c κs = search rules
 
-array-set-from-vs : tie.Need-array-set-from-vs
+array-set-from-vs : tie.Need-bounds-vs-0
 array-set-from-vs c = search rules
 
 grown-requires : tie.Need-grown-requires
@@ -26,15 +26,15 @@ returns : tie.Need-returns
 unfolding vectors none
 returns c =
     simp (
-      ← c.before.before.before.before.first-vector.ensures,
-      ← c.before.before.before.with-one.ensures,
+      ← c.before.before.before.before.first_vector.ensures,
+      ← c.before.before.before.with_one.ensures,
       ← c.before.before.grown.ensures,
-      ← c.before.grown2.ensures,
-      ← c.grown3.ensures,
+      ← c.before.grown-2.ensures,
+      ← c.grown-3.ensures,
     )
 
-pub vectors-spec : {M : Type 1} → statement M
-vectors-spec =
+pub vectors_spec : {M : Type 1} → statement M
+vectors_spec =
     tie.close
     (tie.spec
     first-vector-requires

@@ -8,5 +8,5 @@ returns : tie.Need-returns
 unfolding with_one
 returns c = refl
 
-pub with-one-spec : {M : Type 1} → statement M
-with-one-spec = tie.close (tie.spec returns)
+pub with_one_spec : {M : Type 1} → statement M
+with_one_spec = tie.close (tie.spec returns)

@@ -5,42 +5,42 @@ use Rattle.coefficients.proofs.PlainContrasts.{never, unless, small-more}
 use Rattle.coefficients.proofs.filter.all_small.Statement.{statement}
 use Rattle.coefficients.proofs.filter.all_small.Tie as tie
 
-abbrev invariant-loop : tie.invariant-loop
+abbrev invariant-loop : tie.invariant-loop-i
 invariant-loop n ts i₀ i = (i ≤ n) × AllSmall ts i
 
-abbrev decreases-loop : tie.decreases-loop
+abbrev decreases-loop : tie.decreases-loop-i
 decreases-loop n ts i₀ i = n - i
 
-loop-holds : tie.Need-loop-init invariant-loop decreases-loop
+loop-holds : tie.Need-loop-i-init invariant-loop decreases-loop
 loop-holds c = (omega arith, (λ i h. absurd (omega arith)))
 
-mul-small-terms : tie.Need-overflow-mul-small-terms invariant-loop decreases-loop
+mul-small-terms : tie.Need-offset_bounds-ts-i invariant-loop decreases-loop
 mul-small-terms c = omega arith
 
-array-copy-out-small-terms : tie.Need-array-copy-out-small-terms invariant-loop decreases-loop
+array-copy-out-small-terms : tie.Need-bounds-ts-i invariant-loop decreases-loop
 array-copy-out-small-terms c = omega arith
 
-returns : tie.Need-returns invariant-loop decreases-loop
+returns : tie.Need-returns-then-not-small_terms invariant-loop decreases-loop
 returns c = λ e. never e
 
-add-i : tie.Need-overflow-add-i invariant-loop decreases-loop
+add-i : tie.Need-overflow_add-i invariant-loop decreases-loop
 add-i c = omega arith
 
-loop-less : tie.Need-loop-smaller invariant-loop decreases-loop
+loop-less : tie.Need-loop-i-smaller invariant-loop decreases-loop
 loop-less c = omega arith
 
-loop-again : tie.Need-loop-preserved invariant-loop decreases-loop
+loop-again : tie.Need-loop-i-preserved invariant-loop decreases-loop
 loop-again c =
     let l = c.before.before.before.before in
-    (omega arith, small-more l.before.args.t1 l.loop.i l.loop.invariant.1 (c.before.small-terms.ensures (unless _ c.if1.false)))
+    (omega arith, small-more l.before.args.ts l.loop-i.i l.loop-i.invariant.1 (c.before.small_terms.ensures (unless _ c.if-not-small_terms.false-raw)))
 
-returns-2 : tie.Need-returns-2 invariant-loop decreases-loop
+returns-2 : tie.Need-returns invariant-loop decreases-loop
 returns-2 c = λ e.
     let l = c.before in
-    λ i h. l.loop.invariant.1 i (omega arith)
+    λ i h. l.loop-i.invariant.1 i (omega arith)
 
-pub all-small-spec : {M : Type 1} → statement M
-all-small-spec =
+pub all_small_spec : {M : Type 1} → statement M
+all_small_spec =
     tie.close
     (tie.spec
     invariant-loop

@@ -8,5 +8,5 @@ returns : tie.Need-returns
 unfolding plain_contrast
 returns c = refl
 
-pub plain-contrast-spec : {M : Type 1} → statement M
-plain-contrast-spec = tie.close (tie.spec returns)
+pub plain_contrast_spec : {M : Type 1} → statement M
+plain_contrast_spec = tie.close (tie.spec returns)

@@ -8,5 +8,5 @@ returns : tie.Need-returns
 unfolding plain_side
 returns c = refl
 
-pub plain-side-spec : {M : Type 1} → statement M
-plain-side-spec = tie.close (tie.spec returns)
+pub plain_side_spec : {M : Type 1} → statement M
+plain_side_spec = tie.close (tie.spec returns)

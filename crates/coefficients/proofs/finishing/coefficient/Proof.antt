@@ -5,27 +5,27 @@ use Rattle.coefficients.specs.Finish.{coefficient}
 use Rattle.coefficients.proofs.finishing.coefficient.Statement.{statement}
 use Rattle.coefficients.proofs.finishing.coefficient.Tie as tie
 
-returns : tie.Need-returns
+returns : tie.Need-returns-then-d
 unfolding coefficient
 returns c =
     simp (
-      back w16 c.as-i16.result c.as-i16.type-inv,
-      c.before.before.before.if1.true,
+      back w16 c.as_i16.result c.as_i16.type_inv,
+      c.before.before.before.if-d.true,
       ← c.before.before.min.ensures,
       ← c.before.round.ensures,
-      ← c.as-i16.ensures,
+      ← c.as_i16.ensures,
     )
 
-returns-2 : tie.Need-returns-2
+returns-2 : tie.Need-returns-else-d
 unfolding coefficient
 returns-2 c =
     simp (
-      back w16 c.as-i162.result c.as-i162.type-inv,
-      c.before.before.before.if1.false,
+      back w16 c.as_i16-else-d.result c.as_i16-else-d.type_inv,
+      c.before.before.before.if-d.false,
       ← c.before.before.max.ensures,
-      ← c.before.round2.ensures,
-      ← c.as-i162.ensures,
+      ← c.before.round-else-d.ensures,
+      ← c.as_i16-else-d.ensures,
     )
 
-pub coefficient-spec : {M : Type 1} → statement M
-coefficient-spec = tie.close (tie.spec (λ _ _. tt) (λ _ _. tt) (λ _ _. tt) (λ _ _. tt) (λ _ _. tt) (λ _ _. tt) returns returns-2)
+pub coefficient_spec : {M : Type 1} → statement M
+coefficient_spec = tie.close (tie.spec (λ _ _. tt) (λ _ _. tt) (λ _ _. tt) (λ _ _. tt) (λ _ _. tt) (λ _ _. tt) returns returns-2)

@@ -5,9 +5,9 @@ use Rattle.coefficients.proofs.StoredRecords.{records-length}
 use Rattle.coefficients.proofs.finishing.record_coefficients.Statement.{statement}
 use Rattle.coefficients.proofs.finishing.record_coefficients.Tie as tie
 
-returns : tie.Need-returns
+returns : tie.Need-returns-then-n-eq0
 unfolding record_coefficients
-returns c = simp (records-length, eq-eqb _ _ c.if1.true)
+returns c = simp (records-length, eq-eqb _ _ c.if-n-eq0.true)
 
 vectors-requires : tie.Need-vectors-requires
 vectors-requires c κs = search rules
@@ -15,10 +15,10 @@ vectors-requires c κs = search rules
 pairs-requires : tie.Need-pairs-requires
 pairs-requires c κs = search rules
 
-returns-2 : tie.Need-returns-2
+returns-2 : tie.Need-returns
 unfolding record_coefficients
 returns-2 c =
-    simp (records-length, ne_eqb _ _ c.before.before.if1.false, ← c.before.vectors.ensures, ← c.pairs.ensures)
+    simp (records-length, ne_eqb _ _ c.before.before.if-n-eq0.false, ← c.before.vectors.ensures, ← c.pairs.ensures)
 
-pub record-coefficients-spec : {M : Type 1} → statement M
-record-coefficients-spec = tie.close (tie.spec returns vectors-requires pairs-requires returns-2)
+pub record_coefficients_spec : {M : Type 1} → statement M
+record_coefficients_spec = tie.close (tie.spec returns vectors-requires pairs-requires returns-2)

@@ -3,19 +3,19 @@ use Rattle.coefficients.specs.FrameRecord.{merged}
 use Rattle.coefficients.proofs.framing.merged.Statement.{statement}
 use Rattle.coefficients.proofs.framing.merged.Tie as tie
 
-returns : tie.Need-returns
+returns : tie.Need-returns-then-g
 unfolding merged
 returns c =
     simp
-    c.if1.true
+    c.if-g.true
 
-returns-2 : tie.Need-returns-2
+returns-2 : tie.Need-returns
 unfolding merged
 returns-2 c =
     simp (
-      c.before.if1.false,
-      ← c.finish-record.ensures,
+      c.before.if-g.false,
+      ← c.finish_record.ensures,
     )
 
-pub merged-spec : {M : Type 1} → statement M
-merged-spec = tie.close (tie.spec returns (λ _ _. tt) returns-2)
+pub merged_spec : {M : Type 1} → statement M
+merged_spec = tie.close (tie.spec returns (λ _ _. tt) returns-2)

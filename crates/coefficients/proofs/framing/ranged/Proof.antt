@@ -3,21 +3,21 @@ use Rattle.coefficients.specs.FrameRecord.{ranged}
 use Rattle.coefficients.proofs.framing.ranged.Statement.{statement}
 use Rattle.coefficients.proofs.framing.ranged.Tie as tie
 
-returns : tie.Need-returns
+returns : tie.Need-returns-then-g
 unfolding ranged
 returns c =
     simp
-    c.if1.true
+    c.if-g.true
 
-returns-2 : tie.Need-returns-2
+returns-2 : tie.Need-returns
 unfolding ranged
 returns-2 c =
     simp (
-      c.before.before.before.if1.false,
-      ← c.before.before.bidirectional-filter.ensures,
-      ← c.before.quadratic-merge.ensures,
+      c.before.before.before.if-g.false,
+      ← c.before.before.bidirectional_filter.ensures,
+      ← c.before.quadratic_merge.ensures,
       ← c.merged.ensures,
     )
 
-pub ranged-spec : {M : Type 1} → statement M
-ranged-spec = tie.close (tie.spec returns (λ _ _. tt) (λ _ _. tt) (λ _ _. tt) returns-2)
+pub ranged_spec : {M : Type 1} → statement M
+ranged_spec = tie.close (tie.spec returns (λ _ _. tt) (λ _ _. tt) (λ _ _. tt) returns-2)

@@ -5,13 +5,13 @@ use Rattle.coefficients.specs.Measure.{valid}
 use Rattle.coefficients.proofs.measuring.valid.Statement.{statement}
 use Rattle.coefficients.proofs.measuring.valid.Tie as tie
 
-returns : tie.Need-returns
+returns : tie.Need-returns-then-n-gt-MOST_SAMPLES
 unfolding valid
-returns c = simp (lt-leb _ _ c.if1.true)
+returns c = simp (lt-leb _ _ c.if-n-gt-MOST_SAMPLES.true)
 
-returns-2 : tie.Need-returns-2
+returns-2 : tie.Need-returns
 unfolding valid
-returns-2 c = simp (le-leb _ _ c.if1.false)
+returns-2 c = simp (le-leb _ _ c.if-n-gt-MOST_SAMPLES.false)
 
-pub valid-spec : {M : Type 1} → statement M
-valid-spec = tie.close (tie.spec returns returns-2)
+pub valid_spec : {M : Type 1} → statement M
+valid_spec = tie.close (tie.spec returns returns-2)

@@ -5,7 +5,7 @@ use Rattle.coefficients.proofs.merging.finish_record.Tie as tie
 
 returns : tie.Need-returns
 unfolding finish_record
-returns c = simp (← c.before.before.within-one.ensures, ← c.before.within-one2.ensures, ← c.mul-add.ensures)
+returns c = simp (← c.before.before.within_one-x1.ensures, ← c.before.within_one-x2.ensures, ← c.mul_add.ensures)
 
-pub finish-record-spec : {M : Type 1} → statement M
-finish-record-spec = tie.close (tie.spec (λ _ _. tt) (λ _ _. tt) (λ _ _. tt) returns)
+pub finish_record_spec : {M : Type 1} → statement M
+finish_record_spec = tie.close (tie.spec (λ _ _. tt) (λ _ _. tt) (λ _ _. tt) returns)

@@ -7,7 +7,7 @@ returns : tie.Need-returns
 unfolding merge_finish_record
 returns c =
     let d = c.before.before.before in
-    simp (← d.before.before.before.quotient.ensures, ← d.before.before.mul-add.ensures, ← d.mul-add2.ensures, ← c.before.quotient2.ensures, ← c.finish-record.ensures)
+    simp (← d.before.before.before.quotient-d1.ensures, ← d.before.before.mul_add.ensures, ← d.mul_add-v2.ensures, ← c.before.quotient-d2.ensures, ← c.finish_record.ensures)
 
-pub merge-finish-record-spec : {M : Type 1} → statement M
-merge-finish-record-spec = tie.close (tie.spec (λ _ _. tt) (λ _ _. tt) (λ _ _. tt) (λ _ _. tt) (λ _ _. tt) returns)
+pub merge_finish_record_spec : {M : Type 1} → statement M
+merge_finish_record_spec = tie.close (tie.spec (λ _ _. tt) (λ _ _. tt) (λ _ _. tt) (λ _ _. tt) (λ _ _. tt) returns)

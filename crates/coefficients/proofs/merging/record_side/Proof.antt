@@ -5,7 +5,7 @@ use Rattle.coefficients.proofs.merging.record_side.Tie as tie
 
 returns : tie.Need-returns
 unfolding record_side
-returns c = simp (← c.mul-add.ensures)
+returns c = simp (← c.mul_add.ensures)
 
-pub record-side-spec : {M : Type 1} → statement M
-record-side-spec = tie.close (tie.spec (λ _ _. tt) returns)
+pub record_side_spec : {M : Type 1} → statement M
+record_side_spec = tie.close (tie.spec (λ _ _. tt) returns)

@@ -5,7 +5,7 @@ use Rattle.coefficients.proofs.merging.terms_contrast.Tie as tie
 
 returns : tie.Need-returns
 unfolding terms_contrast
-returns c = simp (← c.before.mul-add.ensures, ← c.mul-add2.ensures)
+returns c = simp (← c.before.mul_add.ensures, ← c.mul_add-2.ensures)
 
-pub terms-contrast-spec : {M : Type 1} → statement M
-terms-contrast-spec = tie.close (tie.spec (λ _ _. tt) (λ _ _. tt) returns)
+pub terms_contrast_spec : {M : Type 1} → statement M
+terms_contrast_spec = tie.close (tie.spec (λ _ _. tt) (λ _ _. tt) returns)

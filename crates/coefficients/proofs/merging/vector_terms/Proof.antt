@@ -5,7 +5,7 @@ use Rattle.coefficients.proofs.merging.vector_terms.Tie as tie
 
 returns : tie.Need-returns
 unfolding vector_terms
-returns c = simp (← c.before.before.before.before.mul-add.ensures, ← c.before.before.before.mul-add2.ensures, ← c.before.mul-add3.ensures)
+returns c = simp (← c.before.before.before.before.mul_add.ensures, ← c.before.before.before.mul_add-2.ensures, ← c.before.mul_add-3.ensures)
 
-pub vector-terms-spec : {M : Type 1} → statement M
-vector-terms-spec = tie.close (tie.spec (λ _ _. tt) (λ _ _. tt) (λ _ _. tt) returns)
+pub vector_terms_spec : {M : Type 1} → statement M
+vector_terms_spec = tie.close (tie.spec (λ _ _. tt) (λ _ _. tt) (λ _ _. tt) returns)

@@ -4,17 +4,17 @@ use Rattle.coefficients.specs.Analysis.{at}
 use Rattle.coefficients.proofs.ranges.at.Statement.{statement}
 use Rattle.coefficients.proofs.ranges.at.Tie as tie
 
-returns : tie.Need-returns
+returns : tie.Need-returns-then-i-eq0
 unfolding at
-returns c = simp (eq-eqb _ _ c.if1.taken)
+returns c = simp (eq-eqb _ _ c.if-i-eq0.taken)
 
-returns-2 : tie.Need-returns-2
+returns-2 : tie.Need-returns-then-i-eq1
 unfolding at
-returns-2 c = simp (ne_eqb _ _ c.before.if1.left, eq-eqb _ _ c.if2.taken)
+returns-2 c = simp (ne_eqb _ _ c.before.if-i-eq0.left, eq-eqb _ _ c.if-i-eq1.taken)
 
-returns-3 : tie.Need-returns-3
+returns-3 : tie.Need-returns-else-i-eq1
 unfolding at
-returns-3 c = simp (ne_eqb _ _ c.before.if1.left, ne_eqb _ _ c.if2.left)
+returns-3 c = simp (ne_eqb _ _ c.before.if-i-eq0.left, ne_eqb _ _ c.if-i-eq1.left)
 
-pub at-spec : {M : Type 1} → statement M
-at-spec = tie.close (tie.spec returns returns-2 returns-3)
+pub at_spec : {M : Type 1} → statement M
+at_spec = tie.close (tie.spec returns returns-2 returns-3)

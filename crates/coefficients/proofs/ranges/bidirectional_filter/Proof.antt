@@ -9,15 +9,15 @@ returns c =
     let d = c.before.before.before.before in
     let e = d.before.before.before.before in
     simp (
-      ← e.before.before.before.at.ensures,
+      ← e.before.before.before.at-t1.ensures,
       ← e.before.before.put.ensures,
-      ← e.before.put2.ensures,
-      ← e.at2.ensures,
-      ← d.before.before.before.put3.ensures,
-      ← d.before.mul-add.ensures,
-      ← d.unless-zero.ensures,
-      ← c.before.mul-add2.ensures,
+      ← e.before.put-w1.ensures,
+      ← e.at-t2.ensures,
+      ← d.before.before.before.put-w2.ensures,
+      ← d.before.mul_add-s2.ensures,
+      ← d.unless_zero.ensures,
+      ← c.before.mul_add.ensures,
     )
 
-pub bidirectional-filter-spec : {M : Type 1} → statement M
-bidirectional-filter-spec = tie.close (tie.spec (λ _ _. tt) (λ _ _. tt) (λ _ _. tt) (λ _ _. tt) (λ _ _. tt) (λ _ _. tt) (λ _ _. tt) (λ _ _. tt) returns)
+pub bidirectional_filter_spec : {M : Type 1} → statement M
+bidirectional_filter_spec = tie.close (tie.spec (λ _ _. tt) (λ _ _. tt) (λ _ _. tt) (λ _ _. tt) (λ _ _. tt) (λ _ _. tt) (λ _ _. tt) (λ _ _. tt) returns)

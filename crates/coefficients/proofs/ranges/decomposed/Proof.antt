@@ -11,24 +11,24 @@ returns c =
     let s = a.before.before.before in
     simp (
       ← s.before.before.before.before.abs.ensures,
-      ← s.before.before.before.abs2.ensures,
-      ← s.before.before.pivot.ensures,
-      ← s.before.exchange1.ensures,
-      ← s.pick.ensures,
-      ← b.before.before.before.before.mul-add.ensures,
-      ← b.before.before.before.abs3.ensures,
-      ← b.before.before.pivot2.ensures,
-      ← b.before.exchange2.ensures,
-      ← b.abs4.ensures,
-      ← c.before.before.before.before.abs5.ensures,
+      ← s.before.before.before.abs-2.ensures,
+      ← s.before.before.pivot-i1.ensures,
+      ← s.before.exchange1-n.ensures,
+      ← s.pick-q2.ensures,
+      ← b.before.before.before.before.mul_add-u22.ensures,
+      ← b.before.before.before.abs-3.ensures,
+      ← b.before.before.pivot2-i2.ensures,
+      ← b.before.exchange2-o.ensures,
+      ← b.abs-p.ensures,
+      ← c.before.before.before.before.abs-q.ensures,
       ← c.before.before.before.min.ensures,
-      ← c.before.before.min2.ensures,
+      ← c.before.before.min-low.ensures,
       ← c.before.max.ensures,
-      ← c.max2.ensures,
+      ← c.max-high.ensures,
     )
 
-pub decomposed-spec : {M : Type 1} → statement M
-decomposed-spec =
+pub decomposed_spec : {M : Type 1} → statement M
+decomposed_spec =
     tie.close
     (tie.spec
     (λ _ _. tt)

@@ -4,17 +4,17 @@ use Rattle.coefficients.specs.Analysis.{exchange1}
 use Rattle.coefficients.proofs.ranges.exchange1.Statement.{statement}
 use Rattle.coefficients.proofs.ranges.exchange1.Tie as tie
 
-returns : tie.Need-returns
+returns : tie.Need-returns-then-i-eq1
 unfolding exchange1
-returns c = simp (eq-eqb _ _ c.if1.taken)
+returns c = simp (eq-eqb _ _ c.if-i-eq1.taken)
 
-returns-2 : tie.Need-returns-2
+returns-2 : tie.Need-returns-then-i-eq2
 unfolding exchange1
-returns-2 c = simp (ne_eqb _ _ c.before.if1.left, eq-eqb _ _ c.if2.taken)
+returns-2 c = simp (ne_eqb _ _ c.before.if-i-eq1.left, eq-eqb _ _ c.if-i-eq2.taken)
 
-returns-3 : tie.Need-returns-3
+returns-3 : tie.Need-returns
 unfolding exchange1
-returns-3 c = simp (ne_eqb _ _ c.before.if1.left, ne_eqb _ _ c.if2.left)
+returns-3 c = simp (ne_eqb _ _ c.before.if-i-eq1.left, ne_eqb _ _ c.if-i-eq2.left)
 
-pub exchange1-spec : {M : Type 1} → statement M
-exchange1-spec = tie.close (tie.spec returns returns-2 returns-3)
+pub exchange1_spec : {M : Type 1} → statement M
+exchange1_spec = tie.close (tie.spec returns returns-2 returns-3)

@@ -4,17 +4,17 @@ use Rattle.coefficients.specs.Analysis.{exchange2}
 use Rattle.coefficients.proofs.ranges.exchange2.Statement.{statement}
 use Rattle.coefficients.proofs.ranges.exchange2.Tie as tie
 
-returns : tie.Need-returns
+returns : tie.Need-returns-then-i-eq2
 unfolding exchange2
-returns c = simp (eq-eqb _ _ c.if1.taken)
+returns c = simp (eq-eqb _ _ c.if-i-eq2.taken)
 
-returns-2 : tie.Need-returns-2
+returns-2 : tie.Need-returns-then-i-eq1
 unfolding exchange2
-returns-2 c = simp (ne_eqb _ _ c.before.if1.left, eq-eqb _ _ c.if2.taken)
+returns-2 c = simp (ne_eqb _ _ c.before.if-i-eq2.left, eq-eqb _ _ c.if-i-eq1.taken)
 
-returns-3 : tie.Need-returns-3
+returns-3 : tie.Need-returns
 unfolding exchange2
-returns-3 c = simp (ne_eqb _ _ c.before.if1.left, ne_eqb _ _ c.if2.left)
+returns-3 c = simp (ne_eqb _ _ c.before.if-i-eq2.left, ne_eqb _ _ c.if-i-eq1.left)
 
-pub exchange2-spec : {M : Type 1} → statement M
-exchange2-spec = tie.close (tie.spec returns returns-2 returns-3)
+pub exchange2_spec : {M : Type 1} → statement M
+exchange2_spec = tie.close (tie.spec returns returns-2 returns-3)

@@ -3,13 +3,13 @@ use Rattle.coefficients.specs.Analysis.{pivot2}
 use Rattle.coefficients.proofs.ranges.pivot2.Statement.{statement}
 use Rattle.coefficients.proofs.ranges.pivot2.Tie as tie
 
-returns : tie.Need-returns
+returns : tie.Need-returns-then-a
 unfolding pivot2
-returns c = simp c.if1.taken
+returns c = simp c.if-a.taken
 
-returns-2 : tie.Need-returns-2
+returns-2 : tie.Need-returns-else-a
 unfolding pivot2
-returns-2 c = simp c.if1.left
+returns-2 c = simp c.if-a.left
 
-pub pivot2-spec : {M : Type 1} → statement M
-pivot2-spec = tie.close (tie.spec returns returns-2)
+pub pivot2_spec : {M : Type 1} → statement M
+pivot2_spec = tie.close (tie.spec returns returns-2)

@@ -4,17 +4,17 @@ use Rattle.coefficients.specs.Analysis.{put}
 use Rattle.coefficients.proofs.ranges.put.Statement.{statement}
 use Rattle.coefficients.proofs.ranges.put.Tie as tie
 
-returns : tie.Need-returns
+returns : tie.Need-returns-then-i-eq0
 unfolding put
-returns c = simp (eq-eqb _ _ c.if1.taken)
+returns c = simp (eq-eqb _ _ c.if-i-eq0.taken)
 
-returns-2 : tie.Need-returns-2
+returns-2 : tie.Need-returns-then-i-eq1
 unfolding put
-returns-2 c = simp (ne_eqb _ _ c.before.if1.left, eq-eqb _ _ c.if2.taken)
+returns-2 c = simp (ne_eqb _ _ c.before.if-i-eq0.left, eq-eqb _ _ c.if-i-eq1.taken)
 
-returns-3 : tie.Need-returns-3
+returns-3 : tie.Need-returns
 unfolding put
-returns-3 c = simp (ne_eqb _ _ c.before.if1.left, ne_eqb _ _ c.if2.left)
+returns-3 c = simp (ne_eqb _ _ c.before.if-i-eq0.left, ne_eqb _ _ c.if-i-eq1.left)
 
 pub put_spec : {M : Type 1} → statement M
 put_spec = tie.close (tie.spec returns returns-2 returns-3)

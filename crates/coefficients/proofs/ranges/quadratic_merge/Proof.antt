@@ -3,13 +3,13 @@ use Rattle.coefficients.specs.Analysis.{quadratic_merge}
 use Rattle.coefficients.proofs.ranges.quadratic_merge.Statement.{statement}
 use Rattle.coefficients.proofs.ranges.quadratic_merge.Tie as tie
 
-returns : tie.Need-returns
+returns : tie.Need-returns-then-tmp
 unfolding quadratic_merge
-returns c = simp (← c.before.mul-add.ensures, c.if1.taken)
+returns c = simp (← c.before.mul_add-tmp.ensures, c.if-tmp.taken)
 
-returns-2 : tie.Need-returns-2
+returns-2 : tie.Need-returns
 unfolding quadratic_merge
-returns-2 c = simp (← c.before.before.before.mul-add.ensures, c.before.before.if1.left, ← c.before.mul-add2.ensures, ← c.abs.ensures)
+returns-2 c = simp (← c.before.before.before.mul_add-tmp.ensures, c.before.before.if-tmp.left, ← c.before.mul_add.ensures, ← c.abs-stop.ensures)
 
-pub quadratic-merge-spec : {M : Type 1} → statement M
-quadratic-merge-spec = tie.close (tie.spec (λ _ _. tt) returns (λ _ _. tt) (λ _ _. tt) returns-2)
+pub quadratic_merge_spec : {M : Type 1} → statement M
+quadratic_merge_spec = tie.close (tie.spec (λ _ _. tt) returns (λ _ _. tt) (λ _ _. tt) returns-2)

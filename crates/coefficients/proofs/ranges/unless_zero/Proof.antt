@@ -2,11 +2,11 @@
 use Rattle.coefficients.proofs.ranges.unless_zero.Statement.{statement}
 use Rattle.coefficients.proofs.ranges.unless_zero.Tie as tie
 
-returns : tie.Need-returns
-returns c = simp c.if1.taken
+returns : tie.Need-returns-then-t
+returns c = simp c.if-t.taken
 
-returns-2 : tie.Need-returns-2
-returns-2 c = simp c.if1.left
+returns-2 : tie.Need-returns-else-t
+returns-2 c = simp c.if-t.left
 
-pub unless-zero-spec : {M : Type 1} → statement M
-unless-zero-spec = tie.close (tie.spec returns returns-2)
+pub unless_zero_spec : {M : Type 1} → statement M
+unless_zero_spec = tie.close (tie.spec returns returns-2)

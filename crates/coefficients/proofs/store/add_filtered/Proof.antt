@@ -6,7 +6,7 @@ use Rattle.coefficients.proofs.store.add_filtered.Tie as tie
 
 returns : tie.Need-returns
 unfolding add_filtered
-returns c = simp (← filter-terms, ← c.before.before.before.before.record-terms.ensures)
+returns c = simp (← filter-terms, ← c.before.before.before.before.record_terms-d.ensures)
 
-pub add-filtered-spec : {M : Type 1} → statement M
-add-filtered-spec = tie.close (tie.spec (λ _ _. tt) returns)
+pub add_filtered_spec : {M : Type 1} → statement M
+add_filtered_spec = tie.close (tie.spec (λ _ _. tt) returns)

@@ -11,7 +11,7 @@ dot-requires c κs = search rules
 negated-requires : tie.Need-negated-requires
 negated-requires c κs = rw (to_z-of_z {w = w64} {z = c.dot.result} (sfits-abs c.dot.ensures.small tt)) (omega (arith, c.dot.ensures.small))
 
-float-of-requires : tie.Need-float-of-requires
+float-of-requires : tie.Need-float_of-requires
 float-of-requires c κs = search rules
 
 returns : tie.Need-returns
@@ -23,5 +23,5 @@ returns c =
     let f = rw (to_z-of_z {w = w64} {z = n.result} (sfits-abs n.ensures.small tt)) at c.float_of.ensures in
     rw (← d.ensures.value, ← e) f
 
-pub neg-lag-spec : {M : Type 1} → statement M
-neg-lag-spec = tie.close (tie.spec dot-requires negated-requires float-of-requires returns)
+pub neg_lag_spec : {M : Type 1} → statement M
+neg_lag_spec = tie.close (tie.spec dot-requires negated-requires float-of-requires returns)

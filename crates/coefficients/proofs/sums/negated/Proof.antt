@@ -10,11 +10,11 @@ small c = omega (arith, abs-sub (pos 0) c.args.n)
 fits : (c : tie.Start) → SFits w64 (pos 0 -ℤ c.args.n)
 fits c = sfits-abs (small c) tt
 
-sub-result : tie.Need-overflow-sub-result
+sub-result : tie.Need-overflow_sub-result
 sub-result c = rw (to_z-of_z c.ranges.n) (fits c)
 
 returns : tie.Need-returns
 returns c = rw (to_z-of_z c.ranges.n, to_z-of_z (fits c)) (record { value = refl; small = small c })
 
-pub negated-spec : {M : Type 1} → statement M
-negated-spec = tie.close (tie.spec sub-result returns)
+pub negated_spec : {M : Type 1} → statement M
+negated_spec = tie.close (tie.spec sub-result returns)

@@ -18,8 +18,8 @@ lag-requires-4 c κs = search rules
 
 returns : tie.Need-returns
 unfolding outer_product_merge
-returns c = simp (← c.before.before.before.lag.ensures, ← c.before.before.lag2.ensures, ← c.before.lag3.ensures, ← c.lag4.ensures)
+returns c = simp (← c.before.before.before.lag.ensures, ← c.before.before.lag-2.ensures, ← c.before.lag-3.ensures, ← c.lag-4.ensures)
 
-pub outer-product-merge-spec : {M : Type 1} → statement M
-outer-product-merge-spec =
+pub outer_product_merge_spec : {M : Type 1} → statement M
+outer_product_merge_spec =
     tie.close (tie.spec lag-requires lag-requires-2 lag-requires-3 lag-requires-4 returns)

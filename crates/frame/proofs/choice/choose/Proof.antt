@@ -27,7 +27,7 @@ after-the-first-requires : tie.Need-after_the_first-held-requires invariant-loop
 after-the-first-requires c κs =
     let f = c.before.before in
     let d = f.before.before in
-    (d.before.requires, (d.placed-frame.ensures.padded, f.Fine-of.ensures))
+    (d.before.requires, (d.placed-frame.ensures.padded, f.fine_of-fine.ensures))
 
 loop-holds : tie.Need-loop-k-init invariant-loop decreases-loop
 loop-holds c = (omega arith, omega arith, c.after_the_first-held.ensures)
@@ -38,7 +38,7 @@ after-one-more-requires c κs =
     let l = t.before in
     let f = l.before.before.before.before in
     let d = f.before.before in
-    (d.before.requires, ((d.placed-frame.ensures.padded, f.Fine-of.ensures), ((l.loop-k.invariant.0, t.loop-k-test.true), l.loop-k.invariant.2)))
+    (d.before.requires, ((d.placed-frame.ensures.padded, f.fine_of-fine.ensures), ((l.loop-k.invariant.0, t.loop-k-test.true), l.loop-k.invariant.2)))
 
 add-k : tie.Need-overflow_add-k invariant-loop decreases-loop
 add-k c = omega arith

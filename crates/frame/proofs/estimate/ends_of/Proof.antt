@@ -154,9 +154,9 @@ returns c =
     let l = c.before.loop-i in
     let f = c.before.before.ranges in
     let fs = c.before.before.args.frame.now in
-    let h : to_z w16 l.high ≡ highest_of c.before.before.args.c0 c.before.before.args.c1 fs 14 =
+    let h : to_z w16 l.high-bits ≡ highest_of c.before.before.args.c0 c.before.before.args.c1 fs 14 =
     higher-done _ _ _ l.i _ c.loop-i-test.false l.invariant.0 (rw (to_z-of_z f.c0, to_z-of_z f.c1) at l.invariant.1) in
-    let g : to_z w16 l.low ≡ lowest_of c.before.before.args.c0 c.before.before.args.c1 fs 14 =
+    let g : to_z w16 l.low-bits ≡ lowest_of c.before.before.args.c0 c.before.before.args.c1 fs 14 =
     lower-done _ _ _ l.i _ c.loop-i-test.false l.invariant.0 (rw (to_z-of_z f.c0, to_z-of_z f.c1) at l.invariant.2) in
     rw (h, g)
 

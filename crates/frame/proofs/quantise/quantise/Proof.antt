@@ -17,7 +17,7 @@ rounded-requires c κs = search rules
 
 -- what was rounded, as the next call reads it
 value : (c : tie.After-rounded) → to_z w64 (of_z w64 c.rounded.result) ≡ with_sign c.before.args.d (round24 (nat_abs c.before.args.d))
-value c = to_z-of_z (record { sfits = c.rounded.type_inv }) ∙ rw (to_z-of_z c.before.ranges.d) at c.rounded.ensures
+value c = to_z-of_z {w = w64} (record { sfits = c.rounded.type_inv }) ∙ rw (to_z-of_z c.before.ranges.d) at c.rounded.ensures
 
 nearest-requires : tie.Need-nearest-requires
 nearest-requires c κs =

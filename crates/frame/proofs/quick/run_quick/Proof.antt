@@ -187,7 +187,7 @@ loop-holds c =
       first_fits s,
       (is-cast {w' = w64} (is-in (newest-fits n)) tt).is,
       (y-call a 0 (omega arith) (first_fits s)).is,
-      to_z-of_z (record { sfits = c.begun-g.type_inv }) ∙ c.begun-g.ensures
+      to_z-of_z {w = w64} (record { sfits = c.begun-g.type_inv }) ∙ c.begun-g.ensures
           ∙ ap₂ ◌+ℤ◌ (y-call a 0 (omega arith) (first_fits s)).is (ap₂ ◌-ℤ◌ (eight-call a).is (ap₂ ◌*ℤ◌ (b-is s) (older-is b))),
     )
 
@@ -271,7 +271,7 @@ returns c = let l = c.before.before.before.before.before in (l.loop-i.invariant.
 
 -- the sample, in its local
 s-is : (c : tie.After-struct_told-in-loop-i-1 invariant-loop decreases-loop) → to_z w64 (of_z w64 c.before.trace-t.result.s) ≡ c.before.trace-t.result.s
-s-is c = to_z-of_z (record { sfits = c.struct_told-in-loop-i-1.given.1.0.1 })
+s-is c = to_z-of_z {w = w32} (record { sfits = c.struct_told-in-loop-i-1.given.1.0.1 })
 
 s-fits : (c : tie.Else-is_beyond invariant-loop decreases-loop) → SFits w16 c.before.before.before.trace-t.result.s
 s-fits c = let t = c.before.before in within-16 t.before.trace-t.result.s (rw (s-is t) at (sym c.before.is_beyond.ensures ∙ c.if-is_beyond.false))
@@ -331,7 +331,7 @@ loop-less c = omega arith
 
 -- what is stored
 w-stored : (c : tie.After-struct_told-in-loop-i-1 invariant-loop decreases-loop) → to_z w32 (of_z w32 c.before.trace-t.result.w) ≡ (here c.before.before.before).w
-w-stored c = to_z-of_z (record { sfits = c.struct_told-in-loop-i-1.given.0.1 }) ∙ ap (λ (t : Traced). t.w) (made-is c.before)
+w-stored c = to_z-of_z {w = w32} (record { sfits = c.struct_told-in-loop-i-1.given.0.1 }) ∙ ap (λ (t : Traced). t.w) (made-is c.before)
 
 s-stored : (c : tie.After-struct_told-in-loop-i-1 invariant-loop decreases-loop) → to_z w64 (of_z w64 c.before.trace-t.result.s) ≡ (here c.before.before.before).s
 s-stored c = s-is c ∙ ap (λ (t : Traced). t.s) (made-is c.before)
@@ -361,7 +361,7 @@ loop-again c =
       next_fits l t.loop-i-test.true,
       s-stored b ∙ sym (newest-more (z0 s) (z1 s) (fs s) (p s) i),
       y,
-      to_z-of_z (record { sfits = c.begun-g-in-loop-i.type_inv }) ∙ c.begun-g-in-loop-i.ensures
+      to_z-of_z {w = w64} (record { sfits = c.begun-g-in-loop-i.type_inv }) ∙ c.begun-g-in-loop-i.ensures
           ∙ ap₂ ◌+ℤ◌ y (ap₂ ◌-ℤ◌ (eight-call (scaled_at l)).is (ap₂ ◌*ℤ◌ (b-is s) (l.loop-i.invariant.3 ∙ sym (older-more (z0 s) (z1 s) (fs s) (p s) i)))),
     )
 

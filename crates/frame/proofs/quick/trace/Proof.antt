@@ -35,13 +35,13 @@ w-is c = to_z-of_z (sub-w c) ∙ w-sum c
 
 -- the scales come back as they are
 mask_is : (c : tie.After-struct_told-1) → to_z w64 (of_z w64 c.before.args.k.mask) ≡ c.before.args.k.mask
-mask_is c = to_z-of_z (record { sfits = c.struct_told-1.given.0.1 })
+mask_is c = to_z-of_z {w = w64} (record { sfits = c.struct_told-1.given.0.1 })
 
 all-is : (c : tie.After-struct_told-1) → to_z w64 (of_z w64 c.before.args.k.all) ≡ c.before.args.k.all
-all-is c = to_z-of_z (record { sfits = c.struct_told-1.given.1.0.1 })
+all-is c = to_z-of_z {w = w64} (record { sfits = c.struct_told-1.given.1.0.1 })
 
 top-is : (c : tie.After-struct_told-1) → to_z w64 (of_z w64 c.before.args.k.top) ≡ c.before.args.k.top
-top-is c = to_z-of_z (record { sfits = c.struct_told-1.given.1.1.0.1 })
+top-is c = to_z-of_z {w = w64} (record { sfits = c.struct_told-1.given.1.1.0.1 })
 
 rest-requires : tie.Need-rest-left-requires
 rest-requires c κs = let d = c.before.before in rw (mask_is d, all-is d, top-is d) d.before.requires.0
@@ -50,7 +50,7 @@ rest-is : (c : tie.After-rest-left) → let s = c.before.before.before.before in
 rest-is c =
     let d = c.before.before.before in
     let s = d.before in
-    ap₂ ◌-ℤ◌ (to_z-of_z s.ranges.y) (to_z-of_z (record { sfits = c.rest-left.type_inv }) ∙ c.rest-left.ensures ∙ ap₂ rest_of (w-is s) (ap (λ (z : ℤ). nat_abs z + 1) (mask_is d)))
+    ap₂ ◌-ℤ◌ (to_z-of_z s.ranges.y) (to_z-of_z {w = w64} (record { sfits = c.rest-left.type_inv }) ∙ c.rest-left.ensures ∙ ap₂ rest_of (w-is s) (ap (λ (z : ℤ). nat_abs z + 1) (mask_is d)))
 
 -- w in whole units
 whole_is : (s : tie.Start) → nat_abs (shr_z (w s) 4294967296) ≤ 2017460224

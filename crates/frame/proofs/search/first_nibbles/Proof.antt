@@ -35,7 +35,7 @@ abbrev read : tie.After-n-1 invariant-loop decreases-loop → ℤ
 read c = get_or c.before.before.before.args.wide c.before.before.loop-i.i (pos 0)
 
 read_is : (c : tie.After-n-1 invariant-loop decreases-loop) → to_z w16 (of_z w16 (read c)) ≡ read c
-read_is c = to_z-of_z (record { sfits = c.n-1.given })
+read_is c = to_z-of_z {w = w16} (record { sfits = c.n-1.given })
 
 read_fits : (c : tie.After-n-1 invariant-loop decreases-loop) → SFits w8 (read c)
 read_fits c = sfits-abs {n = 8} (nibble-size (c.before.before.before.requires c.before.before.loop-i.i (omega arith))) tt

@@ -92,7 +92,7 @@ is-last-requires c κs = tt
 
 -- it is the pass at p, and its overflow raises nothing
 told : (c : tie.Then-seen invariant-loop decreases-loop) → let l = c.before.before.before.before in
-    (pass_of c.before.quick_pass-seen.result c.before.quick_pass-seen.new.1.1.1.1.1.1.0 ≡ pass_at l) × (c.before.quick_pass-seen.result.overflow ≤ 248)
+    (pass_of c.before.quick_pass-seen.result c.before.quick_pass-seen.new.s ≡ pass_at l) × (c.before.quick_pass-seen.result.overflow ≤ 248)
 told c = c.before.quick_pass-seen.ensures.1 c.if-seen.true
 
 overflow-told : (c : tie.Then-seen invariant-loop decreases-loop) → c.before.quick_pass-seen.result.overflow ≡ (pass_at c.before.before.before.before).overflow

@@ -188,7 +188,7 @@ returns c = λ q.
     let e : l.loop-i.i ≡ 16 = omega arith in
     let a = s.args in
     let b = l.loop-i in
-    let u = subst (λ (n : ℕ). SeenTo a.frame.now a.w.now a.s.now a.p b.nibbles (to_z w16 b.most) b.near b.high b.low n) e b.invariant.1 in
+    let u = subst (λ (n : ℕ). SeenTo a.frame.now a.w.now a.s.now a.p b.nibbles (to_z w16 b.most-bits) b.near b.high b.low n) e b.invariant.1 in
     seen_all _ _ _ _ _ _ _ _ _ _ _ s.requires.0 s.requires.1.0 c.if-near-eq0.true q c.before.above_seven.ensures u
 
 returns-2 : tie.Need-returns-else-near-eq0 invariant-loop decreases-loop
