@@ -14,54 +14,54 @@ use Rattle.image.proofs.LawsBody.{block-accepted, found-end}
 use Rattle.image.proofs.block_body.Statement.{statement}
 use Rattle.image.proofs.block_body.Tie as tie
 
-found : (c : tie.After-enum-told) → let a = c.before.before.before.before.args in Found a.image.now a.k
-found c = block-accepted _ _ (sym c.before.before.block-answer.ensures ∙ ap outcome c.enum_told.given.1)
+found : (c : tie.In-Accepted) → let a = c.before.before.before.before.args in Found a.image.now a.k
+found c = block-accepted _ _ (sym c.before.before.block_answer-answer.ensures ∙ ap outcome c.enum_told-1.given.1)
 
-block-answer-requires : tie.Need-block-answer-requires
+block-answer-requires : tie.Need-block_answer-answer-requires
 block-answer-requires c κs = search rules
 
-enum_told : tie.Need-enum-told
+enum_told : tie.Need-enum_told-1
 enum_told c = search rules
 
-read-entry-requires : tie.Need-read-entry-requires
+read-entry-requires : tie.Need-read_entry-entry-requires
 read-entry-requires c κs = found c
 
-cast-find-body : tie.Need-overflow-cast-find-body
+cast-find-body : tie.Need-overflow_cast-entry
 cast-find-body c = search rules
 
-cast-find-body-2 : tie.Need-overflow-cast-find-body-2
+cast-find-body-2 : tie.Need-overflow_cast-entry-in-Accepted
 cast-find-body-2 c = search rules
 
-find-body-requires : tie.Need-find-body-requires
+find-body-requires : tie.Need-find_body-requires
 find-body-requires c κs = let a = c.before.before.before.before.before.before.before.args in
-    rw c.before.before.read-entry.ensures (found-end a.image.now a.k (found c.before.before.before))
+    rw c.before.before.read_entry-entry.ensures (found-end a.image.now a.k (found c.before.before.before))
 
-enum-told-2 : tie.Need-enum-told-2
+enum-told-2 : tie.Need-enum_told-in-Refused
 enum-told-2 c = search rules
 
-slice-aggregate-result : tie.Need-slice-aggregate-result
+slice-aggregate-result : tie.Need-slice_bounds-result-end
 slice-aggregate-result c = search rules
 
-returns : tie.Need-returns
+returns : tie.Need-returns-in-Accepted
 unfolding block_part block_body body_in
 returns c =
     simp (
-      ← c.before.before.before.before.before.before.block-answer.ensures,
-      c.before.before.before.before.enum_told.given.1,
-      c.find-body.ensures.0,
-      c.find-body.ensures.1,
-      c.before.before.before.read-entry.ensures,
+      ← c.before.before.before.before.before.before.block_answer-answer.ensures,
+      c.before.before.before.before.enum_told-1.given.1,
+      c.find_body.ensures.0,
+      c.find_body.ensures.1,
+      c.before.before.before.read_entry-entry.ensures,
     )
 
-returns-2 : tie.Need-returns-2
+returns-2 : tie.Need-returns-in-Refused
 unfolding block_part block_body
 returns-2 c =
     let p = c.before.before.before.before.before.args.image.ptr in
     let z : p.1 ≡ p.1 + 0 = omega arith in
-    simp (← c.before.before.before.block-answer.ensures, c.before.enum-told2.given.1) (ap (λ (x : ℕ). effect (p.0, x) []) z)
+    simp (← c.before.before.before.block_answer-answer.ensures, c.before.enum_told-in-Refused-1.given.1) (ap (λ (x : ℕ). effect (p.0, x) []) z)
 
-pub block-body-spec : {M : Type 1} → statement M
-block-body-spec =
+pub block_body_spec : {M : Type 1} → statement M
+block_body_spec =
     tie.close
     (tie.spec
     block-answer-requires

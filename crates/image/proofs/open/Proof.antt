@@ -7,45 +7,45 @@ use Rattle.image.proofs.OpenImages.{opened}
 use Rattle.image.proofs.open.Statement.{statement}
 use Rattle.image.proofs.open.Tie as tie
 
-headed : (c : tie.After-enum-told) → Headed c.before.before.before.before.args.image.now
-headed c = (opened _ (sym c.before.before.open-answer.ensures ∙ ap outcome c.enum_told.given.1)).head
+headed : (c : tie.In-Accepted) → Headed c.before.before.before.before.args.image.now
+headed c = (opened _ (sym c.before.before.open_answer-answer.ensures ∙ ap outcome c.enum_told-1.given.1)).head
 
-open-answer-requires : tie.Need-open-answer-requires
+open-answer-requires : tie.Need-open_answer-answer-requires
 open-answer-requires c κs = search rules
 
-enum_told : tie.Need-enum-told
+enum_told : tie.Need-enum_told-1
 enum_told c = search rules
 
-read-head-requires : tie.Need-read-head-requires
+read-head-requires : tie.Need-read_head-head-requires
 read-head-requires c κs = (headed c).long
 
-read-loop-requires : tie.Need-read-loop-requires
+read-loop-requires : tie.Need-read_loop-looped-requires
 read-loop-requires c κs = headed c.before
 
-loop-context-requires : tie.Need-loop-context-requires
-loop-context-requires c κs = (headed c.before.before, c.read-loop.ensures)
+loop-context-requires : tie.Need-loop_context-context-requires
+loop-context-requires c κs = (headed c.before.before, c.read_loop-looped.ensures)
 
-enum-known-answer : tie.Need-enum-known-answer
+enum-known-answer : tie.Need-enum_known-answer
 enum-known-answer c = search rules
 
-no-head-requires : tie.Need-no-head-requires
+no-head-requires : tie.Need-no_head-head-requires
 no-head-requires c κs = search rules
 
-no-loop-requires : tie.Need-no-loop-requires
+no-loop-requires : tie.Need-no_loop-looped-requires
 no-loop-requires c κs = search rules
 
-new-requires : tie.Need-new-requires
+new-requires : tie.Need-new-context-requires
 new-requires c κs = search rules
 
-returns : tie.Need-returns
+returns : tie.Need-returns-in-Accepted
 unfolding open_image
 returns c = let e = c.before.before.before in
-    rw (← e.before.before.open-answer.ensures, e.enum_told.given.1, c.before.before.read_head.ensures, c.before.read-loop.ensures, c.loop-context.ensures)
+    rw (← e.before.before.open_answer-answer.ensures, e.enum_told-1.given.1, c.before.before.read_head-head.ensures, c.before.read_loop-looped.ensures, c.loop_context-context.ensures)
 
-returns-2 : tie.Need-returns-2
+returns-2 : tie.Need-returns-in-Refused
 unfolding open_image
 returns-2 c = let e = c.before.before.before.before in
-    rw (← e.before.before.open-answer.ensures, e.answer.given.1, c.before.before.no-head.ensures, c.before.no_loop.ensures, c.new.ensures)
+    rw (← e.before.before.open_answer-answer.ensures, e.answer-1.given.1, c.before.before.no_head-head.ensures, c.before.no_loop-looped.ensures, c.new-context.ensures)
 
 pub open_spec : {M : Type 1} → statement M
 open_spec =

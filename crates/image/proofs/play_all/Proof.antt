@@ -8,34 +8,34 @@ use Rattle.image.proofs.play_all.Statement.{statement}
 use Rattle.image.proofs.play_all.Tie as tie
 use Rattle.image.specs.Playing.{room_answer}
 
-open-answer-requires : tie.Need-open-answer-requires
+open-answer-requires : tie.Need-open_answer-answer-requires
 open-answer-requires c κs = search rules
 
-enum_told : tie.Need-enum-told
+enum_told : tie.Need-enum_told-1
 enum_told c = search rules
 
-play-opened-requires : tie.Need-play-opened-requires
-play-opened-requires c κs = opened _ (sym c.before.before.before.open-answer.ensures ∙ ap outcome c.before.enum_told.given.1)
+play-opened-requires : tie.Need-play_opened-requires
+play-opened-requires c κs = opened _ (sym c.before.before.before.open_answer-answer.ensures ∙ ap outcome c.before.enum_told-1.given.1)
 
-enum-known-answer : tie.Need-enum-known-answer
+enum-known-answer : tie.Need-enum_known-answer
 enum-known-answer c = search rules
 
-refused-playback-requires : tie.Need-refused-playback-requires
+refused-playback-requires : tie.Need-refused_playback-requires
 refused-playback-requires c κs = search rules
 
-same_length : tie.Need-same-length
+same_length : tie.Need-shape_of-out
 same_length c = search rules
 
-returns : tie.Need-returns
+returns : tie.Need-returns-in-Accepted
 unfolding play_all all_answer room_answer
-returns c = rw (← c.before.before.before.before.before.open-answer.ensures, c.before.before.before.enum_told.given.1) c.before.play-opened.ensures
+returns c = rw (← c.before.before.before.before.before.open_answer-answer.ensures, c.before.before.before.enum_told-1.given.1) c.before.play_opened.ensures
 
-returns-2 : tie.Need-returns-2
+returns-2 : tie.Need-returns-in-Refused
 unfolding play_all all_answer room_answer
-returns-2 c = let r = c.refused-playback.ensures in rw (← c.before.before.before.before.open-answer.ensures, c.before.before.answer.given.1, r.0, r.1)
+returns-2 c = let r = c.refused_playback.ensures in rw (← c.before.before.before.before.open_answer-answer.ensures, c.before.before.answer-1.given.1, r.0, r.1)
 
-pub play-all-spec : {M : Type 1} → statement M
-play-all-spec =
+pub play_all_spec : {M : Type 1} → statement M
+play_all_spec =
     tie.close
     (tie.spec
     open-answer-requires

@@ -7,32 +7,32 @@ use Rattle.image.proofs.PartOfAll.{from-accepted}
 use Rattle.image.proofs.play_from.Statement.{statement}
 use Rattle.image.proofs.play_from.Tie as tie
 
-from-answer-requires : tie.Need-from-answer-requires
+from-answer-requires : tie.Need-from_answer-answer-requires
 from-answer-requires c κs = search rules
 
-enum_told : tie.Need-enum-told
+enum_told : tie.Need-enum_told-1
 enum_told c = search rules
 
-play-part-requires : tie.Need-play-part-requires
-play-part-requires c κs = let a = from-accepted _ _ (sym c.before.before.before.from-answer.ensures ∙ ap outcome c.before.enum_told.given.1) in
+play-part-requires : tie.Need-play_part-requires
+play-part-requires c κs = let a = from-accepted _ _ (sym c.before.before.before.from_answer-answer.ensures ∙ ap outcome c.before.enum_told-1.given.1) in
     (a.0.opens, a.1)
 
-enum-known-answer : tie.Need-enum-known-answer
+enum-known-answer : tie.Need-enum_known-answer
 enum-known-answer c = search rules
 
-same_length : tie.Need-same-length
+same_length : tie.Need-shape_of-out
 same_length c = search rules
 
-returns : tie.Need-returns
+returns : tie.Need-returns-in-Accepted
 unfolding play_from
-returns c = rw (← c.before.before.before.before.before.from-answer.ensures, c.before.before.before.enum_told.given.1) c.before.play-part.ensures
+returns c = rw (← c.before.before.before.before.before.from_answer-answer.ensures, c.before.before.before.enum_told-1.given.1) c.before.play_part.ensures
 
-returns-2 : tie.Need-returns-2
+returns-2 : tie.Need-returns-in-Refused
 unfolding play_from
-returns-2 c = rw (← c.before.before.before.from-answer.ensures, c.before.answer.given.1)
+returns-2 c = rw (← c.before.before.before.from_answer-answer.ensures, c.before.answer-1.given.1)
 
-pub play-from-spec : {M : Type 1} → statement M
-play-from-spec =
+pub play_from_spec : {M : Type 1} → statement M
+play_from_spec =
     tie.close
     (tie.spec
     from-answer-requires

@@ -7,31 +7,31 @@ use Rattle.image.proofs.OpenImages.{opened}
 use Rattle.image.proofs.play_loop.Statement.{statement}
 use Rattle.image.proofs.play_loop.Tie as tie
 
-open-answer-requires : tie.Need-open-answer-requires
+open-answer-requires : tie.Need-open_answer-answer-requires
 open-answer-requires c κs = search rules
 
-enum_told : tie.Need-enum-told
+enum_told : tie.Need-enum_told-1
 enum_told c = search rules
 
-play-loop-opened-requires : tie.Need-play-loop-opened-requires
-play-loop-opened-requires c κs = opened _ (sym c.before.before.before.open-answer.ensures ∙ ap outcome c.before.enum_told.given.1)
+play-loop-opened-requires : tie.Need-play_loop_opened-requires
+play-loop-opened-requires c κs = opened _ (sym c.before.before.before.open_answer-answer.ensures ∙ ap outcome c.before.enum_told-1.given.1)
 
-enum-known-answer : tie.Need-enum-known-answer
+enum-known-answer : tie.Need-enum_known-answer
 enum-known-answer c = search rules
 
-same_length : tie.Need-same-length
+same_length : tie.Need-shape_of-out
 same_length c = search rules
 
-returns : tie.Need-returns
+returns : tie.Need-returns-in-Accepted
 unfolding play_loop loop_answer
-returns c = rw (← c.before.before.before.before.before.open-answer.ensures, c.before.before.before.enum_told.given.1) c.before.play-loop-opened.ensures
+returns c = rw (← c.before.before.before.before.before.open_answer-answer.ensures, c.before.before.before.enum_told-1.given.1) c.before.play_loop_opened.ensures
 
-returns-2 : tie.Need-returns-2
+returns-2 : tie.Need-returns-in-Refused
 unfolding play_loop loop_answer
-returns-2 c = rw (← c.before.before.before.open-answer.ensures, c.before.answer.given.1)
+returns-2 c = rw (← c.before.before.before.open_answer-answer.ensures, c.before.answer-1.given.1)
 
-pub play-loop-spec : {M : Type 1} → statement M
-play-loop-spec =
+pub play_loop_spec : {M : Type 1} → statement M
+play_loop_spec =
     tie.close
     (tie.spec
     open-answer-requires

@@ -10,7 +10,7 @@ returns c =
       ← c.before.before.before.abs.ensures,
       ← c.before.before.abs-2.ensures,
       ← c.before.max-x1.ensures,
-      c.if-x1.taken,
+      c.if-x1.true,
     )
 
 returns-2 : tie.Need-returns-then-x2
@@ -21,11 +21,11 @@ returns-2 c =
       ← d.before.before.before.abs.ensures,
       ← d.before.before.abs-2.ensures,
       ← d.before.max-x1.ensures,
-      d.if-x1.left,
+      d.if-x1.false,
       ← c.before.before.before.abs-3.ensures,
       ← c.before.before.abs-4.ensures,
       ← c.before.max-x2.ensures,
-      c.if-x2.taken,
+      c.if-x2.true,
     )
 
 returns-3 : tie.Need-returns
@@ -36,11 +36,11 @@ returns-3 c =
       ← d.before.before.before.abs.ensures,
       ← d.before.before.abs-2.ensures,
       ← d.before.max-x1.ensures,
-      d.if-x1.left,
+      d.if-x1.false,
       ← c.before.before.before.before.abs-3.ensures,
       ← c.before.before.before.abs-4.ensures,
       ← c.before.before.max-x2.ensures,
-      c.before.if-x2.left,
+      c.before.if-x2.false,
       ← c.decomposed.ensures,
     )
 

@@ -6,15 +6,15 @@ use Rattle.coefficients.proofs.ranges.exchange2.Tie as tie
 
 returns : tie.Need-returns-then-i-eq2
 unfolding exchange2
-returns c = simp (eq-eqb _ _ c.if-i-eq2.taken)
+returns c = simp (eq-eqb _ _ c.if-i-eq2.true)
 
 returns-2 : tie.Need-returns-then-i-eq1
 unfolding exchange2
-returns-2 c = simp (ne_eqb _ _ c.before.if-i-eq2.left, eq-eqb _ _ c.if-i-eq1.taken)
+returns-2 c = simp (ne_eqb _ _ c.before.if-i-eq2.false, eq-eqb _ _ c.if-i-eq1.true)
 
 returns-3 : tie.Need-returns
 unfolding exchange2
-returns-3 c = simp (ne_eqb _ _ c.before.if-i-eq2.left, ne_eqb _ _ c.if-i-eq1.left)
+returns-3 c = simp (ne_eqb _ _ c.before.if-i-eq2.false, ne_eqb _ _ c.if-i-eq1.false)
 
 pub exchange2_spec : {M : Type 1} → statement M
 exchange2_spec = tie.close (tie.spec returns returns-2 returns-3)

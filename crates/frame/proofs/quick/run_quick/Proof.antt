@@ -271,7 +271,7 @@ returns c = let l = c.before.before.before.before.before in (l.loop-i.invariant.
 
 -- the sample, in its local
 s-is : (c : tie.After-struct_told-in-loop-i-1 invariant-loop decreases-loop) → to_z w64 (of_z w64 c.before.trace-t.result.s) ≡ c.before.trace-t.result.s
-s-is c = to_z-of_z {w = w32} (record { sfits = c.struct_told-in-loop-i-1.given.1.0.1 })
+s-is c = to_z-of_z {w = w64} (record { sfits = c.struct_told-in-loop-i-1.given.1.0.1 })
 
 s-fits : (c : tie.Else-is_beyond invariant-loop decreases-loop) → SFits w16 c.before.before.before.trace-t.result.s
 s-fits c = let t = c.before.before in within-16 t.before.trace-t.result.s (rw (s-is t) at (sym c.before.is_beyond.ensures ∙ c.if-is_beyond.false))

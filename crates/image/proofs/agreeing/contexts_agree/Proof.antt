@@ -10,9 +10,9 @@ use Rattle.image.specs.Sameness.{same_context}
 use Rattle.image.proofs.agreeing.contexts_agree.Statement.{statement}
 use Rattle.image.proofs.agreeing.contexts_agree.Tie as tie
 
-returns : tie.Need-returns
+returns : tie.Need-returns-then-first-second
 unfolding same_context
-returns c = rw (ne_eqb _ _ c.if1.true)
+returns c = rw (ne_eqb _ _ c.if-first-second.true)
 
 equal-requires : tie.Need-equal-requires
 equal-requires c κs = search rules
@@ -21,31 +21,31 @@ equal-requires c κs = search rules
 newest-told : (c : tie.After-equal) → let a = c.before.before.before.before.before.before.before.before.args in c.equal.result ≡ equal a.first.last_samples.newest a.second.last_samples.newest
 newest-told c =
     let a = c.before.before.before.before.before.before.before.before.args in
-    let f : SFits w16 a.first.last_samples.newest = record { sfits = c.before.before.struct_told.given.0.1 } in
-    let g : SFits w16 a.second.last_samples.newest = record { sfits = c.before.struct-told2.given.0.1 } in
+    let f : SFits w16 a.first.last_samples.newest = record { sfits = c.before.before.struct_told-1.given.0.1 } in
+    let g : SFits w16 a.second.last_samples.newest = record { sfits = c.before.struct_told-2-1.given.0.1 } in
     rw (to_z-of_z f, to_z-of_z g) at c.equal.ensures
 
-older-told : (c : tie.After-equal2) → let a = c.before.before.before.before.before.before.before.before.before.before.before.before.args in c.equal2.result ≡ equal a.first.last_samples.older a.second.last_samples.older
+older-told : (c : tie.After-equal-2) → let a = c.before.before.before.before.before.before.before.before.before.before.before.before.args in c.equal-2.result ≡ equal a.first.last_samples.older a.second.last_samples.older
 older-told c =
     let a = c.before.before.before.before.before.before.before.before.before.before.before.before.args in
-    let f : SFits w16 a.first.last_samples.older = record { sfits = c.before.before.struct-told3.given.1.0.1 } in
-    let g : SFits w16 a.second.last_samples.older = record { sfits = c.before.struct-told4.given.1.0.1 } in
-    rw (to_z-of_z f, to_z-of_z g) at c.equal2.ensures
+    let f : SFits w16 a.first.last_samples.older = record { sfits = c.before.before.struct_told-3-1.given.1.0.1 } in
+    let g : SFits w16 a.second.last_samples.older = record { sfits = c.before.struct_told-4-1.given.1.0.1 } in
+    rw (to_z-of_z f, to_z-of_z g) at c.equal-2.ensures
 
-returns-2 : tie.Need-returns-2
+returns-2 : tie.Need-returns-then-not-equal
 unfolding same_context
-returns-2 c = rw (eq-eqb _ _ c.before.before.before.before.before.before.if1.false, sym (newest-told c.before) ∙ not-true _ c.if2.true)
+returns-2 c = rw (eq-eqb _ _ c.before.before.before.before.before.before.if-first-second.false, sym (newest-told c.before) ∙ not-true _ c.if-not-equal.true-raw)
 
 equal-requires-2 : tie.Need-equal-requires-2
 equal-requires-2 c κs = search rules
 
-returns-3 : tie.Need-returns-3
+returns-3 : tie.Need-returns
 unfolding same_context
 returns-3 c = rw (
-  eq-eqb _ _ c.before.before.before.before.before.before.before.before.before.if1.false,
-  sym (newest-told c.before.before.before.before) ∙ not-false _ c.before.before.before.if2.false,
+  eq-eqb _ _ c.before.before.before.before.before.before.before.before.before.if-first-second.false,
+  sym (newest-told c.before.before.before.before) ∙ not-false _ c.before.before.before.if-not-equal.false-raw,
 ) (older-told c)
 
-pub contexts-agree-spec : {M : Type 1} → statement M
-contexts-agree-spec =
+pub contexts_agree_spec : {M : Type 1} → statement M
+contexts_agree_spec =
     tie.close (tie.spec returns equal-requires returns-2 equal-requires-2 returns-3)

@@ -18,66 +18,66 @@ first-loops : (c : tie.After-get16) → c.get16.result ≡ loops_in c.before.bef
 unfolding loops_in
 first-loops c = c.get16.ensures
 
-second-loops : (c : tie.After-get162) → c.get162.result ≡ loops_in c.before.before.before.before.args.b.now
+second-loops : (c : tie.After-get16-2) → c.get16-2.result ≡ loops_in c.before.before.before.before.args.b.now
 unfolding loops_in
-second-loops c = c.get162.ensures
+second-loops c = c.get16-2.ensures
 
-returns : tie.Need-returns
+returns : tie.Need-returns-then-get16
 unfolding same_loop
-returns c = rw (← first-loops c.before.before, ← second-loops c.before, ne_eqb _ _ c.if1.true)
+returns c = rw (← first-loops c.before.before, ← second-loops c.before, ne_eqb _ _ c.if-get16.true)
 
 -- as many loops
-loops : (c : tie.Else1) → loops_in c.before.before.before.before.before.args.a.now ≡ loops_in c.before.before.before.before.before.args.b.now
-loops c = sym (first-loops c.before.before) ∙ c.if1.false ∙ second-loops c.before
+loops : (c : tie.Else-get16) → loops_in c.before.before.before.before.before.args.a.now ≡ loops_in c.before.before.before.before.before.args.b.now
+loops c = sym (first-loops c.before.before) ∙ c.if-get16.false ∙ second-loops c.before
 
-read-loop-requires : tie.Need-read-loop-requires
+read-loop-requires : tie.Need-read_loop-first-requires
 read-loop-requires c κs = search rules
 
-read-loop-requires-2 : tie.Need-read-loop-requires-2
+read-loop-requires-2 : tie.Need-read_loop-second-requires
 read-loop-requires-2 c κs = search rules
 
-returns-2 : tie.Need-returns-2
+returns-2 : tie.Need-returns-then-first-second
 unfolding same_loop
 returns-2 c = rw (
   eq-eqb _ _ (loops c.before.before.before.before.before),
-  ← c.before.before.before.before.read-loop.ensures,
-  ← c.before.before.before.read-loop2.ensures,
-  ne_eqb _ _ c.if2.true,
+  ← c.before.before.before.before.read_loop-first.ensures,
+  ← c.before.before.before.read_loop-second.ensures,
+  ne_eqb _ _ c.if-first-second.true,
 )
 
-returns-3 : tie.Need-returns-3
+returns-3 : tie.Need-returns-then-first-second-2
 unfolding same_loop
 returns-3 c = rw (
   eq-eqb _ _ (loops c.before.before.before.before.before.before.before.before),
-  ← c.before.before.before.before.before.before.before.read-loop.ensures,
-  ← c.before.before.before.before.before.before.read-loop2.ensures,
-  eq-eqb _ _ c.before.before.before.if2.false,
-  ne_eqb _ _ c.if3.true,
+  ← c.before.before.before.before.before.before.before.read_loop-first.ensures,
+  ← c.before.before.before.before.before.before.read_loop-second.ensures,
+  eq-eqb _ _ c.before.before.before.if-first-second.false,
+  ne_eqb _ _ c.if-first-second-2.true,
 )
 
-loop-context-requires : tie.Need-loop-context-requires
+loop-context-requires : tie.Need-loop_context-one-requires
 loop-context-requires c κs = search rules
 
-loop-context-requires-2 : tie.Need-loop-context-requires-2
+loop-context-requires-2 : tie.Need-loop_context-other-requires
 loop-context-requires-2 c κs = search rules
 
-contexts-agree-requires : tie.Need-contexts-agree-requires
+contexts-agree-requires : tie.Need-contexts_agree-requires
 contexts-agree-requires c κs = search rules
 
-returns-4 : tie.Need-returns-4
+returns-4 : tie.Need-returns
 unfolding same_loop
 returns-4 c = rw (
   eq-eqb _ _ (loops c.before.before.before.before.before.before.before.before.before.before.before),
-  ← c.before.before.before.before.before.before.before.before.before.before.read-loop.ensures,
-  ← c.before.before.before.before.before.before.before.before.before.read-loop2.ensures,
-  eq-eqb _ _ c.before.before.before.before.before.before.if2.false,
-  eq-eqb _ _ c.before.before.before.if3.false,
-  ← c.before.before.loop-context.ensures,
-  ← c.before.loop-context2.ensures,
-) c.contexts-agree.ensures
+  ← c.before.before.before.before.before.before.before.before.before.before.read_loop-first.ensures,
+  ← c.before.before.before.before.before.before.before.before.before.read_loop-second.ensures,
+  eq-eqb _ _ c.before.before.before.before.before.before.if-first-second.false,
+  eq-eqb _ _ c.before.before.before.if-first-second-2.false,
+  ← c.before.before.loop_context-one.ensures,
+  ← c.before.loop_context-other.ensures,
+) c.contexts_agree.ensures
 
-pub loops-agree-spec : {M : Type 1} → statement M
-loops-agree-spec =
+pub loops_agree_spec : {M : Type 1} → statement M
+loops_agree_spec =
     tie.close
     (tie.spec
     get16-requires

@@ -5,28 +5,28 @@ use borrow.Author.Rules.{rules}
 use Rattle.image.proofs.checks.both_answer.Statement.{statement}
 use Rattle.image.proofs.checks.both_answer.Tie as tie
 
-compare-answer-requires : tie.Need-compare-answer-requires
+compare-answer-requires : tie.Need-compare_answer-answer-requires
 compare-answer-requires c κs = search rules
 
-enum_told : tie.Need-enum-told
+enum_told : tie.Need-enum_told-1
 enum_told c = search rules
 
-compare-answer-requires-2 : tie.Need-compare-answer-requires-2
+compare-answer-requires-2 : tie.Need-compare_answer-requires
 compare-answer-requires-2 c κs = search rules
 
-enum-known-answer : tie.Need-enum-known-answer
+enum-known-answer : tie.Need-enum_known-answer
 enum-known-answer c = search rules
 
-returns : tie.Need-returns
+returns : tie.Need-returns-in-Accepted
 unfolding both_answer
-returns c = simp (← c.before.before.before.compare-answer.ensures, c.before.enum_told.given.1, c.compare-answer2.ensures)
+returns c = simp (← c.before.before.before.compare_answer-answer.ensures, c.before.enum_told-1.given.1, c.compare_answer.ensures)
 
-returns-2 : tie.Need-returns-2
+returns-2 : tie.Need-returns-in-Refused
 unfolding both_answer
-returns-2 c = simp (← c.before.before.before.compare-answer.ensures, c.before.answer.given.1)
+returns-2 c = simp (← c.before.before.before.compare_answer-answer.ensures, c.before.answer-1.given.1)
 
-pub both-answer-spec : {M : Type 1} → statement M
-both-answer-spec =
+pub both_answer_spec : {M : Type 1} → statement M
+both_answer_spec =
     tie.close
     (tie.spec
     compare-answer-requires

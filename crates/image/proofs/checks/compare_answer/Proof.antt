@@ -7,47 +7,47 @@ use borrow.Author.Rules.{rules}
 use Rattle.image.proofs.checks.compare_answer.Statement.{statement}
 use Rattle.image.proofs.checks.compare_answer.Tie as tie
 
-open-answer-requires : tie.Need-open-answer-requires
+open-answer-requires : tie.Need-open_answer-answer-requires
 open-answer-requires c κs = search rules
 
-enum_told : tie.Need-enum-told
+enum_told : tie.Need-enum_told-1
 enum_told c = search rules
 
-read-coefficients-requires : tie.Need-read-coefficients-requires
-read-coefficients-requires c κs = (opened _ (sym c.before.before.open-answer.ensures ∙ ap outcome c.enum_told.given.1)).head.long
+read-coefficients-requires : tie.Need-read_coefficients-coefficients-requires
+read-coefficients-requires c κs = (opened _ (sym c.before.before.open_answer-answer.ensures ∙ ap outcome c.enum_told-1.given.1)).head.long
 
-lowest-pair-requires : tie.Need-lowest-pair-requires
+lowest-pair-requires : tie.Need-lowest_pair-requires
 lowest-pair-requires c κs = search rules
 
-returns : tie.Need-returns
+returns : tie.Need-returns-then-lowest_pair
 unfolding compare_answer
 returns c = simp (
-  ← c.before.before.before.before.before.open-answer.ensures,
-  c.before.before.before.enum_told.given.1,
-  ← c.before.before.read-coefficients.ensures,
-  ← c.before.lowest-pair.ensures,
-  c.if1.true,
+  ← c.before.before.before.before.before.open_answer-answer.ensures,
+  c.before.before.before.enum_told-1.given.1,
+  ← c.before.before.read_coefficients-coefficients.ensures,
+  ← c.before.lowest_pair.ensures,
+  c.if-lowest_pair.true,
 )
 
-enum-known-answer : tie.Need-enum-known-answer
+enum-known-answer : tie.Need-enum_known-answer
 enum-known-answer c = search rules
 
-returns-2 : tie.Need-returns-2
+returns-2 : tie.Need-returns-else-lowest_pair
 unfolding compare_answer
 returns-2 c = simp (
-  ← c.before.before.before.before.before.open-answer.ensures,
-  c.before.before.before.enum_told.given.1,
-  ← c.before.before.read-coefficients.ensures,
-  ← c.before.lowest-pair.ensures,
-  c.if1.false,
+  ← c.before.before.before.before.before.open_answer-answer.ensures,
+  c.before.before.before.enum_told-1.given.1,
+  ← c.before.before.read_coefficients-coefficients.ensures,
+  ← c.before.lowest_pair.ensures,
+  c.if-lowest_pair.false,
 )
 
-returns-3 : tie.Need-returns-3
+returns-3 : tie.Need-returns-in-Refused
 unfolding compare_answer
-returns-3 c = simp (← c.before.before.before.open-answer.ensures, c.before.answer.given.1)
+returns-3 c = simp (← c.before.before.before.open_answer-answer.ensures, c.before.answer-1.given.1)
 
-pub compare-answer-spec : {M : Type 1} → statement M
-compare-answer-spec =
+pub compare_answer_spec : {M : Type 1} → statement M
+compare_answer_spec =
     tie.close
     (tie.spec
     open-answer-requires

@@ -10,15 +10,15 @@ use Rattle.image.proofs.LawsSame.{compare-accepted}
 use Rattle.image.proofs.checks.from_answer.Statement.{statement}
 use Rattle.image.proofs.checks.from_answer.Tie as tie
 
-compare-answer-requires : tie.Need-compare-answer-requires
+compare-answer-requires : tie.Need-compare_answer-answer-requires
 compare-answer-requires c κs = search rules
 
-enum_told : tie.Need-enum-told
+enum_told : tie.Need-enum_told-1
 enum_told c = search rules
 
 get32-requires : tie.Need-get32-requires
 get32-requires c κs =
-    let o = compare-accepted _ (sym c.before.before.compare-answer.ensures ∙ ap outcome c.enum_told.given.1) in
+    let o = compare-accepted _ (sym c.before.before.compare_answer-answer.ensures ∙ ap outcome c.enum_told-1.given.1) in
     omega (arith, o.opens.head.long)
 
 -- N was read
@@ -26,33 +26,33 @@ counted : (c : tie.After-get32) → c.get32.result ≡ total_in c.before.before.
 unfolding total_in
 counted c = c.get32.ensures
 
-returns : tie.Need-returns
+returns : tie.Need-returns-then-first-get32
 unfolding from_answer
 returns c = let a = c.before.before.before.before.before.before.args in
     rw (
-      ← c.before.before.before.before.compare-answer.ensures,
-      c.before.before.enum_told.given.1,
-      le-leb (total_in a.image.now) a.first (omega (arith, counted c.before, c.if1.true)),
+      ← c.before.before.before.before.compare_answer-answer.ensures,
+      c.before.before.enum_told-1.given.1,
+      le-leb (total_in a.image.now) a.first (omega (arith, counted c.before, c.if-first-get32.true)),
     )
 
-enum-known-answer : tie.Need-enum-known-answer
+enum-known-answer : tie.Need-enum_known-answer
 enum-known-answer c = search rules
 
-returns-2 : tie.Need-returns-2
+returns-2 : tie.Need-returns-else-first-get32
 unfolding from_answer
 returns-2 c = let a = c.before.before.before.before.before.before.args in
     rw (
-      ← c.before.before.before.before.compare-answer.ensures,
-      c.before.before.enum_told.given.1,
-      lt-leb (total_in a.image.now) a.first (omega (arith, counted c.before, c.if1.false)),
+      ← c.before.before.before.before.compare_answer-answer.ensures,
+      c.before.before.enum_told-1.given.1,
+      lt-leb (total_in a.image.now) a.first (omega (arith, counted c.before, c.if-first-get32.false)),
     )
 
-returns-3 : tie.Need-returns-3
+returns-3 : tie.Need-returns-in-Refused
 unfolding from_answer
-returns-3 c = simp (← c.before.before.before.compare-answer.ensures, c.before.answer.given.1)
+returns-3 c = simp (← c.before.before.before.compare_answer-answer.ensures, c.before.answer-1.given.1)
 
-pub from-answer-spec : {M : Type 1} → statement M
-from-answer-spec =
+pub from_answer_spec : {M : Type 1} → statement M
+from_answer_spec =
     tie.close
     (tie.spec
     compare-answer-requires

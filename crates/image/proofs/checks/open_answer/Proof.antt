@@ -10,70 +10,70 @@ use Rattle.image.proofs.OpenImages.{head-says}
 use Rattle.image.proofs.checks.open_answer.Statement.{statement}
 use Rattle.image.proofs.checks.open_answer.Tie as tie
 
-headed : (c : tie.Else1) → Headed c.before.before.before.args.image.now
-headed c = head-says _ (sym c.before.head_ok.ensures ∙ not-false _ c.if1.false)
+headed : (c : tie.Else-not-head_ok) → Headed c.before.before.before.args.image.now
+headed c = head-says _ (sym c.before.head_ok.ensures ∙ not-false _ c.if-not-head_ok.false-raw)
 
 -- the entries, with the shape that was read
-listed : (c : tie.After-entries-answer) → let l = c.before.before.before.before.before.args.image.now in
-    outcome c.entries-answer.result ≡ entries_answer l (shape_in l) 0 (block_count (shape_in l))
-listed c = c.entries-answer.ensures ∙ rw c.before.read-shape.ensures
+listed : (c : tie.After-entries_answer-answer) → let l = c.before.before.before.before.before.args.image.now in
+    outcome c.entries_answer-answer.result ≡ entries_answer l (shape_in l) 0 (block_count (shape_in l))
+listed c = c.entries_answer-answer.ensures ∙ rw c.before.read_shape.ensures
 
-head-ok-requires : tie.Need-head-ok-requires
+head-ok-requires : tie.Need-head_ok-requires
 head-ok-requires c κs = search rules
 
-returns : tie.Need-returns
+returns : tie.Need-returns-then-not-head_ok
 unfolding open_answer
-returns c = simp (← c.before.head_ok.ensures, not-true c.before.head_ok.result c.if1.true)
+returns c = simp (← c.before.head_ok.ensures, not-true c.before.head_ok.result c.if-not-head_ok.true-raw)
 
-read-shape-requires : tie.Need-read-shape-requires
+read-shape-requires : tie.Need-read_shape-requires
 read-shape-requires c κs = (headed c).long
 
-entries-answer-requires : tie.Need-entries-answer-requires
-entries-answer-requires c κs = let h = headed c.before in rw c.read-shape.ensures (h.limits, h.size)
+entries-answer-requires : tie.Need-entries_answer-answer-requires
+entries-answer-requires c κs = let h = headed c.before in rw c.read_shape.ensures (h.limits, h.size)
 
-enum_told : tie.Need-enum-told
+enum_told : tie.Need-enum_told-1
 enum_told c = search rules
 
-loop-fits-requires : tie.Need-loop-fits-requires
+loop-fits-requires : tie.Need-loop_fits-requires
 loop-fits-requires c κs = headed c.before.before.before.before
 
-returns-2 : tie.Need-returns-2
+returns-2 : tie.Need-returns-then-not-loop_fits
 unfolding open_answer
 returns-2 c = let e = c.before.before.before.before in
     let i = e.before.before in
     simp (
       ← i.before.head_ok.ensures,
-      not-false i.before.head_ok.result i.if1.false,
+      not-false i.before.head_ok.result i.if-not-head_ok.false-raw,
       ← listed e,
-      c.before.before.enum_told.given.1,
-      ← c.before.loop-fits.ensures,
-      not-true c.before.loop-fits.result c.if2.true,
+      c.before.before.enum_told-1.given.1,
+      ← c.before.loop_fits.ensures,
+      not-true c.before.loop_fits.result c.if-not-loop_fits.true-raw,
     )
 
-enum-known-answer : tie.Need-enum-known-answer
+enum-known-answer : tie.Need-enum_known-answer
 enum-known-answer c = search rules
 
-returns-3 : tie.Need-returns-3
+returns-3 : tie.Need-returns-else-not-loop_fits
 unfolding open_answer
 returns-3 c = let e = c.before.before.before.before in
     let i = e.before.before in
     simp (
       ← i.before.head_ok.ensures,
-      not-false i.before.head_ok.result i.if1.false,
+      not-false i.before.head_ok.result i.if-not-head_ok.false-raw,
       ← listed e,
-      c.before.before.enum_told.given.1,
-      ← c.before.loop-fits.ensures,
-      not-false c.before.loop-fits.result c.if2.false,
+      c.before.before.enum_told-1.given.1,
+      ← c.before.loop_fits.ensures,
+      not-false c.before.loop_fits.result c.if-not-loop_fits.false-raw,
     )
 
-returns-4 : tie.Need-returns-4
+returns-4 : tie.Need-returns-in-Refused
 unfolding open_answer
 returns-4 c = let e = c.before.before.before in
     let i = e.before.before in
-    simp (← i.before.head_ok.ensures, not-false i.before.head_ok.result i.if1.false, ← listed e, c.before.answer.given.1)
+    simp (← i.before.head_ok.ensures, not-false i.before.head_ok.result i.if-not-head_ok.false-raw, ← listed e, c.before.answer-1.given.1)
 
-pub open-answer-spec : {M : Type 1} → statement M
-open-answer-spec =
+pub open_answer_spec : {M : Type 1} → statement M
+open_answer_spec =
     tie.close
     (tie.spec
     head-ok-requires

@@ -14,25 +14,25 @@ use Rattle.image.proofs.LawsEqual.{upto-none, upto-more, upto-stops}
 use Rattle.image.proofs.comparing.equal_part.Statement.{statement}
 use Rattle.image.proofs.comparing.equal_part.Tie as tie
 
-abbrev invariant-loop : tie.invariant-loop
+abbrev invariant-loop : tie.invariant-loop-i
 invariant-loop count xs ys i₀ i = (i ≤ count) × (equal_up_to xs ys i ≡ true)
 
-abbrev decreases-loop : tie.decreases-loop
+abbrev decreases-loop : tie.decreases-loop-i
 decreases-loop count xs ys i₀ i = count - i
 
-loop-holds : tie.Need-loop-init invariant-loop decreases-loop
+loop-holds : tie.Need-loop-i-init invariant-loop decreases-loop
 loop-holds c = (omega arith, upto-none _ _)
 
-mul-equal : tie.Need-overflow-mul-equal invariant-loop decreases-loop
+mul-equal : tie.Need-offset_bounds-xs-i invariant-loop decreases-loop
 mul-equal c = omega arith
 
-array-copy-out-equal : tie.Need-array-copy-out-equal invariant-loop decreases-loop
+array-copy-out-equal : tie.Need-bounds-xs-i invariant-loop decreases-loop
 array-copy-out-equal c = omega arith
 
-mul-equal-2 : tie.Need-overflow-mul-equal-2 invariant-loop decreases-loop
+mul-equal-2 : tie.Need-offset_bounds-ys-i invariant-loop decreases-loop
 mul-equal-2 c = omega arith
 
-array-copy-out-equal-2 : tie.Need-array-copy-out-equal-2 invariant-loop decreases-loop
+array-copy-out-equal-2 : tie.Need-bounds-ys-i invariant-loop decreases-loop
 array-copy-out-equal-2 c = omega arith
 
 equal-requires : tie.Need-equal-requires invariant-loop decreases-loop
@@ -40,38 +40,38 @@ equal-requires c κs = tt
 
 -- the answer on the two samples
 told : (c : tie.After-equal invariant-loop decreases-loop) → let l = c.before.before.before.before in let a = l.before.args in c.equal.result
-    ≡ equal (get_or a.t1 l.loop.i (pos 0)) (get_or a.t2 l.loop.i (pos 0))
+    ≡ equal (get_or a.xs l.loop-i.i (pos 0)) (get_or a.ys l.loop-i.i (pos 0))
 told c =
     let l = c.before.before.before.before in
-    let f : SFits w16 (get_or l.before.args.t1 l.loop.i (pos 0)) = record { sfits = c.before.before.equal-arg.given } in
-    let g : SFits w16 (get_or l.before.args.t2 l.loop.i (pos 0)) = record { sfits = c.before.equal-arg2.given } in
+    let f : SFits w16 (get_or l.before.args.xs l.loop-i.i (pos 0)) = record { sfits = c.before.before.equal-arg-1.given } in
+    let g : SFits w16 (get_or l.before.args.ys l.loop-i.i (pos 0)) = record { sfits = c.before.equal-arg-in-loop-i-1.given } in
     rw (to_z-of_z f, to_z-of_z g) at c.equal.ensures
 
-returns : tie.Need-returns invariant-loop decreases-loop
+returns : tie.Need-returns-then-not-equal invariant-loop decreases-loop
 returns c =
     let l = c.before.before.before.before.before in
     let a = l.before.args in
-    sym (upto-stops a.t1 a.t2 l.loop.i a.count c.before.before.before.before.loop-test.true (sym (told c.before) ∙ not-true _ c.if1.true))
+    sym (upto-stops a.xs a.ys l.loop-i.i a.count c.before.before.before.before.loop-i-test.true (sym (told c.before) ∙ not-true _ c.if-not-equal.true-raw))
 
-add-i : tie.Need-overflow-add-i invariant-loop decreases-loop
+add-i : tie.Need-overflow_add-i invariant-loop decreases-loop
 add-i c = omega arith
 
-loop-less : tie.Need-loop-smaller invariant-loop decreases-loop
+loop-less : tie.Need-loop-i-smaller invariant-loop decreases-loop
 loop-less c = omega arith
 
-loop-again : tie.Need-loop-preserved invariant-loop decreases-loop
+loop-again : tie.Need-loop-i-preserved invariant-loop decreases-loop
 loop-again c =
     let l = c.before.before.before.before.before in
     let a = l.before.args in
-    (omega arith, upto-more a.t1 a.t2 l.loop.i l.loop.invariant.1 (sym (told c.before) ∙ not-false _ c.if1.false))
+    (omega arith, upto-more a.xs a.ys l.loop-i.i l.loop-i.invariant.1 (sym (told c.before) ∙ not-false _ c.if-not-equal.false-raw))
 
-returns-2 : tie.Need-returns-2 invariant-loop decreases-loop
+returns-2 : tie.Need-returns invariant-loop decreases-loop
 returns-2 c =
-    let e : c.before.loop.i ≡ c.before.before.args.count = omega arith in
-    sym (rw e at c.before.loop.invariant.1)
+    let e : c.before.loop-i.i ≡ c.before.before.args.count = omega arith in
+    sym (rw e at c.before.loop-i.invariant.1)
 
-pub equal-part-spec : {M : Type 1} → statement M
-equal-part-spec =
+pub equal_part_spec : {M : Type 1} → statement M
+equal_part_spec =
     tie.close
     (tie.spec
     invariant-loop

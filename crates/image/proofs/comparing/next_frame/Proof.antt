@@ -12,28 +12,28 @@ use Rattle.image.proofs.comparing.next_frame.Statement.{statement}
 use Rattle.image.proofs.comparing.next_frame.Tie as tie
 
 -- the frame's source
-source : (c : tie.After-bodies-place) → let a = c.before.before.before.before.args in Source a.image.now a.head.block c.bodies-place.result a.i
-source c = let s = c.before.before.before.before in turn-source s.args.image.now _ _ _ _ s.requires (c.bodies-place.ensures ∙ ap bodies_place c.before.read-shape.ensures)
+source : (c : tie.After-bodies_place-bodies) → let a = c.before.before.before.before.args in Source a.image.now a.head.block c.bodies_place-bodies.result a.i
+source c = let s = c.before.before.before.before in turn-source s.args.image.now _ _ _ _ s.requires (c.bodies_place-bodies.ensures ∙ ap bodies_place c.before.read_shape.ensures)
 
-cast-block : tie.Need-overflow-cast-block
+cast-block : tie.Need-overflow_cast-block
 cast-block c = search rules
 
-read-shape-requires : tie.Need-read-shape-requires
+read-shape-requires : tie.Need-read_shape-requires
 read-shape-requires c κs = search rules
 
-bodies-place-requires : tie.Need-bodies-place-requires
-bodies-place-requires c κs = rw c.read-shape.ensures c.before.before.before.requires.opens.head.limits
+bodies-place-requires : tie.Need-bodies_place-bodies-requires
+bodies-place-requires c κs = rw c.read_shape.ensures c.before.before.before.requires.opens.head.limits
 
-context-before-requires : tie.Need-context-before-requires
+context-before-requires : tie.Need-context_before-context-requires
 context-before-requires c κs = source c.before
 
-mul-played-frame : tie.Need-overflow-mul-played-frame
+mul-played-frame : tie.Need-overflow_mul-i
 mul-played-frame c = let p = placed _ _ _ _ (source c.before.before) in omega (arith, p.frames)
 
-add-played-frame : tie.Need-overflow-add-played-frame
+add-played-frame : tie.Need-overflow_add-bodies
 add-played-frame c = let p = placed _ _ _ _ (source c.before.before) in omega (arith, p.frames, p.blocks, p.further, (source c.before.before).bodies)
 
-played-frame-requires : tie.Need-played-frame-requires
+played-frame-requires : tie.Need-played_frame-requires
 unfolding frame_place_in
 played-frame-requires c κs = let p = placed _ _ _ _ (source c.before.before) in
     let n = c.before.before.before.before.before.before.requires.samples in
@@ -43,15 +43,15 @@ returns : tie.Need-returns
 unfolding next_frame head_in
 returns c = let s = c.before.before.before.before.before.before.before in
     rw (
-      c.played-frame.ensures,
-      c.before.context-before.ensures,
+      c.played_frame.ensures,
+      c.before.context_before-context.ensures,
       s.requires.samples,
       place-made s.args.image.now _ _ _ (source c.before.before.before),
       ap (λ (h : Head). h.coefficients) s.requires.read,
     )
 
-pub next-frame-spec : {M : Type 1} → statement M
-next-frame-spec =
+pub next_frame_spec : {M : Type 1} → statement M
+next_frame_spec =
     tie.close
     (tie.spec
     cast-block

@@ -9,7 +9,7 @@ use Rattle.image.specs.Reading.{signed_at}
 use Rattle.image.proofs.heading.signed_at.Statement.{statement}
 use Rattle.image.proofs.heading.signed_at.Tie as tie
 
-word-at-requires : tie.Need-word-at-requires
+word-at-requires : tie.Need-word_at-requires
 word-at-requires c κs = search rules
 
 signed16-requires : tie.Need-signed16-requires
@@ -19,10 +19,10 @@ returns : tie.Need-returns
 unfolding signed_at
 returns c =
     let g = c.before.word_at in
-    let f : Fits w16 g.result = record { fits = g.type-inv } in
+    let f : Fits w16 g.result = record { fits = g.type_inv } in
     ap (λ (y : ℤ). to_z w16 (of_z w16 y)) c.signed16.ensures
     ∙ to_z-of_z w16 (to_z w16 g.result) (to_z-Fits w16 g.result f)
     ∙ ap (to_z w16) g.ensures
 
-pub signed-at-spec : {M : Type 1} → statement M
-signed-at-spec = tie.close (tie.spec word-at-requires signed16-requires returns)
+pub signed_at_spec : {M : Type 1} → statement M
+signed_at_spec = tie.close (tie.spec word-at-requires signed16-requires returns)

@@ -8,11 +8,11 @@ use Rattle.image.proofs.heading.word_at.Tie as tie
 get16-requires : tie.Need-get16-requires
 get16-requires c κs = search rules
 
-cast-result : tie.Need-overflow-cast-result
-cast-result c = let a = c.before.before.args.at in omega (arith, c.get16.ensures, c.before.shared-slice-known.given a, c.before.shared-slice-known.given (a + 1))
+cast-result : tie.Need-overflow_cast-result
+cast-result c = let a = c.before.before.args.at in omega (arith, c.get16.ensures, c.before.shared_slice_known-1.given a, c.before.shared_slice_known-1.given (a + 1))
 
 returns : tie.Need-returns
 returns c = search rules
 
-pub word-at-spec : {M : Type 1} → statement M
-word-at-spec = tie.close (tie.spec get16-requires cast-result returns)
+pub word_at_spec : {M : Type 1} → statement M
+word_at_spec = tie.close (tie.spec get16-requires cast-result returns)

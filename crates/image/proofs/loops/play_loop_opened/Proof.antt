@@ -17,78 +17,78 @@ use Rattle.image.proofs.loops.play_loop_opened.Statement.{statement}
 use Rattle.image.proofs.loops.play_loop_opened.Tie as tie
 
 -- the samples of so many turns, of what was read
-counted : (c : tie.After-read-loop) → let a = c.before.before.before.args in
-    a.times * (c.read-loop.result.end - c.read-loop.result.start) ≡ a.times * loop_length a.image.now
-counted c = ap (λ (p : Loop). c.before.before.before.args.times * (p.end - p.start)) c.read-loop.ensures
+counted : (c : tie.After-read_loop-looped) → let a = c.before.before.before.args in
+    a.times * (c.read_loop-looped.result.end - c.read_loop-looped.result.start) ≡ a.times * loop_length a.image.now
+counted c = ap (λ (p : Loop). c.before.before.before.args.times * (p.end - p.start)) c.read_loop-looped.ensures
 
 -- the tests
-tested : (c : tie.After-room-answer) → let a = c.before.before.before.before.before.args in outcome c.room-answer.result
+tested : (c : tie.After-room_answer-answer) → let a = c.before.before.before.before.before.args in outcome c.room_answer-answer.result
     ≡ room_answer (coefficients_in a.image.now) (a.times * loop_length a.image.now) (length a.out.now)
-tested c = c.room-answer.ensures ∙ rw (c.before.before.before.read-coefficients.ensures, c.before.before.read-loop.ensures)
+tested c = c.room_answer-answer.ensures ∙ rw (c.before.before.before.read_coefficients-coefficients.ensures, c.before.before.read_loop-looped.ensures)
 
 -- what playing was accepted with
-playable : (c : tie.After-enum-told) → let a = c.before.before.before.before.before.before.before.args in
+playable : (c : tie.In-Accepted) → let a = c.before.before.before.before.before.before.before.args in
     (lowest_pair (coefficients_in a.image.now) ≡ false) × (a.times * loop_length a.image.now ≤ length a.out.now)
-playable c = room-accepted _ _ _ (sym (tested c.before.before) ∙ ap outcome c.enum_told.given.1)
+playable c = room-accepted _ _ _ (sym (tested c.before.before) ∙ ap outcome c.enum_told-1.given.1)
 
-read-coefficients-requires : tie.Need-read-coefficients-requires
+read-coefficients-requires : tie.Need-read_coefficients-coefficients-requires
 read-coefficients-requires c κs = search rules
 
-read-loop-requires : tie.Need-read-loop-requires
+read-loop-requires : tie.Need-read_loop-looped-requires
 read-loop-requires c κs = search rules
 
-sub-samples : tie.Need-overflow-sub-samples
-sub-samples c = let s = c.before.before.before.before in rw c.before.read-loop.ensures (loop-order s.args.image.now s.requires)
+sub-samples : tie.Need-overflow_sub-samples
+sub-samples c = let s = c.before.before.before.before in rw c.before.read_loop-looped.ensures (loop-order s.args.image.now s.requires)
 
-cast-samples : tie.Need-overflow-cast-samples
+cast-samples : tie.Need-overflow_cast-samples-2
 cast-samples c = search rules
 
-mul-samples : tie.Need-overflow-mul-samples
+mul-samples : tie.Need-overflow_mul-samples
 mul-samples c = let s = c.before.before.before.before in
     let m = turns-small s.args.image.now s.requires s.args.times (omega (arith, s.ranges.times)) in
     omega (arith, m, counted c.before)
 
-room-answer-requires : tie.Need-room-answer-requires
+room-answer-requires : tie.Need-room_answer-answer-requires
 room-answer-requires c κs = search rules
 
-enum_told : tie.Need-enum-told
+enum_told : tie.Need-enum_told-1
 enum_told c = search rules
 
-loop-context-requires : tie.Need-loop-context-requires
-loop-context-requires c κs = (c.before.before.before.before.before.before.before.before.requires.head, c.before.before.before.before.before.read-loop.ensures)
+loop-context-requires : tie.Need-loop_context-context-requires
+loop-context-requires c κs = (c.before.before.before.before.before.before.before.before.requires.head, c.before.before.before.before.before.read_loop-looped.ensures)
 
-play-turns-requires : tie.Need-play-turns-requires
+play-turns-requires : tie.Need-play_turns-requires
 play-turns-requires c κs = let i = c.before.before in
     let r = i.before.before.before.before.before in
     let s = r.before.before.before in (
-      record { opens = s.requires; present = sym (ap (λ (p : Loop). p.present) r.read-loop.ensures) ∙ i.if1.true; enough = (playable i.before).1 },
-      r.read-loop.ensures,
-      c.before.loop-context.ensures,
-      r.before.read-coefficients.ensures,
+      record { opens = s.requires; present = sym (ap (λ (p : Loop). p.present) r.read_loop-looped.ensures) ∙ i.if-present.true; enough = (playable i.before).1 },
+      r.read_loop-looped.ensures,
+      c.before.loop_context-context.ensures,
+      r.before.read_coefficients-coefficients.ensures,
     )
 
-enum-known-answer : tie.Need-enum-known-answer
+enum-known-answer : tie.Need-enum_known-answer
 enum-known-answer c = search rules
 
-same_length : tie.Need-same-length
+same_length : tie.Need-shape_of-out
 same_length c = search rules
 
-returns : tie.Need-returns
+returns : tie.Need-returns-then-present
 returns c = let e = c.before.before.before.before.before in
     let p = playable e in
-    loop-made _ _ _ p.0 p.1 _ _ (counted e.before.before.before.before) c.before.play-turns.ensures
+    loop-made _ _ _ p.0 p.1 _ _ (counted e.before.before.before.before) c.before.play_turns.ensures
 
-returns-2 : tie.Need-returns-2
+returns-2 : tie.Need-returns-else-present
 returns-2 c = let e = c.before in
     let r = e.before.before.before.before in
     let p = playable e in
-    loop-made _ _ _ p.0 p.1 _ _ (counted r) (none-played _ _ _ (sym (ap (λ (q : Loop). q.present) r.read-loop.ensures) ∙ c.if1.false))
+    loop-made _ _ _ p.0 p.1 _ _ (counted r) (none-played _ _ _ (sym (ap (λ (q : Loop). q.present) r.read_loop-looped.ensures) ∙ c.if-present.false))
 
-returns-3 : tie.Need-returns-3
-returns-3 c = rw (← tested c.before.before.before, c.before.answer.given.1)
+returns-3 : tie.Need-returns-in-Refused
+returns-3 c = rw (← tested c.before.before.before, c.before.answer-1.given.1)
 
-pub play-loop-opened-spec : {M : Type 1} → statement M
-play-loop-opened-spec =
+pub play_loop_opened_spec : {M : Type 1} → statement M
+play_loop_opened_spec =
     tie.close
     (tie.spec
     read-coefficients-requires

@@ -15,54 +15,54 @@ use Rattle.image.proofs.playing.play_found.Statement.{statement}
 use Rattle.image.proofs.playing.play_found.Tie as tie
 
 -- as many samples as the entry's length says
-counted : (c : tie.After-address-to-sample) → let a = c.before.before.before.before.args in c.address-to-sample.result ≡ address_to_sample (length_in a.image.now a.k)
-counted c = c.address-to-sample.ensures ∙ ap (λ (e : Entry). address_to_sample e.nibbles) c.before.read-entry.ensures
+counted : (c : tie.After-address_to_sample-samples) → let a = c.before.before.before.before.args in c.address_to_sample-samples.result ≡ address_to_sample (length_in a.image.now a.k)
+counted c = c.address_to_sample-samples.ensures ∙ ap (λ (e : Entry). address_to_sample e.nibbles) c.before.read_entry-entry.ensures
 
 -- the tests, of what was read
-tested : (c : tie.After-room-answer) → let a = c.before.before.before.before.before.args in outcome c.room-answer.result
+tested : (c : tie.After-room_answer-answer) → let a = c.before.before.before.before.before.args in outcome c.room_answer-answer.result
     ≡ room_answer (coefficients_in a.image.now) (address_to_sample (length_in a.image.now a.k)) (length a.out.now)
-tested c = c.room-answer.ensures ∙ rw (c.before.before.before.read-coefficients.ensures, counted c.before)
+tested c = c.room_answer-answer.ensures ∙ rw (c.before.before.before.read_coefficients-coefficients.ensures, counted c.before)
 
 -- what playing was accepted with
-playable : (c : tie.After-enum-told) → let a = c.before.before.before.before.before.before.before.args in Playable a.image.now a.k (length a.out.now)
-playable c = let r = room-accepted _ _ _ (sym (tested c.before.before) ∙ ap outcome c.enum_told.given.1) in
+playable : (c : tie.In-Accepted) → let a = c.before.before.before.before.before.before.before.args in Playable a.image.now a.k (length a.out.now)
+playable c = let r = room-accepted _ _ _ (sym (tested c.before.before) ∙ ap outcome c.enum_told-1.given.1) in
     record { found = c.before.before.before.before.before.before.before.requires; pairs = r.0; enough = r.1 }
 
-read-coefficients-requires : tie.Need-read-coefficients-requires
+read-coefficients-requires : tie.Need-read_coefficients-coefficients-requires
 read-coefficients-requires c κs = search rules
 
-read-entry-requires : tie.Need-read-entry-requires
+read-entry-requires : tie.Need-read_entry-entry-requires
 read-entry-requires c κs = search rules
 
-address-to-sample-requires : tie.Need-address-to-sample-requires
+address-to-sample-requires : tie.Need-address_to_sample-samples-requires
 address-to-sample-requires c κs = search rules
 
-room-answer-requires : tie.Need-room-answer-requires
+room-answer-requires : tie.Need-room_answer-answer-requires
 room-answer-requires c κs = search rules
 
-enum_told : tie.Need-enum-told
+enum_told : tie.Need-enum_told-1
 enum_told c = search rules
 
-play-block-requires : tie.Need-play-block-requires
-play-block-requires c κs = (playable c.before, c.before.before.before.before.before.read-entry.ensures, c.before.before.before.before.before.before.read-coefficients.ensures)
+play-block-requires : tie.Need-play_block-after-requires
+play-block-requires c κs = (playable c.before, c.before.before.before.before.before.read_entry-entry.ensures, c.before.before.before.before.before.before.read_coefficients-coefficients.ensures)
 
-enum-known-answer : tie.Need-enum-known-answer
+enum-known-answer : tie.Need-enum_known-answer
 enum-known-answer c = search rules
 
-refused-playback-requires : tie.Need-refused-playback-requires
+refused-playback-requires : tie.Need-refused_playback-requires
 refused-playback-requires c κs = search rules
 
-same_length : tie.Need-same-length
+same_length : tie.Need-shape_of-out
 same_length c = search rules
 
-returns : tie.Need-returns
-returns c = found-made _ _ _ (playable c.before.before.before) _ _ (counted c.before.before.before.before.before.before) c.before.play-block.ensures
+returns : tie.Need-returns-in-Accepted
+returns c = found-made _ _ _ (playable c.before.before.before) _ _ (counted c.before.before.before.before.before.before) c.before.play_block-after.ensures
 
-returns-2 : tie.Need-returns-2
-returns-2 c = let r = c.refused-playback.ensures in rw (← tested c.before.before.before.before, c.before.before.answer.given.1, r.0, r.1)
+returns-2 : tie.Need-returns-in-Refused
+returns-2 c = let r = c.refused_playback.ensures in rw (← tested c.before.before.before.before, c.before.before.answer-1.given.1, r.0, r.1)
 
-pub play-found-spec : {M : Type 1} → statement M
-play-found-spec =
+pub play_found_spec : {M : Type 1} → statement M
+play_found_spec =
     tie.close
     (tie.spec
     read-coefficients-requires

@@ -13,35 +13,35 @@ use Rattle.image.proofs.running.context_at_sample.Statement.{statement}
 use Rattle.image.proofs.running.context_at_sample.Tie as tie
 
 -- the first sample's block
-found : (c : tie.After-per-block) → let a = c.before.before.args in Found a.image.now (a.first / c.per-block.result)
-found c = let s = c.before.before in rw c.per-block.ensures (start-found s.args.image.now s.args.first 1 s.requires.0)
+found : (c : tie.After-per_block-per) → let a = c.before.before.args in Found a.image.now (a.first / c.per_block-per.result)
+found c = let s = c.before.before in rw c.per_block-per.ensures (start-found s.args.image.now s.args.first 1 s.requires.0)
 
-per-block-requires : tie.Need-per-block-requires
+per-block-requires : tie.Need-per_block-per-requires
 per-block-requires c κs = search rules
 
-div-k : tie.Need-nonzero-div-k
+div-k : tie.Need-nonzero_div-k
 div-k c = search rules
 
-read-context-requires : tie.Need-read-context-requires
+read-context-requires : tie.Need-read_context-own-requires
 read-context-requires c κs = found-entry _ _ (found c)
 
-rem-sample-to-address : tie.Need-nonzero-rem-sample-to-address
+rem-sample-to-address : tie.Need-nonzero_rem-first
 rem-sample-to-address c = search rules
 
-cast-sample-to-address : tie.Need-overflow-cast-sample-to-address
+cast-sample-to-address : tie.Need-overflow_cast-first
 cast-sample-to-address c = let p = c.before in
     let s = p.before.before in
     let i = from-inside s.args.image.now s.args.first 1 s.requires.0 in
     let m = s.requires.0.opens.head.limits.narrow in
-    rw p.per-block.ensures (omega (arith, i, m))
+    rw p.per_block-per.ensures (omega (arith, i, m))
 
-sample-to-address-requires : tie.Need-sample-to-address-requires
+sample-to-address-requires : tie.Need-sample_to_address-address-requires
 sample-to-address-requires c κs = search rules
 
-body-of-requires : tie.Need-body-of-requires
+body-of-requires : tie.Need-body_of-requires
 body-of-requires c κs = found c.before.before
 
-context-after-requires : tie.Need-context-after-requires
+context-after-requires : tie.Need-context_after-requires
 context-after-requires c κs = let p = c.before.before.before in
     let s = p.before.before in
     let l = s.args.image.now in
@@ -49,16 +49,16 @@ context-after-requires c κs = let p = c.before.before.before in
     let a = sample-place (s.args.first % per_block l) in
     let b = sample-before (s.args.first % per_block l) _ f in
     let m = body-length l (s.args.first / per_block l) (start-found l s.args.first 1 s.requires.0) in
-    rw (c.body_of.ensures, c.before.sample-to-address.ensures, p.per-block.ensures) (omega (arith, a), omega (arith, b, m))
+    rw (c.body_of.ensures, c.before.sample_to_address-address.ensures, p.per_block-per.ensures) (omega (arith, a), omega (arith, b, m))
 
 returns : tie.Need-returns
 unfolding context_at_sample
 returns c = let p = c.before.before.before.before in
-    c.context-after.ensures
-    ∙ rw (c.before.body_of.ensures, c.before.before.sample-to-address.ensures, c.before.before.before.read-context.ensures, p.per-block.ensures, p.before.before.requires.1)
+    c.context_after.ensures
+    ∙ rw (c.before.body_of.ensures, c.before.before.sample_to_address-address.ensures, c.before.before.before.read_context-own.ensures, p.per_block-per.ensures, p.before.before.requires.1)
 
-pub context-at-sample-spec : {M : Type 1} → statement M
-context-at-sample-spec =
+pub context_at_sample_spec : {M : Type 1} → statement M
+context_at_sample_spec =
     tie.close
     (tie.spec
     per-block-requires

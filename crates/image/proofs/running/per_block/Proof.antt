@@ -7,15 +7,15 @@ use Rattle.image.proofs.running.per_block.Tie as tie
 get32-requires : tie.Need-get32-requires
 get32-requires c κs = search rules
 
-cast-result : tie.Need-overflow-cast-result
+cast-result : tie.Need-overflow_cast-result
 cast-result c = search rules
 
-mul-result : tie.Need-overflow-mul-result
+mul-result : tie.Need-overflow_mul-result
 mul-result c = search rules
 
 returns : tie.Need-returns
 unfolding block_in
 returns c = rw c.get32.ensures
 
-pub per-block-spec : {M : Type 1} → statement M
-per-block-spec = tie.close (tie.spec get32-requires cast-result mul-result returns)
+pub per_block_spec : {M : Type 1} → statement M
+per_block_spec = tie.close (tie.spec get32-requires cast-result mul-result returns)

@@ -18,58 +18,58 @@ unfolding total_in
 counted c = c.get32.ensures
 
 -- how many samples
-count : (c : tie.After-least) → let a = c.before.before.before.args in c.least.result ≡ run_count a.image.now a.first (length a.out.now)
-count c = c.least.ensures ∙ ap (λ (n : ℕ). min (length c.before.before.before.args.out.now) (n - c.before.before.before.args.first)) (counted c.before)
+count : (c : tie.After-least-count) → let a = c.before.before.before.args in c.least-count.result ≡ run_count a.image.now a.first (length a.out.now)
+count c = c.least-count.ensures ∙ ap (λ (n : ℕ). min (length c.before.before.before.args.out.now) (n - c.before.before.before.args.first)) (counted c.before)
 
-run : (c : tie.Else1) → let s = c.before.before.before.before in Run s.args.image.now s.args.first c.before.least.result
+run : (c : tie.Else-count-eq0) → let s = c.before.before.before.before in Run s.args.image.now s.args.first c.before.least-count.result
 run c = let s = c.before.before.before.before in
     let n = count c.before in
-    record { opens = s.requires.0; some = omega (arith, c.if1.false); inside = omega (arith, n, s.requires.1) }
+    record { opens = s.requires.0; some = omega (arith, c.if-count-eq0.false); inside = omega (arith, n, s.requires.1) }
 
 get32-requires : tie.Need-get32-requires
 get32-requires c κs = search rules
 
-cast-left : tie.Need-overflow-cast-left
+cast-left : tie.Need-overflow_cast-left
 cast-left c = search rules
 
-sub-left : tie.Need-overflow-sub-left
+sub-left : tie.Need-overflow_sub-left
 sub-left c = omega (arith, counted c, c.before.before.requires.1)
 
-least-requires : tie.Need-least-requires
+least-requires : tie.Need-least-count-requires
 least-requires c κs = search rules
 
-returns : tie.Need-returns
-returns c = part_none _ _ _ _ (count c.before) (omega (arith, c.if1.true))
+returns : tie.Need-returns-then-count-eq0
+returns c = part_none _ _ _ _ (count c.before) (omega (arith, c.if-count-eq0.true))
 
-read-coefficients-requires : tie.Need-read-coefficients-requires
+read-coefficients-requires : tie.Need-read_coefficients-coefficients-requires
 read-coefficients-requires c κs = search rules
 
-context-at-sample-requires : tie.Need-context-at-sample-requires
+context-at-sample-requires : tie.Need-context_at_sample-context-requires
 context-at-sample-requires c κs = search rules
 
-play-run-requires : tie.Need-play-run-requires
+play-run-requires : tie.Need-play_run-blocks-requires
 play-run-requires c κs = let e = c.before.before.before in
     let n = count e.before in
-    (run e, c.before.before.read-coefficients.ensures, omega (arith, n))
+    (run e, c.before.before.read_coefficients-coefficients.ensures, omega (arith, n))
 
-cast-t9 : tie.Need-overflow-cast-t9
+cast-t9 : tie.Need-overflow_cast-result
 cast-t9 c = let p = c.before in
     let s = p.before.before.before.before.before.before.before.before in
     let l = s.args.image.now in
-    let t = touched-le (per_block l) s.args.first p.before.before.before.before.before.least.result (blocks_in l) in
+    let t = touched-le (per_block l) s.args.first p.before.before.before.before.before.least-count.result (blocks_in l) in
     let k = blocks-few l s.requires.0 in
-    omega (arith, p.play-run.ensures.0, t, k)
+    omega (arith, p.play_run-blocks.ensures.0, t, k)
 
-same_length : tie.Need-same-length
+same_length : tie.Need-shape_of-out
 same_length c = search rules
 
-returns-2 : tie.Need-returns-2
+returns-2 : tie.Need-returns
 returns-2 c = let p = c.before in
     let e = p.before.before.before.before in
-    part-made _ _ _ _ _ _ (run e) (count e.before) p.play-run.ensures.0 (rw p.before.before.context-at-sample.ensures at p.play-run.ensures.1)
+    part-made _ _ _ _ _ _ (run e) (count e.before) p.play_run-blocks.ensures.0 (rw p.before.before.context_at_sample-context.ensures at p.play_run-blocks.ensures.1)
 
-pub play-part-spec : {M : Type 1} → statement M
-play-part-spec =
+pub play_part_spec : {M : Type 1} → statement M
+play_part_spec =
     tie.close
     (tie.spec
     get32-requires

@@ -13,79 +13,79 @@ use Rattle.image.proofs.running.play_run.Statement.{statement}
 use Rattle.image.proofs.running.play_run.Tie as tie
 
 -- the samples of the first block
-here : (c : tie.After-least) → let a = c.before.before.before.args in let p = per_block a.image.now in c.least.result ≡ min (p - a.first % p) a.count
-here c = c.least.ensures ∙ rw c.before.per-block.ensures
+here : (c : tie.After-least-done) → let a = c.before.before.before.args in let p = per_block a.image.now in c.least-done.result ≡ min (p - a.first % p) a.count
+here c = c.least-done.ensures ∙ rw c.before.per_block-per.ensures
 
 -- the blocks visited
-visited : (c : tie.After-play-later-blocks) → let a = c.before.before.before.before.before.before.before.before.args in
-    let l = a.image.now in 1 + c.play-later-blocks.result ≡ touched (per_block l) a.first a.count (blocks_in l)
+visited : (c : tie.After-play_later_blocks-later) → let a = c.before.before.before.before.before.before.before.before.args in
+    let l = a.image.now in 1 + c.play_later_blocks-later.result ≡ touched (per_block l) a.first a.count (blocks_in l)
 visited c = let m = c.before.before.before.before.before in
     let s = m.before.before.before in
-    let v = c.play-later-blocks.ensures.0 in
+    let v = c.play_later_blocks-later.ensures.0 in
     run-touched s.args.image.now s.args.first s.args.count s.requires.0 _ _ (here m) v.0 v.1
 
-per-block-requires : tie.Need-per-block-requires
+per-block-requires : tie.Need-per_block-per-requires
 per-block-requires c κs = search rules
 
-div-k : tie.Need-nonzero-div-k
+div-k : tie.Need-nonzero_div-k
 div-k c = search rules
 
-rem-from : tie.Need-nonzero-rem-from
+rem-from : tie.Need-nonzero_rem-from
 rem-from c = search rules
 
-sub-least : tie.Need-overflow-sub-least
+sub-least : tie.Need-overflow_sub-per
 sub-least c = let s = c.before.before in
     let i = from-inside s.args.image.now s.args.first s.args.count s.requires.0 in
-    rw c.per-block.ensures (omega (arith, i))
+    rw c.per_block-per.ensures (omega (arith, i))
 
-least-requires : tie.Need-least-requires
+least-requires : tie.Need-least-done-requires
 least-requires c κs = search rules
 
-play-in-block-requires : tie.Need-play-in-block-requires
+play-in-block-requires : tie.Need-play_in_block-requires
 play-in-block-requires c κs = let m = c.before in
     let s = m.before.before.before in
     let h = here m in (
-      rw m.before.per-block.ensures (head-some s.args.image.now s.args.first s.args.count s.requires.0 _ h),
+      rw m.before.per_block-per.ensures (head-some s.args.image.now s.args.first s.args.count s.requires.0 _ h),
       s.requires.1,
       omega (arith, h, s.requires.2),
     )
 
-add-play-later-blocks : tie.Need-overflow-add-play-later-blocks
+add-play-later-blocks : tie.Need-overflow_add-k
 add-play-later-blocks c = let p = c.before.before.before.before in
     let s = p.before.before in
     let l = s.args.image.now in
     let f = (start-found l s.args.first s.args.count s.requires.0).block in
     let b = s.requires.0.opens.head.blocks in
     let k = blocks-few l s.requires.0.opens in
-    rw p.per-block.ensures (omega (arith, f, b, k))
+    rw p.per_block-per.ensures (omega (arith, f, b, k))
 
-sub-play-later-blocks : tie.Need-overflow-sub-play-later-blocks
+sub-play-later-blocks : tie.Need-overflow_sub-count
 sub-play-later-blocks c = search rules
 
-mul-play-later-blocks : tie.Need-overflow-mul-play-later-blocks
+mul-play-later-blocks : tie.Need-offset_bounds-out-done
 mul-play-later-blocks c = search rules
 
-sub-play-later-blocks-2 : tie.Need-overflow-sub-play-later-blocks-2
+sub-play-later-blocks-2 : tie.Need-slice_bounds-play_later_blocks-count
 sub-play-later-blocks-2 c = search rules
 
-part-play-later-blocks-start : tie.Need-slice-bounds-play-later-blocks-start
+part-play-later-blocks-start : tie.Need-slice_bounds-play_later_blocks-start
 part-play-later-blocks-start c = search rules
 
-part-play-later-blocks-end : tie.Need-slice-bounds-play-later-blocks-end
+part-play-later-blocks-end : tie.Need-slice_bounds-play_later_blocks-end
 part-play-later-blocks-end c = search rules
 
-play-later-blocks-requires : tie.Need-play-later-blocks-requires
+play-later-blocks-requires : tie.Need-play_later_blocks-later-requires
 play-later-blocks-requires c κs = let m = c.before.before.before.before in
     let s = m.before.before.before in
     let h = here m in
-    let left = c.before.before.play-in-block.new.1.1.1.1.1.1.0 in
-    let d = ap length (part-all left m.least.result) ∙ length-drop m.least.result left in (
-      rw m.before.per-block.ensures (later-run s.args.image.now s.args.first s.args.count s.requires.0 _ h),
+    let left = c.before.before.play_in_block.new.1.1.1.1.1.1.0 in
+    let d = ap length (part-all left m.least-done.result) ∙ length-drop m.least-done.result left in (
+      rw m.before.per_block-per.ensures (later-run s.args.image.now s.args.first s.args.count s.requires.0 _ h),
       s.requires.1,
-      omega (arith, d, c.before.out.given, s.requires.2),
+      omega (arith, d, c.before.out-1.given, s.requires.2),
     )
 
-add-result : tie.Need-overflow-add-result
+add-result : tie.Need-overflow_add-result
 add-result c = let p = c.before in
     let s = p.before.before.before.before.before.before.before.before in
     let l = s.args.image.now in
@@ -94,7 +94,7 @@ add-result c = let p = c.before in
     let k = blocks-few l s.requires.0.opens in
     omega (arith, v, t, k)
 
-same_length : tie.Need-same-length
+same_length : tie.Need-shape_of-out
 same_length c = search rules
 
 returns : tie.Need-returns
@@ -102,13 +102,13 @@ returns c = let p = c.before in
     let m = p.before.before.before.before.before in
     let s = m.before.before.before in
     let g = s.args in
-    let e = m.before.per-block.ensures in
+    let e = m.before.per_block-per.ensures in
     let w = run-written g.image.now g.first g.count s.requires.0 g.context _ g.out.now _ _ (here m) s.requires.2
-    (rw e at p.before.before.before.play-in-block.ensures) (rw e at p.play-later-blocks.ensures.1) in
+    (rw e at p.before.before.before.play_in_block.ensures) (rw e at p.play_later_blocks-later.ensures.1) in
     (visited p, w)
 
-pub play-run-spec : {M : Type 1} → statement M
-play-run-spec =
+pub play_run_spec : {M : Type 1} → statement M
+play_run_spec =
     tie.close
     (tie.spec
     per-block-requires
