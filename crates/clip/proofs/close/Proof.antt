@@ -8,30 +8,30 @@ use Rattle.clip.proofs.close.Statement.{statement}
 use Rattle.clip.proofs.close.Tie as tie
 use Rattle.clip.proofs.close.Reads as reads
 
-close-answer-requires : tie.Need-close-answer-requires
+close-answer-requires : tie.Need-close_answer-answer-requires
 close-answer-requires c κs = search rules
 
-enum_told : tie.Need-enum-told
+enum_told : tie.Need-enum_told-1
 enum_told c = search rules
 
-finish-requires : tie.Need-finish-requires
-finish-requires c κs = close-accepted _ _ (sym c.before.before.before.close-answer.ensures ∙ ap outcome c.before.enum_told.given.1)
+finish-requires : tie.Need-finish-closed-requires
+finish-requires c κs = close-accepted _ _ (sym c.before.before.close_answer-answer.ensures ∙ ap outcome c.before.in-Accepted.is)
 
-enum-known-answer : tie.Need-enum-known-answer
+enum-known-answer : tie.Need-enum_known-answer
 enum-known-answer c = search rules
 
-same_length : tie.Need-same-length
+same_length : tie.Need-shape_of-image
 same_length c = search rules
 
-returns : tie.Need-returns
+returns : tie.Need-returns-in-Accepted
 unfolding close
 returns c =
-    rw (← c.before.before.before.before.before.before.close-answer.ensures, c.before.before.before.before.enum_told.given.1)
-    (ap (λ (s : Left). effect (accepted tt) s) c.before.before.finish.ensures)
+    rw (← c.before.before.before.before.before.close_answer-answer.ensures, c.before.before.before.before.in-Accepted.is)
+    (ap (λ (s : Left). effect (accepted tt) s) c.before.before.finish-closed.ensures)
 
-returns-2 : tie.Need-returns-2
+returns-2 : tie.Need-returns-in-Refused
 unfolding close
-returns-2 c = rw (← c.before.before.before.close-answer.ensures, c.before.answer.given.1)
+returns-2 c = rw (← c.before.close_answer-answer.ensures, c.in-Refused.is)
 
 pub close_spec : {M : Type 1} → statement M
 close_spec =

@@ -8,33 +8,33 @@ use Rattle.clip.proofs.feed.Statement.{statement}
 use Rattle.clip.proofs.feed.Tie as tie
 use Rattle.clip.proofs.feed.Reads as reads
 
-feed-answer-requires : tie.Need-feed-answer-requires
+feed-answer-requires : tie.Need-feed_answer-answer-requires
 feed-answer-requires c κs = search rules
 
-enum_told : tie.Need-enum-told
+enum_told : tie.Need-enum_told-1
 enum_told c = search rules
 
-feed-all-requires : tie.Need-feed-all-requires
-feed-all-requires c κs = feed-accepted _ _ _ (sym c.before.before.before.feed-answer.ensures ∙ ap outcome c.before.enum_told.given.1)
+feed-all-requires : tie.Need-feed_all-fed-requires
+feed-all-requires c κs = feed-accepted _ _ _ (sym c.before.before.feed_answer-answer.ensures ∙ ap outcome c.before.in-Accepted.is)
 
-enum-known-answer : tie.Need-enum-known-answer
+enum-known-answer : tie.Need-enum_known-answer
 enum-known-answer c = search rules
 
-same_length : tie.Need-same-length
+same_length : tie.Need-shape_of-image
 same_length c = search rules
 
-returns : tie.Need-returns
+returns : tie.Need-returns-in-Accepted
 unfolding feed
 returns c =
-    rw (← c.before.before.before.before.before.before.feed-answer.ensures, c.before.before.before.before.enum_told.given.1)
-    (ap (λ (s : Left). effect (accepted tt) s) c.before.before.feed-all.ensures)
+    rw (← c.before.before.before.before.before.feed_answer-answer.ensures, c.before.before.before.before.in-Accepted.is)
+    (ap (λ (s : Left). effect (accepted tt) s) c.before.before.feed_all-fed.ensures)
 
-returns-2 : tie.Need-returns-2
+returns-2 : tie.Need-returns-in-Refused
 unfolding feed
-returns-2 c = rw (← c.before.before.before.feed-answer.ensures, c.before.answer.given.1)
+returns-2 c = rw (← c.before.feed_answer-answer.ensures, c.in-Refused.is)
 
-pub feed-spec : {M : Type 1} → statement M
-feed-spec =
+pub feed_spec : {M : Type 1} → statement M
+feed_spec =
     tie.close
     (tie.spec
     feed-answer-requires

@@ -17,22 +17,22 @@ enum_told : tie.Need-enum_told-1
 enum_told c = search rules
 
 get32-requires : tie.Need-get32-requires
-get32-requires c κs = omega (arith, (opened _ (sym c.before.before.open_answer-answer.ensures ∙ ap outcome c.enum_told-1.given.1)).head.long)
+get32-requires c κs = omega (arith, (opened _ (sym c.before.open_answer-answer.ensures ∙ ap outcome c.in-Accepted.is)).head.long)
 
 returns : tie.Need-returns-then-k-get32
 unfolding block_answer blocks_in
-returns c = simp (← c.before.before.before.before.open_answer-answer.ensures, c.before.before.enum_told-1.given.1, ← c.before.get32.ensures, le-leb _ _ c.if-k-get32.true)
+returns c = simp (← c.before.before.before.open_answer-answer.ensures, c.before.before.in-Accepted.is, ← c.before.get32.ensures, le-leb _ _ c.if-k-get32.true)
 
 enum-known-answer : tie.Need-enum_known-answer
 enum-known-answer c = search rules
 
 returns-2 : tie.Need-returns-else-k-get32
 unfolding block_answer blocks_in
-returns-2 c = simp (← c.before.before.before.before.open_answer-answer.ensures, c.before.before.enum_told-1.given.1, ← c.before.get32.ensures, lt-leb _ _ c.if-k-get32.false)
+returns-2 c = simp (← c.before.before.before.open_answer-answer.ensures, c.before.before.in-Accepted.is, ← c.before.get32.ensures, lt-leb _ _ c.if-k-get32.false)
 
 returns-3 : tie.Need-returns-in-Refused
 unfolding block_answer
-returns-3 c = simp (← c.before.before.before.open_answer-answer.ensures, c.before.answer-1.given.1)
+returns-3 c = simp (← c.before.open_answer-answer.ensures, c.in-Refused.is)
 
 pub block_answer_spec : {M : Type 1} → statement M
 block_answer_spec =

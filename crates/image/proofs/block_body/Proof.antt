@@ -14,8 +14,8 @@ use Rattle.image.proofs.LawsBody.{block-accepted, found-end}
 use Rattle.image.proofs.block_body.Statement.{statement}
 use Rattle.image.proofs.block_body.Tie as tie
 
-found : (c : tie.In-Accepted) → let a = c.before.before.before.before.args in Found a.image.now a.k
-found c = block-accepted _ _ (sym c.before.before.block_answer-answer.ensures ∙ ap outcome c.enum_told-1.given.1)
+found : (c : tie.In-Accepted) → let a = c.before.before.before.args in Found a.image.now a.k
+found c = block-accepted _ _ (sym c.before.block_answer-answer.ensures ∙ ap outcome c.in-Accepted.is)
 
 block-answer-requires : tie.Need-block_answer-answer-requires
 block-answer-requires c κs = search rules
@@ -33,7 +33,7 @@ cast-find-body-2 : tie.Need-overflow_cast-entry-in-Accepted
 cast-find-body-2 c = search rules
 
 find-body-requires : tie.Need-find_body-requires
-find-body-requires c κs = let a = c.before.before.before.before.before.before.before.args in
+find-body-requires c κs = let a = c.before.before.before.before.before.before.args in
     rw c.before.before.read_entry-entry.ensures (found-end a.image.now a.k (found c.before.before.before))
 
 enum-told-2 : tie.Need-enum_told-in-Refused
@@ -46,8 +46,8 @@ returns : tie.Need-returns-in-Accepted
 unfolding block_part block_body body_in
 returns c =
     simp (
-      ← c.before.before.before.before.before.before.block_answer-answer.ensures,
-      c.before.before.before.before.enum_told-1.given.1,
+      ← c.before.before.before.before.before.block_answer-answer.ensures,
+      c.before.before.before.before.in-Accepted.is,
       c.find_body.ensures.0,
       c.find_body.ensures.1,
       c.before.before.before.read_entry-entry.ensures,
@@ -56,9 +56,9 @@ returns c =
 returns-2 : tie.Need-returns-in-Refused
 unfolding block_part block_body
 returns-2 c =
-    let p = c.before.before.before.before.before.args.image.ptr in
+    let p = c.before.before.before.args.image.ref_ptr in
     let z : p.1 ≡ p.1 + 0 = omega arith in
-    simp (← c.before.before.before.block_answer-answer.ensures, c.before.enum_told-in-Refused-1.given.1) (ap (λ (x : ℕ). effect (p.0, x) []) z)
+    simp (← c.before.block_answer-answer.ensures, c.in-Refused.is) (ap (λ (x : ℕ). effect (p.0, x) []) z)
 
 pub block_body_spec : {M : Type 1} → statement M
 block_body_spec =

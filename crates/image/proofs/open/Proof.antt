@@ -7,8 +7,8 @@ use Rattle.image.proofs.OpenImages.{opened}
 use Rattle.image.proofs.open.Statement.{statement}
 use Rattle.image.proofs.open.Tie as tie
 
-headed : (c : tie.In-Accepted) → Headed c.before.before.before.before.args.image.now
-headed c = (opened _ (sym c.before.before.open_answer-answer.ensures ∙ ap outcome c.enum_told-1.given.1)).head
+headed : (c : tie.In-Accepted) → Headed c.before.before.before.args.image.now
+headed c = (opened _ (sym c.before.open_answer-answer.ensures ∙ ap outcome c.in-Accepted.is)).head
 
 open-answer-requires : tie.Need-open_answer-answer-requires
 open-answer-requires c κs = search rules
@@ -40,12 +40,12 @@ new-requires c κs = search rules
 returns : tie.Need-returns-in-Accepted
 unfolding open_image
 returns c = let e = c.before.before.before in
-    rw (← e.before.before.open_answer-answer.ensures, e.enum_told-1.given.1, c.before.before.read_head-head.ensures, c.before.read_loop-looped.ensures, c.loop_context-context.ensures)
+    rw (← e.before.open_answer-answer.ensures, e.in-Accepted.is, c.before.before.read_head-head.ensures, c.before.read_loop-looped.ensures, c.loop_context-context.ensures)
 
 returns-2 : tie.Need-returns-in-Refused
 unfolding open_image
-returns-2 c = let e = c.before.before.before.before in
-    rw (← e.before.before.open_answer-answer.ensures, e.answer-1.given.1, c.before.before.no_head-head.ensures, c.before.no_loop-looped.ensures, c.new-context.ensures)
+returns-2 c = let e = c.before.before.before in
+    rw (← e.before.open_answer-answer.ensures, e.in-Refused.is, c.before.before.no_head-head.ensures, c.before.no_loop-looped.ensures, c.new-context.ensures)
 
 pub open_spec : {M : Type 1} → statement M
 open_spec =

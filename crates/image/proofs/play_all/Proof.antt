@@ -15,7 +15,7 @@ enum_told : tie.Need-enum_told-1
 enum_told c = search rules
 
 play-opened-requires : tie.Need-play_opened-requires
-play-opened-requires c κs = opened _ (sym c.before.before.before.open_answer-answer.ensures ∙ ap outcome c.before.enum_told-1.given.1)
+play-opened-requires c κs = opened _ (sym c.before.before.open_answer-answer.ensures ∙ ap outcome c.before.in-Accepted.is)
 
 enum-known-answer : tie.Need-enum_known-answer
 enum-known-answer c = search rules
@@ -28,11 +28,11 @@ same_length c = search rules
 
 returns : tie.Need-returns-in-Accepted
 unfolding play_all all_answer room_answer
-returns c = rw (← c.before.before.before.before.before.open_answer-answer.ensures, c.before.before.before.enum_told-1.given.1) c.before.play_opened.ensures
+returns c = rw (← c.before.before.before.before.open_answer-answer.ensures, c.before.before.before.in-Accepted.is) c.before.play_opened.ensures
 
 returns-2 : tie.Need-returns-in-Refused
 unfolding play_all all_answer room_answer
-returns-2 c = let r = c.refused_playback.ensures in rw (← c.before.before.before.before.open_answer-answer.ensures, c.before.before.answer-1.given.1, r.0, r.1)
+returns-2 c = let r = c.refused_playback.ensures in rw (← c.before.before.open_answer-answer.ensures, c.before.in-Refused.is, r.0, r.1)
 
 pub play_all_spec : {M : Type 1} → statement M
 play_all_spec =

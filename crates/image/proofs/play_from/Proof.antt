@@ -14,7 +14,7 @@ enum_told : tie.Need-enum_told-1
 enum_told c = search rules
 
 play-part-requires : tie.Need-play_part-requires
-play-part-requires c κs = let a = from-accepted _ _ (sym c.before.before.before.from_answer-answer.ensures ∙ ap outcome c.before.enum_told-1.given.1) in
+play-part-requires c κs = let a = from-accepted _ _ (sym c.before.before.from_answer-answer.ensures ∙ ap outcome c.before.in-Accepted.is) in
     (a.0.opens, a.1)
 
 enum-known-answer : tie.Need-enum_known-answer
@@ -25,11 +25,11 @@ same_length c = search rules
 
 returns : tie.Need-returns-in-Accepted
 unfolding play_from
-returns c = rw (← c.before.before.before.before.before.from_answer-answer.ensures, c.before.before.before.enum_told-1.given.1) c.before.play_part.ensures
+returns c = rw (← c.before.before.before.before.from_answer-answer.ensures, c.before.before.before.in-Accepted.is) c.before.play_part.ensures
 
 returns-2 : tie.Need-returns-in-Refused
 unfolding play_from
-returns-2 c = rw (← c.before.before.before.from_answer-answer.ensures, c.before.answer-1.given.1)
+returns-2 c = rw (← c.before.from_answer-answer.ensures, c.in-Refused.is)
 
 pub play_from_spec : {M : Type 1} → statement M
 play_from_spec =

@@ -14,7 +14,7 @@ enum_told : tie.Need-enum_told-1
 enum_told c = search rules
 
 play-loop-opened-requires : tie.Need-play_loop_opened-requires
-play-loop-opened-requires c κs = opened _ (sym c.before.before.before.open_answer-answer.ensures ∙ ap outcome c.before.enum_told-1.given.1)
+play-loop-opened-requires c κs = opened _ (sym c.before.before.open_answer-answer.ensures ∙ ap outcome c.before.in-Accepted.is)
 
 enum-known-answer : tie.Need-enum_known-answer
 enum-known-answer c = search rules
@@ -24,11 +24,11 @@ same_length c = search rules
 
 returns : tie.Need-returns-in-Accepted
 unfolding play_loop loop_answer
-returns c = rw (← c.before.before.before.before.before.open_answer-answer.ensures, c.before.before.before.enum_told-1.given.1) c.before.play_loop_opened.ensures
+returns c = rw (← c.before.before.before.before.open_answer-answer.ensures, c.before.before.before.in-Accepted.is) c.before.play_loop_opened.ensures
 
 returns-2 : tie.Need-returns-in-Refused
 unfolding play_loop loop_answer
-returns-2 c = rw (← c.before.before.before.open_answer-answer.ensures, c.before.answer-1.given.1)
+returns-2 c = rw (← c.before.open_answer-answer.ensures, c.in-Refused.is)
 
 pub play_loop_spec : {M : Type 1} → statement M
 play_loop_spec =

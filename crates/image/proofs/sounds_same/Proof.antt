@@ -14,22 +14,22 @@ enum_told : tie.Need-enum_told-1
 enum_told c = search rules
 
 same-sound-requires : tie.Need-same_sound-requires
-same-sound-requires c κs = let p = both-accepted _ _ (sym c.before.before.both_answer-answer.ensures ∙ ap outcome c.enum_told-1.given.1) in (p.0.opens, p.1.opens)
+same-sound-requires c κs = let p = both-accepted _ _ (sym c.before.both_answer-answer.ensures ∙ ap outcome c.in-Accepted.is) in (p.0.opens, p.1.opens)
 
 returns : tie.Need-returns-then-same_sound
 unfolding sounds_same
-returns c = simp (← c.before.before.before.before.both_answer-answer.ensures, c.before.before.enum_told-1.given.1, ← c.before.same_sound.ensures, c.if-same_sound.true)
+returns c = simp (← c.before.before.before.both_answer-answer.ensures, c.before.before.in-Accepted.is, ← c.before.same_sound.ensures, c.if-same_sound.true)
 
 enum-known-answer : tie.Need-enum_known-answer
 enum-known-answer c = search rules
 
 returns-2 : tie.Need-returns-else-same_sound
 unfolding sounds_same
-returns-2 c = simp (← c.before.before.before.before.both_answer-answer.ensures, c.before.before.enum_told-1.given.1, ← c.before.same_sound.ensures, c.if-same_sound.false)
+returns-2 c = simp (← c.before.before.before.both_answer-answer.ensures, c.before.before.in-Accepted.is, ← c.before.same_sound.ensures, c.if-same_sound.false)
 
 returns-3 : tie.Need-returns-in-Refused
 unfolding sounds_same
-returns-3 c = simp (← c.before.before.before.both_answer-answer.ensures, c.before.answer-1.given.1)
+returns-3 c = simp (← c.before.both_answer-answer.ensures, c.in-Refused.is)
 
 pub sounds_same_spec : {M : Type 1} → statement M
 sounds_same_spec =

@@ -7,14 +7,14 @@ use borrow.Author.Rules.{rules}
 use Rattle.clip.proofs.checks.encoded_frames.Statement.{statement}
 use Rattle.clip.proofs.checks.encoded_frames.Tie as tie
 
-frame-count-requires : tie.Need-frame-count-requires
+frame-count-requires : tie.Need-frame_count-requires
 frame-count-requires c κs = search rules
 
-returns : tie.Need-returns
-returns c = let a = c.before.before.args in (c.frame-count.ensures.0 ∙ ap (encoded_frames a.n a.total) (sym c.before.if1.true), c.frame-count.ensures.1)
+returns : tie.Need-returns-then-closed
+returns c = let a = c.before.before.args in (c.frame_count.ensures.0 ∙ ap (encoded_frames a.n a.total) (sym c.before.if-closed.true), c.frame_count.ensures.1)
 
-returns-2 : tie.Need-returns-2
-returns-2 c = let a = c.before.args in (ap (encoded_frames a.n a.total) (sym c.if1.false), omega arith)
+returns-2 : tie.Need-returns
+returns-2 c = let a = c.before.args in (ap (encoded_frames a.n a.total) (sym c.if-closed.false), omega arith)
 
-pub encoded-frames-spec : {M : Type 1} → statement M
-encoded-frames-spec = tie.close (tie.spec frame-count-requires returns returns-2)
+pub encoded_frames_spec : {M : Type 1} → statement M
+encoded_frames_spec = tie.close (tie.spec frame-count-requires returns returns-2)

@@ -6,14 +6,14 @@ use borrow.Author.Rules.{rules}
 use Rattle.clip.proofs.checks.encoder_shape.Statement.{statement}
 use Rattle.clip.proofs.checks.encoder_shape.Tie as tie
 
-loop-count-requires : tie.Need-loop-count-requires
+loop-count-requires : tie.Need-loop_count-requires
 loop-count-requires c κs = search rules
 
-shape-of-requires : tie.Need-shape-of-requires
+shape-of-requires : tie.Need-shape_of-requires
 shape-of-requires c κs = search rules
 
 returns : tie.Need-returns
-returns c = let a = c.before.before.before.args in c.shape_of.ensures ∙ ap (λ (x : ℕ). shape a.e.total a.e.block x) c.before.loop-count.ensures
+returns c = let a = c.before.before.before.args in c.shape_of.ensures ∙ ap (λ (x : ℕ). shape a.e.total a.e.block x) c.before.loop_count.ensures
 
-pub encoder-shape-spec : {M : Type 1} → statement M
-encoder-shape-spec = tie.close (tie.spec loop-count-requires shape-of-requires returns)
+pub encoder_shape_spec : {M : Type 1} → statement M
+encoder_shape_spec = tie.close (tie.spec loop-count-requires shape-of-requires returns)

@@ -13,62 +13,62 @@ use Rattle.clip.proofs.checks.feed_answer.Statement.{statement}
 use Rattle.clip.proofs.checks.feed_answer.Tie as tie
 
 -- the state passed its test
-passed : (c : tie.Else1) → valid c.before.before.args.e ≡ true
-passed c = sym c.before.valid.ensures ∙ not-false c.before.valid.result c.if1.false
+passed : (c : tie.Else-not-valid) → valid c.before.before.args.e ≡ true
+passed c = sym c.before.valid.ensures ∙ not-false c.before.valid.result c.if-not-valid.false-raw
 
 valid-requires : tie.Need-valid-requires
 valid-requires c κs = search rules
 
-returns : tie.Need-returns
+returns : tie.Need-returns-then-not-valid
 unfolding feed_answer
-returns c = simp (← c.before.valid.ensures, not-true c.before.valid.result c.if1.true)
+returns c = simp (← c.before.valid.ensures, not-true c.before.valid.result c.if-not-valid.true-raw)
 
-cast-n : tie.Need-overflow-cast-n
+cast-n : tie.Need-overflow_cast-n
 cast-n c = search rules
 
-cast-total : tie.Need-overflow-cast-total
+cast-total : tie.Need-overflow_cast-total
 cast-total c = search rules
 
-encoder-shape-requires : tie.Need-encoder-shape-requires
+encoder-shape-requires : tie.Need-encoder_shape-shape-requires
 encoder-shape-requires c κs = search rules
 
-image-size-requires : tie.Need-image-size-requires
-image-size-requires c κs = rw c.encoder-shape.ensures (sound _ (passed c.before.before.before)).limits
+image-size-requires : tie.Need-image_size-requires
+image-size-requires c κs = rw c.encoder_shape-shape.ensures (sound _ (passed c.before.before.before)).limits
 
-returns-2 : tie.Need-returns-2
+returns-2 : tie.Need-returns-then-room-image_size
 unfolding feed_answer
-returns-2 c = simp (passed c.before.before.before.before.before, lt-ltb _ _ (rw (c.before.image-size.ensures, c.before.before.encoder-shape.ensures) at c.if2.true))
+returns-2 c = simp (passed c.before.before.before.before.before, lt-ltb _ _ (rw (c.before.image_size.ensures, c.before.before.encoder_shape-shape.ensures) at c.if-room-image_size.true))
 
-returns-3 : tie.Need-returns-3
+returns-3 : tie.Need-returns-then-closed
 unfolding feed_answer
 returns-3 c = let k = c.before.before.before.before.before.before in
-    simp (passed k, le-ltb _ _ (rw (c.before.before.image-size.ensures, c.before.before.before.encoder-shape.ensures) at c.before.if2.false), c.if3.true)
+    simp (passed k, le-ltb _ _ (rw (c.before.before.image_size.ensures, c.before.before.before.encoder_shape-shape.ensures) at c.before.if-room-image_size.false), c.if-closed.true)
 
-sub-if4 : tie.Need-overflow-sub-if4
+sub-if4 : tie.Need-overflow_sub-total
 sub-if4 c = let k = c.before.before.before.before.before.before in (sound _ (passed k)).fed
 
-returns-4 : tie.Need-returns-4
+returns-4 : tie.Need-returns-then-piece-total
 unfolding feed_answer
 returns-4 c = let k = c.before.before.before.before.before.before.before in
     simp (
       passed k,
-      le-ltb _ _ (rw (c.before.before.before.image-size.ensures, c.before.before.before.before.encoder-shape.ensures) at c.before.before.if2.false),
-      c.before.if3.false,
-      lt-ltb _ _ c.if4.true,
+      le-ltb _ _ (rw (c.before.before.before.image_size.ensures, c.before.before.before.before.encoder_shape-shape.ensures) at c.before.before.if-room-image_size.false),
+      c.before.if-closed.false,
+      lt-ltb _ _ c.if-piece-total.true,
     )
 
-returns-5 : tie.Need-returns-5
+returns-5 : tie.Need-returns
 unfolding feed_answer
 returns-5 c = let k = c.before.before.before.before.before.before.before in
     simp (
       passed k,
-      le-ltb _ _ (rw (c.before.before.before.image-size.ensures, c.before.before.before.before.encoder-shape.ensures) at c.before.before.if2.false),
-      c.before.if3.false,
-      le-ltb _ _ c.if4.false,
+      le-ltb _ _ (rw (c.before.before.before.image_size.ensures, c.before.before.before.before.encoder_shape-shape.ensures) at c.before.before.if-room-image_size.false),
+      c.before.if-closed.false,
+      le-ltb _ _ c.if-piece-total.false,
     )
 
-pub feed-answer-spec : {M : Type 1} → statement M
-feed-answer-spec =
+pub feed_answer_spec : {M : Type 1} → statement M
+feed_answer_spec =
     tie.close
     (tie.spec
     valid-requires

@@ -10,67 +10,67 @@ use borrow.Author.Rules.{rules}
 use Rattle.clip.proofs.checks.valid.Statement.{statement}
 use Rattle.clip.proofs.checks.valid.Tie as tie
 
-numbers-ok-requires : tie.Need-numbers-ok-requires
+numbers-ok-requires : tie.Need-numbers_ok-requires
 numbers-ok-requires c κs = search rules
 
-returns : tie.Need-returns
+returns : tie.Need-returns-then-not-numbers_ok
 unfolding valid
-returns c = simp (← c.before.numbers-ok.ensures, not-true c.before.numbers-ok.result c.if1.true)
+returns c = simp (← c.before.numbers_ok.ensures, not-true c.before.numbers_ok.result c.if-not-numbers_ok.true-raw)
 
-coefficients-ok-requires : tie.Need-coefficients-ok-requires
+coefficients-ok-requires : tie.Need-coefficients_ok-requires
 coefficients-ok-requires c κs = search rules
 
-returns-2 : tie.Need-returns-2
+returns-2 : tie.Need-returns-then-not-coefficients_ok
 unfolding valid
 returns-2 c = simp (
-  ← c.before.before.before.before.numbers-ok.ensures,
-  not-false c.before.before.before.before.numbers-ok.result c.before.before.before.if1.false,
-  ← c.before.coefficients-ok.ensures,
-  not-true c.before.coefficients-ok.result c.if2.true,
+  ← c.before.before.before.before.numbers_ok.ensures,
+  not-false c.before.before.before.before.numbers_ok.result c.before.before.before.if-not-numbers_ok.false-raw,
+  ← c.before.coefficients_ok.ensures,
+  not-true c.before.coefficients_ok.result c.if-not-coefficients_ok.true-raw,
 )
 
-loop-ok-requires : tie.Need-loop-ok-requires
+loop-ok-requires : tie.Need-loop_ok-requires
 loop-ok-requires c κs = search rules
 
-returns-3 : tie.Need-returns-3
+returns-3 : tie.Need-returns-then-not-loop_ok
 unfolding valid
 returns-3 c = simp (
-  ← c.before.before.before.before.before.before.before.numbers-ok.ensures,
-  not-false c.before.before.before.before.before.before.before.numbers-ok.result c.before.before.before.before.before.before.if1.false,
-  ← c.before.before.before.before.coefficients-ok.ensures,
-  not-false c.before.before.before.before.coefficients-ok.result c.before.before.before.if2.false,
-  ← c.before.loop-ok.ensures,
-  not-true c.before.loop-ok.result c.if3.true,
+  ← c.before.before.before.before.before.before.before.numbers_ok.ensures,
+  not-false c.before.before.before.before.before.before.before.numbers_ok.result c.before.before.before.before.before.before.if-not-numbers_ok.false-raw,
+  ← c.before.before.before.before.coefficients_ok.ensures,
+  not-false c.before.before.before.before.coefficients_ok.result c.before.before.before.if-not-coefficients_ok.false-raw,
+  ← c.before.loop_ok.ensures,
+  not-true c.before.loop_ok.result c.if-not-loop_ok.true-raw,
 )
 
-cast-counts-ok : tie.Need-overflow-cast-counts-ok
+cast-counts-ok : tie.Need-overflow_cast-n
 cast-counts-ok c = search rules
 
-cast-counts-ok-2 : tie.Need-overflow-cast-counts-ok-2
+cast-counts-ok-2 : tie.Need-overflow_cast-total
 cast-counts-ok-2 c = search rules
 
-cast-counts-ok-3 : tie.Need-overflow-cast-counts-ok-3
+cast-counts-ok-3 : tie.Need-overflow_cast-passes
 cast-counts-ok-3 c = search rules
 
-counts-ok-requires : tie.Need-counts-ok-requires
+counts-ok-requires : tie.Need-counts_ok-requires
 counts-ok-requires c κs =
-    let w = numbers-sound _ _ _ _ (sym c.before.before.before.before.before.before.before.numbers-ok.ensures ∙ not-false _ c.before.before.before.before.before.before.if1.false) in
+    let w = numbers-sound _ _ _ _ (sym c.before.before.before.before.before.before.before.numbers_ok.ensures ∙ not-false _ c.before.before.before.before.before.before.if-not-numbers_ok.false-raw) in
     (w.fed, (w.limits 0 (omega arith)).few)
 
-returns-4 : tie.Need-returns-4
+returns-4 : tie.Need-returns
 unfolding valid
 returns-4 c = simp (
-  ← c.before.before.before.before.before.before.before.before.numbers-ok.ensures,
-  not-false c.before.before.before.before.before.before.before.before.numbers-ok.result c.before.before.before.before.before.before.before.if1.false,
-  ← c.before.before.before.before.before.coefficients-ok.ensures,
-  not-false c.before.before.before.before.before.coefficients-ok.result c.before.before.before.before.if2.false,
-  ← c.before.before.loop-ok.ensures,
-  not-false c.before.before.loop-ok.result c.before.if3.false,
-  ← c.counts-ok.ensures,
+  ← c.before.before.before.before.before.before.before.before.numbers_ok.ensures,
+  not-false c.before.before.before.before.before.before.before.before.numbers_ok.result c.before.before.before.before.before.before.before.if-not-numbers_ok.false-raw,
+  ← c.before.before.before.before.before.coefficients_ok.ensures,
+  not-false c.before.before.before.before.before.coefficients_ok.result c.before.before.before.before.if-not-coefficients_ok.false-raw,
+  ← c.before.before.loop_ok.ensures,
+  not-false c.before.before.loop_ok.result c.before.if-not-loop_ok.false-raw,
+  ← c.counts_ok.ensures,
 )
 
-pub valid-spec : {M : Type 1} → statement M
-valid-spec =
+pub valid_spec : {M : Type 1} → statement M
+valid_spec =
     tie.close
     (tie.spec
     numbers-ok-requires

@@ -9,44 +9,44 @@ use Rattle.clip.proofs.LastFrame.{pad-turn}
 use Rattle.clip.proofs.closing.padded.Statement.{statement}
 use Rattle.clip.proofs.closing.padded.Tie as tie
 
-abbrev invariant-loop : tie.invariant-loop
+abbrev invariant-loop : tie.invariant-loop-j
 invariant-loop m f₀ j₀ f j = (m ≤ j) × (j ≤ 14) × (f ≡ sets f₀ m (replicate (j - m) (pos 0)))
 
-abbrev decreases-loop : tie.decreases-loop
+abbrev decreases-loop : tie.decreases-loop-j
 decreases-loop m f₀ j₀ f j = 14 - j
 
-loop-holds : tie.Need-loop-init invariant-loop decreases-loop
+loop-holds : tie.Need-loop-j-init invariant-loop decreases-loop
 loop-holds c =
     let z : c.args.m - c.args.m ≡ 0 = omega arith in
     (omega arith, omega (arith, c.requires), rw z)
 
-mul-f : tie.Need-overflow-mul-f invariant-loop decreases-loop
+mul-f : tie.Need-offset_bounds-f-j invariant-loop decreases-loop
 mul-f c = omega arith
 
-array-set-of-f : tie.Need-array-set-of-f invariant-loop decreases-loop
+array-set-of-f : tie.Need-array_set_of-f invariant-loop decreases-loop
 array-set-of-f c = omega arith
 
-add-j : tie.Need-overflow-add-j invariant-loop decreases-loop
+add-j : tie.Need-overflow_add-j invariant-loop decreases-loop
 add-j c = omega arith
 
-loop-less : tie.Need-loop-smaller invariant-loop decreases-loop
+loop-less : tie.Need-loop-j-smaller invariant-loop decreases-loop
 loop-less c = omega arith
 
-loop-again : tie.Need-loop-preserved invariant-loop decreases-loop
+loop-again : tie.Need-loop-j-preserved invariant-loop decreases-loop
 loop-again c = (
   omega arith,
   omega arith,
-  pad-turn c.before.before.args.frame c.before.loop.f c.before.before.args.m c.before.loop.j c.before.loop.invariant.0
-      c.before.loop.invariant.2,
+  pad-turn c.before.before.args.frame c.before.loop-j.f c.before.before.args.m c.before.loop-j.j c.before.loop-j.invariant.0
+      c.before.loop-j.invariant.2,
 )
 
 returns : tie.Need-returns invariant-loop decreases-loop
 returns c =
     let a = c.before.before.args in
-    let e : c.before.loop.j ≡ 14 = omega arith in
-    c.before.loop.invariant.2 ∙ ap (λ (k : ℕ). sets a.frame a.m (replicate (k - a.m) (pos 0))) e
+    let e : c.before.loop-j.j ≡ 14 = omega arith in
+    c.before.loop-j.invariant.2 ∙ ap (λ (k : ℕ). sets a.frame a.m (replicate (k - a.m) (pos 0))) e
 
-pub padded-spec : {M : Type 1} → statement M
-padded-spec =
+pub padded_spec : {M : Type 1} → statement M
+padded_spec =
     tie.close
     (tie.spec invariant-loop decreases-loop loop-holds mul-f array-set-of-f add-j loop-less loop-again returns)

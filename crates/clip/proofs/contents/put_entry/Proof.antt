@@ -12,31 +12,31 @@ use Rattle.clip.proofs.contents.put_entry.Tie as tie
 put32-requires : tie.Need-put32-requires
 put32-requires c κs = search rules
 
-add-put32 : tie.Need-overflow-add-put32
+add-put32 : tie.Need-overflow_add-at
 add-put32 c = search rules
 
 put32-requires-2 : tie.Need-put32-requires-2
 put32-requires-2 c κs = search rules
 
-add-zeros : tie.Need-overflow-add-zeros
+add-zeros : tie.Need-overflow_add-at-2
 add-zeros c = search rules
 
 zeros-requires : tie.Need-zeros-requires
 zeros-requires c κs = search rules
 
-same_length : tie.Need-same-length
+same_length : tie.Need-shape_of-image
 same_length c = search rules
 
 returns : tie.Need-returns
 returns c =
     let a = c.before.before.before.before.before.before.before.before.before.before.before.before.before.args in
-    runs3 a.image.now c.before.before.before.before.before.before.before.before.before.before.put32.new.0 c.before.before.before.before.before.before.put322.new.0
+    runs3 a.image.now c.before.before.before.before.before.before.before.before.before.before.put32.new.buf c.before.before.before.before.before.before.put32-2.new.buf
     c.before.before.zeros.new.0 (be32 a.offset) (be32 a.nibbles) (replicate 8 0) a.at (a.at + 4) (a.at + 8)
-    c.before.before.before.before.before.before.before.before.before.before.put32.ensures c.before.before.before.before.before.before.put322.ensures
+    c.before.before.before.before.before.before.before.before.before.before.put32.ensures c.before.before.before.before.before.before.put32-2.ensures
     c.before.before.zeros.ensures refl (omega arith)
 
-pub put-entry-spec : {M : Type 1} → statement M
-put-entry-spec =
+pub put_entry_spec : {M : Type 1} → statement M
+put_entry_spec =
     tie.close
     (tie.spec
     put32-requires

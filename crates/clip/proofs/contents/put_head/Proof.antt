@@ -18,22 +18,22 @@ use Rattle.whole.specs.Frames.{frame_count}
 zeros-requires : tie.Need-zeros-requires
 zeros-requires c κs = search rules
 
-put-numbers-requires : tie.Need-put-numbers-requires
+put-numbers-requires : tie.Need-put_numbers-requires
 put-numbers-requires c κs = search rules
 
-put-coefficients-requires : tie.Need-put-coefficients-requires
+put-coefficients-requires : tie.Need-put_coefficients-requires
 put-coefficients-requires c κs = search rules
 
-loop-count-requires : tie.Need-loop-count-requires
+loop-count-requires : tie.Need-loop_count-requires
 loop-count-requires c κs = search rules
 
-cast-put-rest : tie.Need-overflow-cast-put-rest
-cast-put-rest c = let p = c.before.before.before.before.before.before.before.before.before.before.before.before.before.before.before.before.before.args.g.looped in record { fits = omega (arith, c.loop-count.ensures, loop-few p) }
+cast-put-rest : tie.Need-overflow_cast-loop_count
+cast-put-rest c = let p = c.before.before.before.before.before.before.before.before.before.before.before.before.before.before.before.before.before.args.g.looped in record { fits = omega (arith, c.loop_count.ensures, loop-few p) }
 
-put-rest-requires : tie.Need-put-rest-requires
+put-rest-requires : tie.Need-put_rest-requires
 put-rest-requires c κs = search rules
 
-same_length : tie.Need-same-length
+same_length : tie.Need-shape_of-image
 same_length c = search rules
 
 -- a coefficient in each of sixteen places
@@ -46,21 +46,21 @@ returns c = let s = c.before.before.before.before.before.before.before.before.be
     let a = s.args in
     let g = a.g in
     let z = c.before.before.before.before.before.before.before.before.before.before.before.before.before.before.before.zeros in
-    let n = c.before.before.before.before.before.before.before.before.before.before.before.put-numbers in
-    let k = c.before.before.before.before.before.before.before.put-coefficients in
-    let x = c.before.before.before.loop-count in
+    let n = c.before.before.before.before.before.before.before.before.before.before.before.put_numbers in
+    let k = c.before.before.before.before.before.before.before.put_coefficients in
+    let x = c.before.before.before.loop_count in
     let r = c.before.before.put_rest in
     let cs = g.coefficients in
     let m : length cs ≡ 16 = sixteen s in
     let len : 48 ≡ 16 + length (coefficient_bytes cs) = omega (arith, coefficient-length cs, m) in
-    runs4 a.image.now z.new.0 n.new.0 k.new.0 r.new.0
+    runs4 a.image.now z.new.buf n.new.image k.new.image r.new.image
     no_mark (be32 g.total ++ (be32 g.rate ++ be32 g.block)) (coefficient_bytes cs) (be16 g.gain ++ (be16 x.result ++ be32 a.blocks)) 0 4 16 48
     z.ensures n.ensures k.ensures r.ensures refl refl len
     ∙ ap₂ (λ (y b : ℕ). sets a.image.now 0 (no_mark ++ ((be32 g.total ++ (be32 g.rate ++ be32 g.block)) ++ (coefficient_bytes cs ++ (be16 g.gain ++ (be16 y ++ be32 b))))))
     x.ensures s.requires.1
 
-pub put-head-spec : {M : Type 1} → statement M
-put-head-spec =
+pub put_head_spec : {M : Type 1} → statement M
+put_head_spec =
     tie.close
     (tie.spec
     zeros-requires

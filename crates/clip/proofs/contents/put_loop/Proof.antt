@@ -19,46 +19,46 @@ room : (p : Loop) (at len : ℕ) → p.present ≡ true → at + 16 * cond p.pre
 room p at len e h = rw e at h
 
 put32-requires : tie.Need-put32-requires
-put32-requires c κs = let s = c.before.before.before.before in omega (arith, room s.args.looped s.args.at _ c.before.before.if1.true s.requires)
+put32-requires c κs = let s = c.before.before.before.before in omega (arith, room s.args.looped s.args.at _ c.before.before.if-present.true s.requires)
 
-add-put32 : tie.Need-overflow-add-put32
+add-put32 : tie.Need-overflow_add-at
 add-put32 c = search rules
 
-put32-requires-2 : tie.Need-put32-requires-2
-put32-requires-2 c κs = let s = c.before.before.before.before.before.before.before.before in omega (arith, room s.args.looped s.args.at _ c.before.before.before.before.before.before.if1.true s.requires, c.before.before.before.put32.auto.0)
+put32-requires-2 : tie.Need-put32-requires-then-present
+put32-requires-2 c κs = let s = c.before.before.before.before.before.before.before.before in omega (arith, room s.args.looped s.args.at _ c.before.before.before.before.before.before.if-present.true s.requires, c.before.before.before.put32.auto.buf)
 
-add-put-context : tie.Need-overflow-add-put-context
+add-put-context : tie.Need-overflow_add-at-then-present
 add-put-context c = search rules
 
-put-context-requires : tie.Need-put-context-requires
-put-context-requires c κs = let s = c.before.before.before.before.before.before.before.before.before.before.before.before in omega (arith, room s.args.looped s.args.at _ c.before.before.before.before.before.before.before.before.before.before.if1.true s.requires, c.before.before.before.before.before.before.before.put32.auto.0, c.before.before.before.put322.auto.0)
+put-context-requires : tie.Need-put_context-requires
+put-context-requires c κs = let s = c.before.before.before.before.before.before.before.before.before.before.before.before in omega (arith, room s.args.looped s.args.at _ c.before.before.before.before.before.before.before.before.before.before.if-present.true s.requires, c.before.before.before.before.before.before.before.put32.auto.buf, c.before.before.before.put32-then-present.auto.buf)
 
-add-zeros : tie.Need-overflow-add-zeros
+add-zeros : tie.Need-overflow_add-at-then-present-2
 add-zeros c = search rules
 
 zeros-requires : tie.Need-zeros-requires
 zeros-requires c κs = let s = c.before.before.before.before.before.before.before.before.before.before.before.before.before.before.before.before in
-    omega (arith, room s.args.looped s.args.at _ c.before.before.before.before.before.before.before.before.before.before.before.before.before.before.if1.true s.requires, c.before.before.before.before.before.before.before.before.before.before.before.put32.auto.0, c.before.before.before.before.before.before.before.put322.auto.0, c.before.before.before.put-context.auto.0)
+    omega (arith, room s.args.looped s.args.at _ c.before.before.before.before.before.before.before.before.before.before.before.before.before.before.if-present.true s.requires, c.before.before.before.before.before.before.before.before.before.before.before.put32.auto.buf, c.before.before.before.before.before.before.before.put32-then-present.auto.buf, c.before.before.before.put_context.auto.image)
 
-same_length : tie.Need-same-length
+same_length : tie.Need-shape_of-image
 same_length c = search rules
 
-returns : tie.Need-returns
+returns : tie.Need-returns-then-present
 unfolding loop_bytes
 returns c = let a = c.before.before.before.before.before.before.before.before.before.before.before.before.before.before.before.before.before.before.before.args in
     let p = a.looped in
     let k = a.context in
-    runs4 a.image.now c.before.before.before.before.before.before.before.before.before.before.before.before.before.before.put32.new.0 c.before.before.before.before.before.before.before.before.before.before.put322.new.0 c.before.before.before.before.before.before.put-context.new.0 c.before.before.zeros.new.0
+    runs4 a.image.now c.before.before.before.before.before.before.before.before.before.before.before.before.before.before.put32.new.buf c.before.before.before.before.before.before.before.before.before.before.put32-then-present.new.buf c.before.before.before.before.before.before.put_context.new.image c.before.before.zeros.new.buf
     (be32 p.start) (be32 p.end) (context_bytes k.predictor_and_scale k.last_samples) (0 ∷ 0 ∷ []) a.at (a.at + 4) (a.at + 8) (a.at + 14)
-    c.before.before.before.before.before.before.before.before.before.before.before.before.before.before.put32.ensures c.before.before.before.before.before.before.before.before.before.before.put322.ensures c.before.before.before.before.before.before.put-context.ensures c.before.before.zeros.ensures refl (omega arith) (omega arith)
-    ∙ rw c.before.before.before.before.before.before.before.before.before.before.before.before.before.before.before.before.before.if1.true
+    c.before.before.before.before.before.before.before.before.before.before.before.before.before.before.put32.ensures c.before.before.before.before.before.before.before.before.before.before.put32-then-present.ensures c.before.before.before.before.before.before.put_context.ensures c.before.before.zeros.ensures refl (omega arith) (omega arith)
+    ∙ rw c.before.before.before.before.before.before.before.before.before.before.before.before.before.before.before.before.before.if-present.true
 
-returns-2 : tie.Need-returns-2
+returns-2 : tie.Need-returns-else-present
 unfolding loop_bytes
-returns-2 c = rw c.if1.false
+returns-2 c = rw c.if-present.false
 
-pub put-loop-spec : {M : Type 1} → statement M
-put-loop-spec =
+pub put_loop_spec : {M : Type 1} → statement M
+put_loop_spec =
     tie.close
     (tie.spec
     put32-requires

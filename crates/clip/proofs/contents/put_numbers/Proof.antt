@@ -20,17 +20,17 @@ put32-requires-2 c κs = search rules
 put32-requires-3 : tie.Need-put32-requires-3
 put32-requires-3 c κs = search rules
 
-same_length : tie.Need-same-length
+same_length : tie.Need-shape_of-image
 same_length c = search rules
 
 returns : tie.Need-returns
 returns c =
     let a = c.before.before.before.before.before.before.before.before.before.before.before.before.before.args in
-    runs3 a.image.now c.before.before.before.before.before.before.before.before.before.before.put32.new.0 c.before.before.before.before.before.before.put322.new.0
-    c.before.before.put323.new.0 (be32 a.total) (be32 a.rate) (be32 a.block) 4 8 12
-    c.before.before.before.before.before.before.before.before.before.before.put32.ensures c.before.before.before.before.before.before.put322.ensures
-    c.before.before.put323.ensures refl refl
+    runs3 a.image.now c.before.before.before.before.before.before.before.before.before.before.put32.new.buf c.before.before.before.before.before.before.put32-2.new.buf
+    c.before.before.put32-3.new.0 (be32 a.total) (be32 a.rate) (be32 a.block) 4 8 12
+    c.before.before.before.before.before.before.before.before.before.before.put32.ensures c.before.before.before.before.before.before.put32-2.ensures
+    c.before.before.put32-3.ensures refl refl
 
-pub put-numbers-spec : {M : Type 1} → statement M
-put-numbers-spec =
+pub put_numbers_spec : {M : Type 1} → statement M
+put_numbers_spec =
     tie.close (tie.spec put32-requires put32-requires-2 put32-requires-3 same_length returns)

@@ -22,131 +22,131 @@ use Rattle.clip.proofs.Storing.{full-room, push-full, push-passes, push-part}
 use Rattle.clip.proofs.feeding.feed_all.Statement.{statement}
 use Rattle.clip.proofs.feeding.feed_all.Tie as tie
 
-abbrev invariant-loop : tie.invariant-loop
+abbrev invariant-loop : tie.invariant-loop-i
 invariant-loop e piece image₀ shape n₀ history₀ frame₀ passes₀ context₀ i₀ image n history frame passes context i =
     (i ≤ length piece)
     × (left (moved e n history frame passes e.closed context) image ≡ feed_all (left e image₀) (take i piece))
     × Going (moved e n history frame passes e.closed context) i (length piece) (length image₀)
     × (length image ≡ length image₀)
 
-abbrev decreases-loop : tie.decreases-loop
+abbrev decreases-loop : tie.decreases-loop-i
 decreases-loop e piece image₀ shape n₀ history₀ frame₀ passes₀ context₀ i₀ image n history frame passes context i =
     length piece - i
 
-encoder-shape-requires : tie.Need-encoder-shape-requires invariant-loop decreases-loop
+encoder-shape-requires : tie.Need-encoder_shape-shape-requires invariant-loop decreases-loop
 encoder-shape-requires c κs = search rules
 
-loop-holds : tie.Need-loop-init invariant-loop decreases-loop
+loop-holds : tie.Need-loop-i-init invariant-loop decreases-loop
 loop-holds c = (omega arith, refl, c.before.before.before.before.before.requires, refl)
 
-cast-at : tie.Need-overflow-cast-at invariant-loop decreases-loop
+cast-at : tie.Need-overflow_cast-at invariant-loop decreases-loop
 cast-at c = omega arith
 
-cast-q : tie.Need-overflow-cast-q invariant-loop decreases-loop
-cast-q c = let g = c.before.loop.invariant.2 in omega (arith, g.rest, g.limits.few)
+cast-q : tie.Need-overflow_cast-q invariant-loop decreases-loop
+cast-q c = let g = c.before.loop-i.invariant.2 in omega (arith, g.rest, g.limits.few)
 
 -- a piece is not too long to be counted
-piece-few : (l : tie.At-loop invariant-loop decreases-loop) → length l.before.before.before.before.before.before.args.piece.now ≤ 14680064
+piece-few : (l : tie.At-loop-i invariant-loop decreases-loop) → length l.before.before.before.before.before.before.args.piece.now ≤ 14680064
 piece-few l = let p = l.before.before.before.before.before.before.requires in omega (arith, p.rest, p.limits.few)
 
-mul-frame : tie.Need-overflow-mul-frame invariant-loop decreases-loop
+mul-frame : tie.Need-offset_bounds-piece-i invariant-loop decreases-loop
 mul-frame c = omega (arith, piece-few c.before)
 
-shared-slice-copy-out-frame : tie.Need-shared-slice-copy-out-frame invariant-loop decreases-loop
-shared-slice-copy-out-frame c = c.loop-test.true
+shared-slice-copy-out-frame : tie.Need-bounds-piece-i invariant-loop decreases-loop
+shared-slice-copy-out-frame c = c.loop-i-test.true
 
-mul-frame-2 : tie.Need-overflow-mul-frame-2 invariant-loop decreases-loop
+mul-frame-2 : tie.Need-offset_bounds-frame-at invariant-loop decreases-loop
 mul-frame-2 c = omega arith
 
-array-set-from-frame : tie.Need-array-set-from-frame invariant-loop decreases-loop
+array-set-from-frame : tie.Need-bounds-frame-at invariant-loop decreases-loop
 array-set-from-frame c = omega arith
 
-add-n : tie.Need-overflow-add-n invariant-loop decreases-loop
-add-n c = let g = c.before.before.loop.invariant.2 in omega (arith, g.rest, g.limits.few, c.before.loop-test.true)
+add-n : tie.Need-overflow_add-n invariant-loop decreases-loop
+add-n c = let g = c.before.before.loop-i.invariant.2 in omega (arith, g.rest, g.limits.few, c.before.loop-i-test.true)
 
-add-i : tie.Need-overflow-add-i invariant-loop decreases-loop
-add-i c = omega (arith, piece-few c.before.before, c.before.loop-test.true)
+add-i : tie.Need-overflow_add-i invariant-loop decreases-loop
+add-i c = omega (arith, piece-few c.before.before, c.before.loop-i-test.true)
 
-loop-less : tie.Need-loop-smaller invariant-loop decreases-loop
-loop-less c = let l = c.before.before.before in falls (length l.before.before.before.before.before.before.args.piece.now) l.loop.i c.before.before.loop-test.true
+loop-less : tie.Need-loop-i-smaller-then-at-lt13 invariant-loop decreases-loop
+loop-less c = let l = c.before.before.before in falls (length l.before.before.before.before.before.before.args.piece.now) l.loop-i.i c.before.before.loop-i-test.true
 
 -- the state at the loop's head
-abbrev state : tie.At-loop invariant-loop decreases-loop → Encoder
-state l = let a = l.before.before.before.before.before.before.args in moved a.e l.loop.n l.loop.history l.loop.frame l.loop.passes a.e.closed l.loop.context
+abbrev state : tie.At-loop-i invariant-loop decreases-loop → Encoder
+state l = let a = l.before.before.before.before.before.before.args in moved a.e l.loop-i.n l.loop-i.history l.loop-i.frame l.loop-i.passes a.e.closed l.loop-i.context
 
 -- the sample that is taken, and that it fits its type
-abbrev sample : tie.After-frame2 invariant-loop decreases-loop → ℤ
-sample c = let l = c.before.before in get_or l.before.before.before.before.before.before.args.piece.now l.loop.i (pos 0)
+abbrev sample : tie.After-frame-in-loop-i-1 invariant-loop decreases-loop → ℤ
+sample c = let l = c.before.before in get_or l.before.before.before.before.before.before.args.piece.now l.loop-i.i (pos 0)
 
-same : (c : tie.After-frame2 invariant-loop decreases-loop) → to_z w16 (of_z w16 (sample c)) ≡ sample c
-same c = to_z-of_z (record { sfits = c.frame2.given })
+same : (c : tie.After-frame-in-loop-i-1 invariant-loop decreases-loop) → to_z w16 (of_z w16 (sample c)) ≡ sample c
+same c = to_z-of_z {w = w16} (record { sfits = c.frame-in-loop-i-1.given })
 
-loop-again : tie.Need-loop-preserved invariant-loop decreases-loop
+loop-again : tie.Need-loop-i-preserved-then-at-lt13 invariant-loop decreases-loop
 loop-again c =
     let l = c.before.before.before in
     let a = l.before.before.before.before.before.before.args in
     let m = state l in
-    let r = l.loop in
-    turn (left a.e a.image.now) a.piece.now r.i m r.image _ _ c.before.before.loop-test.true r.invariant.1 r.invariant.2 r.invariant.3
+    let r = l.loop-i in
+    turn (left a.e a.image.now) a.piece.now r.i m r.image _ _ c.before.before.loop-i-test.true r.invariant.1 r.invariant.2 r.invariant.3
     (ap (λ (z : ℤ). left (moved a.e (r.n + 1) r.history (set r.frame (r.n % 14) z) r.passes a.e.closed r.context) r.image) (same c.before)
-    ∙ push-part m (sample c.before) r.image (λ q. omega (arith, c.if1.true, q)))
+    ∙ push-part m (sample c.before) r.image (λ q. omega (arith, c.if-at-lt13.true, q)))
 
 -- the frame is full
-full : (c : tie.Else1 invariant-loop decreases-loop) → c.before.before.before.loop.n % 14 ≡ 13
-full c = omega (arith, c.if1.false)
+full : (c : tie.Else-at-lt13 invariant-loop decreases-loop) → c.before.before.before.loop-i.n % 14 ≡ 13
+full c = omega (arith, c.if-at-lt13.false)
 
-encode-full-requires : tie.Need-encode-full-requires invariant-loop decreases-loop
+encode-full-requires : tie.Need-encode_full-full-requires invariant-loop decreases-loop
 encode-full-requires c κs =
     let l = c.before.before.before.before in
-    let r = l.loop in
-    let room = full-room (state l) r.i _ _ r.invariant.2 c.before.before.before.loop-test.true (full c.before) in (
-      subst (λ (k : ℕ). Room l.before.before.before.before.encoder-shape.result (r.n / 14) 8 k) (sym r.invariant.3) (rw l.before.before.before.before.encoder-shape.ensures room),
+    let r = l.loop-i in
+    let room = full-room (state l) r.i _ _ r.invariant.2 c.before.before.before.loop-i-test.true (full c.before) in (
+      subst (λ (k : ℕ). Room l.before.before.before.before.encoder_shape-shape.result (r.n / 14) 8 k) (sym r.invariant.3) (rw l.before.before.before.before.encoder_shape-shape.ensures room),
       r.invariant.2.within,
     )
 
-add-passes : tie.Need-overflow-add-passes invariant-loop decreases-loop
+add-passes : tie.Need-overflow_add-passes invariant-loop decreases-loop
 add-passes c =
     let f = c.before.before.before.before.before.before.before in
     let l = f.before.before in
-    let e = c.before.before.before.before.encode-full.ensures.1.0
-    ∙ ap (λ (z : ℤ). (encode_frame l.loop.history (set l.loop.frame (l.loop.n % 14) z) (state l).coefficients).passes) (same f) in
-    let few = push-passes (state l) (sample f) l.loop.image _ _ _ _ l.loop.invariant.2 f.before.loop-test.true e in
+    let e = c.before.before.before.before.encode_full-full.ensures.1.0
+    ∙ ap (λ (z : ℤ). (encode_frame l.loop-i.history (set l.loop-i.frame (l.loop-i.n % 14) z) (state l).coefficients).passes) (same f) in
+    let few = push-passes (state l) (sample f) l.loop-i.image _ _ _ _ l.loop-i.invariant.2 f.before.loop-i-test.true e in
     omega (arith, few)
 
-loop-less-2 : tie.Need-loop-smaller-2 invariant-loop decreases-loop
+loop-less-2 : tie.Need-loop-i-smaller invariant-loop decreases-loop
 loop-less-2 c =
     let f = c.before.before.before.before.before.before.before.before in
     let l = f.before.before in
-    falls (length l.before.before.before.before.before.before.args.piece.now) l.loop.i f.before.loop-test.true
+    falls (length l.before.before.before.before.before.before.args.piece.now) l.loop-i.i f.before.loop-i-test.true
 
-loop-again-2 : tie.Need-loop-preserved-2 invariant-loop decreases-loop
+loop-again-2 : tie.Need-loop-i-preserved invariant-loop decreases-loop
 loop-again-2 c =
     let f = c.before.before.before.before.before.before.before.before in
     let l = f.before.before in
     let a = l.before.before.before.before.before.before.args in
     let m = state l in
-    let r = l.loop in
-    let k = c.before.before.before.before.before.encode-full in
+    let r = l.loop-i in
+    let k = c.before.before.before.before.before.encode_full-full in
     let frame : ℤ → EncodedFrame = λ z. encode_frame r.history (set r.frame (r.n % 14) z) a.e.coefficients in
     let e = same f in
-    turn (left a.e a.image.now) a.piece.now r.i m r.image _ _ f.before.loop-test.true r.invariant.1 r.invariant.2 r.invariant.3
+    turn (left a.e a.image.now) a.piece.now r.i m r.image _ _ f.before.loop-i-test.true r.invariant.1 r.invariant.2 r.invariant.3
     (push-full m (sample f) r.image _ _ _ _ (full c.before.before.before.before.before.before.before)
     (k.ensures.0 ∙ ap (λ (z : ℤ). history_after r.history (frame z).samples 14) e)
     (k.ensures.1.0 ∙ ap (λ (z : ℤ). (frame z).passes) e)
     (k.ensures.1.1.0 ∙ ap (λ (z : ℤ). loop_context a.e.looped (r.n / 14) r.history (frame z) r.context) e)
-    (k.ensures.1.1.1 ∙ ap₂ (λ (s : Shape) (z : ℤ). store s (r.n / 14) (frame z).bytes r.history r.image) l.before.before.before.before.encoder-shape.ensures e))
+    (k.ensures.1.1.1 ∙ ap₂ (λ (s : Shape) (z : ℤ). store s (r.n / 14) (frame z).bytes r.history r.image) l.before.before.before.before.encoder_shape-shape.ensures e))
 
-same_length : tie.Need-same-length invariant-loop decreases-loop
-same_length c = c.before.loop.invariant.3
+same_length : tie.Need-shape_of-image invariant-loop decreases-loop
+same_length c = c.before.loop-i.invariant.3
 
 returns : tie.Need-returns invariant-loop decreases-loop
 returns c =
     let a = c.before.before.before.before.before.before.before.args in
-    let e : c.before.loop.i ≡ length a.piece.now = omega arith in
-    c.before.loop.invariant.1 ∙ ap (λ (l : List ℤ). feed_all (left a.e a.image.now) l) (ap (λ (k : ℕ). take k a.piece.now) e ∙ take-length a.piece.now)
+    let e : c.before.loop-i.i ≡ length a.piece.now = omega arith in
+    c.before.loop-i.invariant.1 ∙ ap (λ (l : List ℤ). feed_all (left a.e a.image.now) l) (ap (λ (k : ℕ). take k a.piece.now) e ∙ take-length a.piece.now)
 
-pub feed-all-spec : {M : Type 1} → statement M
-feed-all-spec =
+pub feed_all_spec : {M : Type 1} → statement M
+feed_all_spec =
     tie.close
     (tie.spec
     invariant-loop

@@ -7,29 +7,29 @@ use borrow.Author.Rules.{rules}
 use Rattle.clip.proofs.feeding.loop_context.Statement.{statement}
 use Rattle.clip.proofs.feeding.loop_context.Tie as tie
 
-cast-start : tie.Need-overflow-cast-start
+cast-start : tie.Need-overflow_cast-start
 cast-start c = search rules
 
-array-read-header : tie.Need-array-read-header
+array-read-header : tie.Need-bounds-bytes-0
 array-read-header c = search rules
 
-cast-header : tie.Need-overflow-cast-header
+cast-header : tie.Need-overflow_cast-header
 cast-header c = search rules
 
-history-after-requires : tie.Need-history-after-requires
+history-after-requires : tie.Need-history_after-last_samples-requires
 history-after-requires c κs = omega arith
 
-returns : tie.Need-returns
+returns : tie.Need-returns-then-start-q
 unfolding loop_context
-returns c = simp (c.before.before.before.before.if1.true, eq-eqb _ _ c.before.before.before.if2.true, ← c.history-after.ensures)
+returns c = simp (c.before.before.before.before.if-present.true, eq-eqb _ _ c.before.before.before.if-start-q.true, ← c.history_after-last_samples.ensures)
 
-returns-2 : tie.Need-returns-2
+returns-2 : tie.Need-returns-else-start-q
 unfolding loop_context
-returns-2 c = simp (c.before.if1.true, ne_eqb _ _ c.if2.false)
+returns-2 c = simp (c.before.if-present.true, ne_eqb _ _ c.if-start-q.false)
 
-returns-3 : tie.Need-returns-3
+returns-3 : tie.Need-returns-else-present
 unfolding loop_context
-returns-3 c = simp c.if1.false
+returns-3 c = simp c.if-present.false
 
-pub loop-context-spec : {M : Type 1} → statement M
-loop-context-spec = tie.close (tie.spec cast-start array-read-header cast-header history-after-requires returns returns-2 returns-3)
+pub loop_context_spec : {M : Type 1} → statement M
+loop_context_spec = tie.close (tie.spec cast-start array-read-header cast-header history-after-requires returns returns-2 returns-3)

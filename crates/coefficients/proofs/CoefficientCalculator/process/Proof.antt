@@ -10,7 +10,7 @@ enum_told : tie.Need-enum_told-1
 enum_told c = search rules
 
 push-all-requires : tie.Need-push_all-next-requires
-push-all-requires c κs = process-measurable _ _ _ _ (sym c.before.before.before.process_answer-answer.ensures ∙ ap outcome c.before.enum_told-1.given.1)
+push-all-requires c κs = process-measurable _ _ _ _ (sym c.before.before.process_answer-answer.ensures ∙ ap outcome c.before.in-Accepted.is)
 
 enum-known-answer : tie.Need-enum_known-answer
 enum-known-answer c = search rules
@@ -22,11 +22,11 @@ returns : tie.Need-returns-in-Accepted
 unfolding process
 returns c =
     let t = c.before.before.before.before in
-    rw (← t.before.before.process_answer-answer.ensures, t.enum_told-1.given.1) (ap (effect (accepted tt)) c.before.before.push_all-next.ensures)
+    rw (← t.before.process_answer-answer.ensures, t.in-Accepted.is) (ap (effect (accepted tt)) c.before.before.push_all-next.ensures)
 
 returns-2 : tie.Need-returns-in-Refused
 unfolding process
-returns-2 c = rw (← c.before.before.before.process_answer-answer.ensures, c.before.answer-1.given.1)
+returns-2 c = rw (← c.before.process_answer-answer.ensures, c.in-Refused.is)
 
 pub process_spec : {M : Type 1} → statement M
 process_spec =

@@ -25,12 +25,12 @@ same_length c = search rules
 returns : tie.Need-returns-in-One
 unfolding stored counted
 returns c =
-    let a = c.before.before.before.before.before.before.before in
-    rw (← a.analyse.ensures, c.before.before.before.before.before.x-1.given.1) (record { count = refl; store = c.before.before.write_record.ensures })
+    let a = c.before.before.before.before.before in
+    rw (← a.analyse.ensures, c.before.before.before.before.in-One.is) (record { count = refl; store = c.before.before.write_record.ensures })
 
 returns-2 : tie.Need-returns-in-Nothing
 unfolding stored counted
-returns-2 c = rw (← c.before.before.analyse.ensures, c.enum_told-1.given.1) (record { count = refl; store = refl })
+returns-2 c = rw (← c.before.analyse.ensures, c.in-Nothing.is) (record { count = refl; store = refl })
 
 pub process_frame_spec : {M : Type 1} → statement M
 process_frame_spec =

@@ -25,9 +25,9 @@ same_length c = search rules
 returns : tie.Need-returns-then-k-eq13
 returns c =
     let f = c.before.before.before.before.process_frame-q in
-    let b = c.before.before.before.before.before.before.before in
+    let b = c.before.before.before.before.before.before in
     let a = b.before.before in
-    push-full a.args.n a.args.r f.result a.args.h.now c.shift.new.0 a.args.s.now f.new.1.0 a.args.x _
+    push-full a.args.n a.args.r f.result a.args.h.now c.shift.new.h a.args.s.now f.new.s a.args.x _
     (to_z-of_z a.ranges.x)
     b.if-k-eq13.true
     f.ensures

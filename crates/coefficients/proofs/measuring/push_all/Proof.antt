@@ -4,6 +4,7 @@ use mathlib.Core.List.{foldl}
 use Rattle.coefficients.specs.Measure.{measuring, calculator, push}
 use Rattle.coefficients.proofs.AcceptedCalls.{measurable-push}
 use Rattle.coefficients.proofs.OneSample.{all-step, step-records}
+use mir.Syntax.{w16}
 use Rattle.coefficients.proofs.measuring.push_all.Statement.{statement}
 use Rattle.coefficients.proofs.measuring.push_all.Tie as tie
 
@@ -55,11 +56,11 @@ loop-again c =
     let a = l.before.before.before.before in
     let v = l.loop-i.invariant in
     let p = c.before.before.push-r in
-    let x = to_z-of_z (record { sfits = c.before.before.before.before.push-arg-1.given }) in (
+    let x = to_z-of_z {w = w16} (record { sfits = c.before.before.before.before.push-arg-1.given }) in (
       omega (arith, v.0),
       omega arith,
       step-records l.loop-i.n l.loop-i.r p.result l.loop-i.h _ l.loop-i.s _ _ v.2 p.ensures,
-      p.auto.1.1.1.1.0 ∙ v.3,
+      p.auto.s ∙ v.3,
       all-step l.loop-i.n l.loop-i.r l.loop-i.i p.result l.loop-i.h _ l.loop-i.s _ a.args.samples.now _ _ (omega arith) x v.4 p.ensures,
     )
 

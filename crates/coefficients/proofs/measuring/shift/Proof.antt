@@ -1,6 +1,7 @@
 -- `shift` meets its contract: after i turns the first i samples are copied. Assumes nothing.
 use Rattle.std.proofs.Common.{◌≡◌, ℕ, ◌+◌, ◌-◌, ◌≤◌, List, get_or, set, ℤ, pos, refl, add-one, arith, to_z-of_z}
 use Rattle.coefficients.specs.Measure.{copied, shift}
+use mir.Syntax.{w16}
 use Rattle.coefficients.proofs.measuring.shift.Statement.{statement}
 use Rattle.coefficients.proofs.measuring.shift.Tie as tie
 
@@ -42,7 +43,7 @@ loop-less c = omega arith
 loop-again : tie.Need-loop-i-preserved invariant-loop decreases-loop
 loop-again c =
     let l = c.before.before in
-    (omega arith, step l.before.args.h.now l.loop-i.h l.loop-i.i _ l.loop-i.invariant.1 (to_z-of_z (record { sfits = c.x-1.given })))
+    (omega arith, step l.before.args.h.now l.loop-i.h l.loop-i.i _ l.loop-i.invariant.1 (to_z-of_z {w = w16} (record { sfits = c.x-1.given })))
 
 returns : tie.Need-returns invariant-loop decreases-loop
 unfolding shift copied

@@ -29,14 +29,14 @@ show-requires c κs = search rules
 
 returns : tie.Need-returns-then-run_quick
 returns c =
-    let r = c.before.before.before.before in
+    let r = c.before.before in
     let s = r.before.before.before.before.before in
     let t : tie.Then-is_roomy = r.before.before.before in
     let d = s.requires.0.0 in
     let fs = s.args.frame.now in (
       r.run_quick.ensures.0,
       λ e.
-          let k = rw (to_z-of_z s.ranges.c0, to_z-of_z s.ranges.c1) at (r.run_quick.ensures.1 c.before.before.before.if-run_quick.true) in
+          let k = rw (to_z-of_z s.ranges.c0, to_z-of_z s.ranges.c1) at (r.run_quick.ensures.1 c.before.if-run_quick.true) in
           let u = c.show.ensures e in (
             seen-is s.args.c0 s.args.c1 (history_of fs) (samples_of fs) s.args.p fs _ _ c.show.result s.requires.1.0 (roomy t) (history-fits fs d) (samples-fit fs d) k u
                 r.run_quick.ensures.0.s-length (λ i h. sym (sample-at fs i h)),

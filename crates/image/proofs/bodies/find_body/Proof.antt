@@ -26,7 +26,7 @@ returns : tie.Need-returns
 returns c = let a = c.before.args in
     let m = (a.nibbles + 1) / 2 in
     let e : a.offset + m - a.offset ≡ m = omega arith in
-    let p = a.image.ptr in
+    let p = a.image.ref_ptr in
     let q : a.offset + p.1 ≡ p.1 + a.offset = omega arith in
     (ap (λ (x : ℕ). take x (drop a.offset a.image.now)) e, ap (λ (x : ℕ). (p.0, x)) q)
 

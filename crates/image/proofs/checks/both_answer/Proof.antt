@@ -19,11 +19,11 @@ enum-known-answer c = search rules
 
 returns : tie.Need-returns-in-Accepted
 unfolding both_answer
-returns c = simp (← c.before.before.before.compare_answer-answer.ensures, c.before.enum_told-1.given.1, c.compare_answer.ensures)
+returns c = simp (← c.before.before.compare_answer-answer.ensures, c.before.in-Accepted.is, c.compare_answer.ensures)
 
 returns-2 : tie.Need-returns-in-Refused
 unfolding both_answer
-returns-2 c = simp (← c.before.before.before.compare_answer-answer.ensures, c.before.answer-1.given.1)
+returns-2 c = simp (← c.before.compare_answer-answer.ensures, c.in-Refused.is)
 
 pub both_answer_spec : {M : Type 1} → statement M
 both_answer_spec =

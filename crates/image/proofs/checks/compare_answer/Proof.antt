@@ -14,7 +14,7 @@ enum_told : tie.Need-enum_told-1
 enum_told c = search rules
 
 read-coefficients-requires : tie.Need-read_coefficients-coefficients-requires
-read-coefficients-requires c κs = (opened _ (sym c.before.before.open_answer-answer.ensures ∙ ap outcome c.enum_told-1.given.1)).head.long
+read-coefficients-requires c κs = (opened _ (sym c.before.open_answer-answer.ensures ∙ ap outcome c.in-Accepted.is)).head.long
 
 lowest-pair-requires : tie.Need-lowest_pair-requires
 lowest-pair-requires c κs = search rules
@@ -22,8 +22,8 @@ lowest-pair-requires c κs = search rules
 returns : tie.Need-returns-then-lowest_pair
 unfolding compare_answer
 returns c = simp (
-  ← c.before.before.before.before.before.open_answer-answer.ensures,
-  c.before.before.before.enum_told-1.given.1,
+  ← c.before.before.before.before.open_answer-answer.ensures,
+  c.before.before.before.in-Accepted.is,
   ← c.before.before.read_coefficients-coefficients.ensures,
   ← c.before.lowest_pair.ensures,
   c.if-lowest_pair.true,
@@ -35,8 +35,8 @@ enum-known-answer c = search rules
 returns-2 : tie.Need-returns-else-lowest_pair
 unfolding compare_answer
 returns-2 c = simp (
-  ← c.before.before.before.before.before.open_answer-answer.ensures,
-  c.before.before.before.enum_told-1.given.1,
+  ← c.before.before.before.before.open_answer-answer.ensures,
+  c.before.before.before.in-Accepted.is,
   ← c.before.before.read_coefficients-coefficients.ensures,
   ← c.before.lowest_pair.ensures,
   c.if-lowest_pair.false,
@@ -44,7 +44,7 @@ returns-2 c = simp (
 
 returns-3 : tie.Need-returns-in-Refused
 unfolding compare_answer
-returns-3 c = simp (← c.before.before.before.open_answer-answer.ensures, c.before.answer-1.given.1)
+returns-3 c = simp (← c.before.open_answer-answer.ensures, c.in-Refused.is)
 
 pub compare_answer_spec : {M : Type 1} → statement M
 compare_answer_spec =

@@ -18,20 +18,20 @@ enum_told c = search rules
 
 get32-requires : tie.Need-get32-requires
 get32-requires c κs =
-    let o = compare-accepted _ (sym c.before.before.compare_answer-answer.ensures ∙ ap outcome c.enum_told-1.given.1) in
+    let o = compare-accepted _ (sym c.before.compare_answer-answer.ensures ∙ ap outcome c.in-Accepted.is) in
     omega (arith, o.opens.head.long)
 
 -- N was read
-counted : (c : tie.After-get32) → c.get32.result ≡ total_in c.before.before.before.before.before.args.image.now
+counted : (c : tie.After-get32) → c.get32.result ≡ total_in c.before.before.before.before.args.image.now
 unfolding total_in
 counted c = c.get32.ensures
 
 returns : tie.Need-returns-then-first-get32
 unfolding from_answer
-returns c = let a = c.before.before.before.before.before.before.args in
+returns c = let a = c.before.before.before.before.before.args in
     rw (
-      ← c.before.before.before.before.compare_answer-answer.ensures,
-      c.before.before.enum_told-1.given.1,
+      ← c.before.before.before.compare_answer-answer.ensures,
+      c.before.before.in-Accepted.is,
       le-leb (total_in a.image.now) a.first (omega (arith, counted c.before, c.if-first-get32.true)),
     )
 
@@ -40,16 +40,16 @@ enum-known-answer c = search rules
 
 returns-2 : tie.Need-returns-else-first-get32
 unfolding from_answer
-returns-2 c = let a = c.before.before.before.before.before.before.args in
+returns-2 c = let a = c.before.before.before.before.before.args in
     rw (
-      ← c.before.before.before.before.compare_answer-answer.ensures,
-      c.before.before.enum_told-1.given.1,
+      ← c.before.before.before.compare_answer-answer.ensures,
+      c.before.before.in-Accepted.is,
       lt-leb (total_in a.image.now) a.first (omega (arith, counted c.before, c.if-first-get32.false)),
     )
 
 returns-3 : tie.Need-returns-in-Refused
 unfolding from_answer
-returns-3 c = simp (← c.before.before.before.compare_answer-answer.ensures, c.before.answer-1.given.1)
+returns-3 c = simp (← c.before.compare_answer-answer.ensures, c.in-Refused.is)
 
 pub from_answer_spec : {M : Type 1} → statement M
 from_answer_spec =

@@ -35,17 +35,17 @@ enum_told : tie.Need-enum_told-1
 enum_told c = search rules
 
 loop-fits-requires : tie.Need-loop_fits-requires
-loop-fits-requires c κs = headed c.before.before.before.before
+loop-fits-requires c κs = headed c.before.before.before
 
 returns-2 : tie.Need-returns-then-not-loop_fits
 unfolding open_answer
-returns-2 c = let e = c.before.before.before.before in
+returns-2 c = let e = c.before.before.before in
     let i = e.before.before in
     simp (
       ← i.before.head_ok.ensures,
       not-false i.before.head_ok.result i.if-not-head_ok.false-raw,
       ← listed e,
-      c.before.before.enum_told-1.given.1,
+      c.before.before.in-Accepted.is,
       ← c.before.loop_fits.ensures,
       not-true c.before.loop_fits.result c.if-not-loop_fits.true-raw,
     )
@@ -55,22 +55,22 @@ enum-known-answer c = search rules
 
 returns-3 : tie.Need-returns-else-not-loop_fits
 unfolding open_answer
-returns-3 c = let e = c.before.before.before.before in
+returns-3 c = let e = c.before.before.before in
     let i = e.before.before in
     simp (
       ← i.before.head_ok.ensures,
       not-false i.before.head_ok.result i.if-not-head_ok.false-raw,
       ← listed e,
-      c.before.before.enum_told-1.given.1,
+      c.before.before.in-Accepted.is,
       ← c.before.loop_fits.ensures,
       not-false c.before.loop_fits.result c.if-not-loop_fits.false-raw,
     )
 
 returns-4 : tie.Need-returns-in-Refused
 unfolding open_answer
-returns-4 c = let e = c.before.before.before in
+returns-4 c = let e = c.before in
     let i = e.before.before in
-    simp (← i.before.head_ok.ensures, not-false i.before.head_ok.result i.if-not-head_ok.false-raw, ← listed e, c.before.answer-1.given.1)
+    simp (← i.before.head_ok.ensures, not-false i.before.head_ok.result i.if-not-head_ok.false-raw, ← listed e, c.in-Refused.is)
 
 pub open_answer_spec : {M : Type 1} → statement M
 open_answer_spec =

@@ -37,29 +37,29 @@ enum_told : tie.Need-enum_told-1 invariant-loop decreases-loop
 enum_told c = search rules
 
 add-j : tie.Need-overflow_add-j invariant-loop decreases-loop
-add-j c = omega (arith, c.before.before.before.loop-j-test.true, c.before.before.before.before.before.before.block_count-blocks.ensures.1)
+add-j c = omega (arith, c.before.before.loop-j-test.true, c.before.before.before.before.before.block_count-blocks.ensures.1)
 
 loop-less : tie.Need-loop-j-smaller invariant-loop decreases-loop
 loop-less c = omega arith
 
 loop-again : tie.Need-loop-j-preserved invariant-loop decreases-loop
-loop-again c = let l = c.before.before.before.before in
+loop-again c = let l = c.before.before.before in
     let a = l.before.before.before.before.args in (
       omega arith,
-      l.loop-j.invariant.1 ∙ entry-right a.image.now a.shape l.before.before.block_count-blocks.result l.loop-j.j c.before.before.before.loop-j-test.true
-          (sym c.before.before.entry_answer-answer.ensures ∙ ap outcome c.enum_told-1.given.1),
+      l.loop-j.invariant.1 ∙ entry-right a.image.now a.shape l.before.before.block_count-blocks.result l.loop-j.j c.before.before.loop-j-test.true
+          (sym c.before.entry_answer-answer.ensures ∙ ap outcome c.in-Accepted.is),
     )
 
 enum-known-answer : tie.Need-enum_known-answer invariant-loop decreases-loop
 enum-known-answer c = search rules
 
 returns : tie.Need-returns-in-Refused invariant-loop decreases-loop
-returns c = let l = c.before.before.before.before.before in
+returns c = let l = c.before.before.before in
     let a = l.before.before.before.before.args in
     sym
     (sym (counted l) ∙ l.loop-j.invariant.1
-    ∙ entry-wrong a.image.now a.shape l.before.before.block_count-blocks.result l.loop-j.j c.before.before.before.before.loop-j-test.true
-    (sym c.before.before.before.entry_answer-answer.ensures ∙ ap outcome c.before.answer-1.given.1))
+    ∙ entry-wrong a.image.now a.shape l.before.before.block_count-blocks.result l.loop-j.j c.before.before.loop-j-test.true
+    (sym c.before.entry_answer-answer.ensures ∙ ap outcome c.in-Refused.is))
 
 returns-2 : tie.Need-returns invariant-loop decreases-loop
 returns-2 c = let l = c.before in

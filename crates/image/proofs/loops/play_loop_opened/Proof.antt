@@ -27,9 +27,9 @@ tested : (c : tie.After-room_answer-answer) → let a = c.before.before.before.b
 tested c = c.room_answer-answer.ensures ∙ rw (c.before.before.before.read_coefficients-coefficients.ensures, c.before.before.read_loop-looped.ensures)
 
 -- what playing was accepted with
-playable : (c : tie.In-Accepted) → let a = c.before.before.before.before.before.before.before.args in
+playable : (c : tie.In-Accepted) → let a = c.before.before.before.before.before.before.args in
     (lowest_pair (coefficients_in a.image.now) ≡ false) × (a.times * loop_length a.image.now ≤ length a.out.now)
-playable c = room-accepted _ _ _ (sym (tested c.before.before) ∙ ap outcome c.enum_told-1.given.1)
+playable c = room-accepted _ _ _ (sym (tested c.before) ∙ ap outcome c.in-Accepted.is)
 
 read-coefficients-requires : tie.Need-read_coefficients-coefficients-requires
 read-coefficients-requires c κs = search rules
@@ -55,11 +55,11 @@ enum_told : tie.Need-enum_told-1
 enum_told c = search rules
 
 loop-context-requires : tie.Need-loop_context-context-requires
-loop-context-requires c κs = (c.before.before.before.before.before.before.before.before.requires.head, c.before.before.before.before.before.read_loop-looped.ensures)
+loop-context-requires c κs = (c.before.before.before.before.before.before.before.requires.head, c.before.before.before.before.read_loop-looped.ensures)
 
 play-turns-requires : tie.Need-play_turns-requires
 play-turns-requires c κs = let i = c.before.before in
-    let r = i.before.before.before.before.before in
+    let r = i.before.before.before.before in
     let s = r.before.before.before in (
       record { opens = s.requires; present = sym (ap (λ (p : Loop). p.present) r.read_loop-looped.ensures) ∙ i.if-present.true; enough = (playable i.before).1 },
       r.read_loop-looped.ensures,
@@ -76,16 +76,16 @@ same_length c = search rules
 returns : tie.Need-returns-then-present
 returns c = let e = c.before.before.before.before.before in
     let p = playable e in
-    loop-made _ _ _ p.0 p.1 _ _ (counted e.before.before.before.before) c.before.play_turns.ensures
+    loop-made _ _ _ p.0 p.1 _ _ (counted e.before.before.before) c.before.play_turns.ensures
 
 returns-2 : tie.Need-returns-else-present
 returns-2 c = let e = c.before in
-    let r = e.before.before.before.before in
+    let r = e.before.before.before in
     let p = playable e in
     loop-made _ _ _ p.0 p.1 _ _ (counted r) (none-played _ _ _ (sym (ap (λ (q : Loop). q.present) r.read_loop-looped.ensures) ∙ c.if-present.false))
 
 returns-3 : tie.Need-returns-in-Refused
-returns-3 c = rw (← tested c.before.before.before, c.before.answer-1.given.1)
+returns-3 c = rw (← tested c.before, c.in-Refused.is)
 
 pub play_loop_opened_spec : {M : Type 1} → statement M
 play_loop_opened_spec =

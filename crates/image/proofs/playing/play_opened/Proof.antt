@@ -24,9 +24,9 @@ tested : (c : tie.After-room_answer-answer) → let a = c.before.before.before.b
 tested c = c.room_answer-answer.ensures ∙ rw (c.before.before.read_coefficients-coefficients.ensures, counted c.before)
 
 -- what playing was accepted with
-playable : (c : tie.In-Accepted) → let a = c.before.before.before.before.before.before.args in AllPlayable a.image.now (length a.out.now)
-playable c = let r = room-accepted _ _ _ (sym (tested c.before.before) ∙ ap outcome c.enum_told-1.given.1) in
-    record { opens = c.before.before.before.before.before.before.requires; pairs = r.0; enough = r.1 }
+playable : (c : tie.In-Accepted) → let a = c.before.before.before.before.before.args in AllPlayable a.image.now (length a.out.now)
+playable c = let r = room-accepted _ _ _ (sym (tested c.before) ∙ ap outcome c.in-Accepted.is) in
+    record { opens = c.before.before.before.before.before.requires; pairs = r.0; enough = r.1 }
 
 read-coefficients-requires : tie.Need-read_coefficients-coefficients-requires
 read-coefficients-requires c κs = search rules
@@ -44,7 +44,7 @@ enum_told : tie.Need-enum_told-1
 enum_told c = search rules
 
 play-blocks-requires : tie.Need-play_blocks-after-requires
-play-blocks-requires c κs = (playable c.before, c.before.before.before.before.before.read_coefficients-coefficients.ensures)
+play-blocks-requires c κs = (playable c.before, c.before.before.before.before.read_coefficients-coefficients.ensures)
 
 enum-known-answer : tie.Need-enum_known-answer
 enum-known-answer c = search rules
@@ -56,10 +56,10 @@ same_length : tie.Need-shape_of-out
 same_length c = search rules
 
 returns : tie.Need-returns-in-Accepted
-returns c = opened-made _ _ (playable c.before.before.before) _ _ (counted c.before.before.before.before.before.before) c.before.play_blocks-after.ensures
+returns c = opened-made _ _ (playable c.before.before.before) _ _ (counted c.before.before.before.before.before) c.before.play_blocks-after.ensures
 
 returns-2 : tie.Need-returns-in-Refused
-returns-2 c = let r = c.refused_playback.ensures in rw (← tested c.before.before.before.before, c.before.before.answer-1.given.1, r.0, r.1)
+returns-2 c = let r = c.refused_playback.ensures in rw (← tested c.before.before, c.before.in-Refused.is, r.0, r.1)
 
 pub play_opened_spec : {M : Type 1} → statement M
 play_opened_spec =

@@ -78,7 +78,7 @@ play-later-blocks-requires : tie.Need-play_later_blocks-later-requires
 play-later-blocks-requires c κs = let m = c.before.before.before.before in
     let s = m.before.before.before in
     let h = here m in
-    let left = c.before.before.play_in_block.new.1.1.1.1.1.1.0 in
+    let left = c.before.before.play_in_block.new.out in
     let d = ap length (part-all left m.least-done.result) ∙ length-drop m.least-done.result left in (
       rw m.before.per_block-per.ensures (later-run s.args.image.now s.args.first s.args.count s.requires.0 _ h),
       s.requires.1,
