@@ -66,7 +66,7 @@ put-end-requires c κs = let s = c.before.before.before.before.before.before.bef
     let k = c.before.before.before.before.before.before.before.store in
     let b = take (1 + (e.fed % 14 + 1) / 2) c.before.before.before.before.before.before.before.before.before.before.before.encode_frame-t.result.bytes in
     end-room e _ z.result k.new.image s.requires z.ensures
-    (stored-room e b s.args.image.now k.new.0 s.requires.size
+    (stored-room e b s.args.image.now k.new.image s.requires.size
     (k.ensures ∙ ap (λ (y : Shape). store y (e.fed / 14) b e.history s.args.image.now) z.ensures))
 
 same_length : tie.Need-shape_of-image-then-m-ne0
@@ -84,7 +84,7 @@ returns c = let s = c.before.before.before.before.before.before.before.before.be
     let x = c.before.before.before.before.before.before.loop_context-at in
     finish-part e s.args.image.now f.result t.result h.result x.result k.new.image m.new.image c.before.before.before.before.before.before.before.before.before.before.before.before.before.before.before.before.before.before.before.if-m-ne0.true f.ensures t.ensures
     (k.ensures ∙ ap (λ (y : Shape). store y (e.fed / 14) (take (1 + (e.fed % 14 + 1) / 2) t.result.bytes) e.history s.args.image.now) z.ensures)
-    h.ensures x.ensures (m.ensures ∙ ap (λ (y : Shape). ended y e.looped x.result k.new.0) z.ensures)
+    h.ensures x.ensures (m.ensures ∙ ap (λ (y : Shape). ended y e.looped x.result k.new.image) z.ensures)
 
 put-end-requires-2 : tie.Need-put_end-requires-2
 put-end-requires-2 c κs = let s = c.before.before.before.before.before.before in let z = c.before.before.before.before.encoder_shape-shape in end-room s.args.e _ z.result s.args.image.now s.requires z.ensures s.requires.size

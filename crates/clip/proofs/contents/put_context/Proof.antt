@@ -45,12 +45,12 @@ returns c =
     let o = c.before.before.before.bits16-2.ensures
     ∙ ap (of_z w16) (to_z-of_z {w = w16} {z = a.history.older} (record { sfits = c.before.before.before.before.struct_told-2-1.given.1.0.1 })) in
     runs3 a.image.now c.before.before.before.before.before.before.before.before.before.before.before.before.before.before.put16.new.buf
-    c.before.before.before.before.before.before.before.before.put16-2.new.0 c.before.before.put16-3.new.0 (be16 a.header) (sample16 a.history.newest)
+    c.before.before.before.before.before.before.before.before.put16-2.new.buf c.before.before.put16-3.new.buf (be16 a.header) (sample16 a.history.newest)
     (sample16 a.history.older) a.at (a.at + 2) (a.at + 4)
     c.before.before.before.before.before.before.before.before.before.before.before.before.before.before.put16.ensures
     (c.before.before.before.before.before.before.before.before.put16-2.ensures
-    ∙ ap (λ (v : ℕ). sets c.before.before.before.before.before.before.before.before.before.before.before.before.before.before.put16.new.0 (a.at + 2) (be16 v)) n)
-    (c.before.before.put16-3.ensures ∙ ap (λ (v : ℕ). sets c.before.before.before.before.before.before.before.before.put16-2.new.0 (a.at + 4) (be16 v)) o)
+    ∙ ap (λ (v : ℕ). sets c.before.before.before.before.before.before.before.before.before.before.before.before.before.before.put16.new.buf (a.at + 2) (be16 v)) n)
+    (c.before.before.put16-3.ensures ∙ ap (λ (v : ℕ). sets c.before.before.before.before.before.before.before.before.put16-2.new.buf (a.at + 4) (be16 v)) o)
     refl (omega arith)
 
 pub put_context_spec : {M : Type 1} → statement M

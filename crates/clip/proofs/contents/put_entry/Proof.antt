@@ -31,7 +31,7 @@ returns : tie.Need-returns
 returns c =
     let a = c.before.before.before.before.before.before.before.before.before.before.before.before.before.args in
     runs3 a.image.now c.before.before.before.before.before.before.before.before.before.before.put32.new.buf c.before.before.before.before.before.before.put32-2.new.buf
-    c.before.before.zeros.new.0 (be32 a.offset) (be32 a.nibbles) (replicate 8 0) a.at (a.at + 4) (a.at + 8)
+    c.before.before.zeros.new.buf (be32 a.offset) (be32 a.nibbles) (replicate 8 0) a.at (a.at + 4) (a.at + 8)
     c.before.before.before.before.before.before.before.before.before.before.put32.ensures c.before.before.before.before.before.before.put32-2.ensures
     c.before.before.zeros.ensures refl (omega arith)
 

@@ -89,7 +89,7 @@ returns c = let s = c.before.before.before.before.before.before.before.before.be
     let l : p.result ≡ 56 + length (bytes (start_shape g)) = omega (arith, at, table-length bare (λ i. refl) (start_shape g) 0 k) in
     let more = 16 * loop_count g.looped in
     runs3 a.image.now head.new.image table.new.image zero.new.buf (head_bytes no_mark g) (bytes (start_shape g)) (replicate (16 * c.before.before.before.before.before.before.before.before.before.before.before.before.before.before.before.before.shape_of-shape.result.extra + b.result) 0) 0 56 p.result
-    head.ensures (table.ensures ∙ ap (λ (z : Shape). sets head.new.0 56 (bytes z)) e) zero.ensures h l
+    head.ensures (table.ensures ∙ ap (λ (z : Shape). sets head.new.image 56 (bytes z)) e) zero.ensures h l
     ∙ ap (λ (y : List ℕ). sets a.image.now 0 (head_bytes no_mark g ++ (bytes (start_shape g) ++ y)))
     (ap₂ (λ (x y : ℕ). replicate (16 * x + y) 0) (ap (λ (z : Shape). z.extra) e) (b.ensures.0 ∙ ap (λ (z : Shape). body_bytes z.total) e)
     ∙ sym (replicate-append-replicate more (body_bytes g.total) 0))

@@ -27,7 +27,7 @@ returns : tie.Need-returns
 returns c =
     let a = c.before.before.before.before.before.before.before.before.before.before.before.before.before.args in
     runs3 a.image.now c.before.before.before.before.before.before.before.before.before.before.put32.new.buf c.before.before.before.before.before.before.put32-2.new.buf
-    c.before.before.put32-3.new.0 (be32 a.total) (be32 a.rate) (be32 a.block) 4 8 12
+    c.before.before.put32-3.new.buf (be32 a.total) (be32 a.rate) (be32 a.block) 4 8 12
     c.before.before.before.before.before.before.before.before.before.before.put32.ensures c.before.before.before.before.before.before.put32-2.ensures
     c.before.before.put32-3.ensures refl refl
 

@@ -65,7 +65,7 @@ entry-place-requires : tie.Need-entry_place-requires invariant-loop decreases-lo
 entry-place-requires c κs = omega (arith, few c.before.before, below c.before.before)
 
 cast-put-entry : tie.Need-overflow_cast-offset invariant-loop decreases-loop
-cast-put-entry c = omega (arith, near c.before.before.before, few c.before.before.before, bodies c.before.before.before, (start c.before.before.before).pre.0.further)
+cast-put-entry c = omega (arith, near c.before.before.before, few c.before.before.before, bodies c.before.before.before, (start c.before.before.before).requires.0.further)
 
 cast-put-entry-2 : tie.Need-overflow_cast-nibbles invariant-loop decreases-loop
 cast-put-entry-2 c = omega (arith, c.before.before.block_length-nibbles.ensures.1)

@@ -57,7 +57,7 @@ returns c = let s = c.before.before.before.before.before.before.before.before.be
     let x = c.before.before.put_context in
     with-context a.shape a.q a.k a.bytes a.image.now p.new.buf a.history
     (p.ensures ∙ ap (λ (b : ℕ). sets a.image.now (b + 8 * a.q) (take a.k a.bytes)) c.before.before.before.before.before.before.before.before.before.before.bodies_place.ensures)
-    x.new.0 s.requires.one c.before.before.before.before.before.if-q-per-eq0.true (x.ensures ∙ rw c.before.before.before.entry_place.ensures)
+    x.new.image s.requires.one c.before.before.before.before.before.if-q-per-eq0.true (x.ensures ∙ rw c.before.before.before.entry_place.ensures)
 
 same-length-2 : tie.Need-shape_of-image-else-q-per-eq0
 same-length-2 c = search rules
