@@ -16,25 +16,25 @@ equal-requires c κs = search rules
 newest-told : (c : tie.After-equal) → let a = c.before.before.before.args in c.equal.result ≡ equal a.first.newest a.second.newest
 newest-told c =
     let a = c.before.before.before.args in
-    let f : SFits w16 a.first.newest = record { sfits = c.before.before.struct_told.given.0.1 } in
-    let g : SFits w16 a.second.newest = record { sfits = c.before.struct-told2.given.0.1 } in
+    let f : SFits w16 a.first.newest = record { sfits = c.before.before.struct_told-1.given.0.1 } in
+    let g : SFits w16 a.second.newest = record { sfits = c.before.struct_told-2-1.given.0.1 } in
     rw (to_z-of_z f, to_z-of_z g) at c.equal.ensures
 
-older-told : (c : tie.After-equal2) → let a = c.before.before.before.before.before.before.before.args in c.equal2.result ≡ equal a.first.older a.second.older
+older-told : (c : tie.After-equal-2) → let a = c.before.before.before.before.before.before.before.args in c.equal-2.result ≡ equal a.first.older a.second.older
 older-told c =
     let a = c.before.before.before.before.before.before.before.args in
-    let f : SFits w16 a.first.older = record { sfits = c.before.before.struct-told3.given.1.0.1 } in
-    let g : SFits w16 a.second.older = record { sfits = c.before.struct-told4.given.1.0.1 } in
-    rw (to_z-of_z f, to_z-of_z g) at c.equal2.ensures
+    let f : SFits w16 a.first.older = record { sfits = c.before.before.struct_told-3-1.given.1.0.1 } in
+    let g : SFits w16 a.second.older = record { sfits = c.before.struct_told-4-1.given.1.0.1 } in
+    rw (to_z-of_z f, to_z-of_z g) at c.equal-2.ensures
 
-returns : tie.Need-returns
-returns c = rw (sym (newest-told c.before) ∙ not-true _ c.if1.true)
+returns : tie.Need-returns-then-not-equal
+returns c = rw (sym (newest-told c.before) ∙ not-true _ c.if-not-equal.true-raw)
 
 equal-requires-2 : tie.Need-equal-requires-2
 equal-requires-2 c κs = search rules
 
-returns-2 : tie.Need-returns-2
-returns-2 c = rw (sym (newest-told c.before.before.before.before) ∙ not-false _ c.before.before.before.if1.false) (older-told c)
+returns-2 : tie.Need-returns
+returns-2 c = rw (sym (newest-told c.before.before.before.before) ∙ not-false _ c.before.before.before.if-not-equal.false-raw) (older-told c)
 
-pub equal-history-spec : {M : Type 1} → statement M
-equal-history-spec = tie.close (tie.spec equal-requires returns equal-requires-2 returns-2)
+pub equal_history_spec : {M : Type 1} → statement M
+equal_history_spec = tie.close (tie.spec equal-requires returns equal-requires-2 returns-2)

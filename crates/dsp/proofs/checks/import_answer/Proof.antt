@@ -12,44 +12,44 @@ use Rattle.dsp.proofs.checks.import_answer.Statement.{statement}
 use Rattle.dsp.proofs.checks.import_answer.Tie as tie
 
 -- the file fits
-fits : (c : tie.After-enum-told) → let a = c.before.before.before.before.args in FileFits a.file.now a.size
-fits c = file-fits _ _ (sym c.before.before.file-answer.ensures ∙ ap outcome c.enum_told.given.1)
+fits : (c : tie.In-Accepted) → let a = c.before.before.before.args in FileFits a.file.now a.size
+fits c = file-fits _ _ (sym c.before.file_answer-answer.ensures ∙ ap outcome c.in-Accepted.is)
 
 -- the bytes of its image
-sized : (c : tie.After-image-bytes) → let a = c.before.before.before.before.before.before.args in c.image-bytes.result ≡ imported_bytes a.file.now a.size
-sized c = c.image-bytes.ensures ∙ ap (λ (g : Start). image_size (start_shape g)) c.before.clip-of.ensures
+sized : (c : tie.After-image_bytes) → let a = c.before.before.before.before.before.args in c.image_bytes.result ≡ imported_bytes a.file.now a.size
+sized c = c.image_bytes.ensures ∙ ap (λ (g : Start). image_size (start_shape g)) c.before.clip_of.ensures
 
-file-answer-requires : tie.Need-file-answer-requires
+file-answer-requires : tie.Need-file_answer-answer-requires
 file-answer-requires c κs = search rules
 
-enum_told : tie.Need-enum-told
+enum_told : tie.Need-enum_told-1
 enum_told c = search rules
 
-clip-of-requires : tie.Need-clip-of-requires
+clip-of-requires : tie.Need-clip_of-requires
 clip-of-requires c κs = (fits c).long
 
-image-bytes-requires : tie.Need-image-bytes-requires
-image-bytes-requires c κs = rw c.clip-of.ensures (clip-limits _ _ (fits c.before))
+image-bytes-requires : tie.Need-image_bytes-requires
+image-bytes-requires c κs = rw c.clip_of.ensures (clip-limits _ _ (fits c.before))
 
-returns : tie.Need-returns
+returns : tie.Need-returns-then-room-image_bytes
 unfolding import_answer
 returns c = let t = c.before.before.before in
-    simp (← t.before.before.file-answer.ensures, t.enum_told.given.1, ← sized c.before, lt-ltb _ _ c.if1.true)
+    simp (← t.before.file_answer-answer.ensures, t.in-Accepted.is, ← sized c.before, lt-ltb _ _ c.if-room-image_bytes.true)
 
-enum-known-answer : tie.Need-enum-known-answer
+enum-known-answer : tie.Need-enum_known-answer
 enum-known-answer c = search rules
 
-returns-2 : tie.Need-returns-2
+returns-2 : tie.Need-returns-else-room-image_bytes
 unfolding import_answer
 returns-2 c = let t = c.before.before.before in
-    simp (← t.before.before.file-answer.ensures, t.enum_told.given.1, ← sized c.before, le-ltb _ _ c.if1.false)
+    simp (← t.before.file_answer-answer.ensures, t.in-Accepted.is, ← sized c.before, le-ltb _ _ c.if-room-image_bytes.false)
 
-returns-3 : tie.Need-returns-3
+returns-3 : tie.Need-returns-in-Refused
 unfolding import_answer
-returns-3 c = simp (← c.before.before.before.file-answer.ensures, c.before.answer.given.1)
+returns-3 c = simp (← c.before.file_answer-answer.ensures, c.in-Refused.is)
 
-pub import-answer-spec : {M : Type 1} → statement M
-import-answer-spec =
+pub import_answer_spec : {M : Type 1} → statement M
+import_answer_spec =
     tie.close
     (tie.spec
     file-answer-requires

@@ -8,40 +8,40 @@ use Rattle.dsp.specs.Import.{needed}
 use Rattle.dsp.proofs.checks.needed.Statement.{statement}
 use Rattle.dsp.proofs.checks.needed.Tie as tie
 
-returns : tie.Need-returns
+returns : tie.Need-returns-then-total-eq0
 unfolding needed
-returns c = simp (eq-eqb _ _ c.if1.true)
+returns c = simp (eq-eqb _ _ c.if-total-eq0.true)
 
-add-before : tie.Need-overflow-add-before
+add-before : tie.Need-overflow_add-before
 add-before c = search rules
 
-sub-before : tie.Need-overflow-sub-before
+sub-before : tie.Need-overflow_sub-before
 sub-before c = search rules
 
-mul-result : tie.Need-overflow-mul-result
+mul-result : tie.Need-overflow_mul-result
 mul-result c = search rules
 
-add-result : tie.Need-overflow-add-result
+add-result : tie.Need-overflow_add-result
 add-result c = search rules
 
-mul-result-2 : tie.Need-overflow-mul-result-2
+mul-result-2 : tie.Need-overflow_mul-result-2
 mul-result-2 c = search rules
 
-sub-result : tie.Need-overflow-sub-result
+sub-result : tie.Need-overflow_sub-result
 sub-result c = search rules
 
-add-result-2 : tie.Need-overflow-add-result-2
+add-result-2 : tie.Need-overflow_add-result-2
 add-result-2 c = search rules
 
-add-result-3 : tie.Need-overflow-add-result-3
+add-result-3 : tie.Need-overflow_add-result-3
 add-result-3 c = search rules
 
-returns-2 : tie.Need-returns-2
+returns-2 : tie.Need-returns
 unfolding needed body_bytes last_frame_samples frame_count
-returns-2 c = simp (ne_eqb _ _ c.if1.false) (omega arith)
+returns-2 c = simp (ne_eqb _ _ c.if-total-eq0.false) (omega arith)
 
-pub needed-spec : {M : Type 1} → statement M
-needed-spec =
+pub needed_spec : {M : Type 1} → statement M
+needed_spec =
     tie.close
     (tie.spec
     returns

@@ -12,7 +12,7 @@ use Rattle.dsp.proofs.exporting.put_counts.Tie as tie
 put32-requires : tie.Need-put32-requires
 put32-requires c κs = search rules
 
-nibble-count-requires : tie.Need-nibble-count-requires
+nibble-count-requires : tie.Need-nibble_count-requires
 nibble-count-requires c κs = search rules
 
 put32-requires-2 : tie.Need-put32-requires-2
@@ -21,20 +21,20 @@ put32-requires-2 c κs = search rules
 put32-requires-3 : tie.Need-put32-requires-3
 put32-requires-3 c κs = search rules
 
-same_length : tie.Need-same-length
+same_length : tie.Need-shape_of-out
 same_length c = search rules
 
 returns : tie.Need-returns
 returns c =
     let a = c.before.before.before.before.before.before.before.before.before.before.before.before.before.before.args in
     let first = c.before.before.before.before.before.before.before.before.before.before.before.put32 in
-    let second = c.before.before.before.before.before.before.put322 in
-    let third = c.before.before.put323 in
-    runs3 a.out.now first.new.0 second.new.0 third.new.0 (be32 a.total) (be32 (nibble_count a.total)) (be32 a.rate) 0 4 8
-    first.ensures (second.ensures ∙ ap (λ (v : ℕ). sets first.new.0 4 (be32 v)) c.before.before.before.before.before.before.before.nibble-count.ensures) third.ensures refl refl
+    let second = c.before.before.before.before.before.before.put32-2 in
+    let third = c.before.before.put32-3 in
+    runs3 a.out.now first.new.buf second.new.buf third.new.buf (be32 a.total) (be32 (nibble_count a.total)) (be32 a.rate) 0 4 8
+    first.ensures (second.ensures ∙ ap (λ (v : ℕ). sets first.new.buf 4 (be32 v)) c.before.before.before.before.before.before.before.nibble_count.ensures) third.ensures refl refl
 
-pub put-counts-spec : {M : Type 1} → statement M
-put-counts-spec =
+pub put_counts_spec : {M : Type 1} → statement M
+put_counts_spec =
     tie.close
     (tie.spec
     put32-requires

@@ -9,16 +9,16 @@ use Rattle.dsp.proofs.HeaderRuns.{header-put, looping}
 use Rattle.dsp.proofs.exporting.put_header.Statement.{statement}
 use Rattle.dsp.proofs.exporting.put_header.Tie as tie
 
-read-loop-requires : tie.Need-read-loop-requires
+read-loop-requires : tie.Need-read_loop-looped-requires
 read-loop-requires c κs = search rules
 
-loop-context-requires : tie.Need-loop-context-requires
+loop-context-requires : tie.Need-loop_context-context-requires
 loop-context-requires c κs = search rules
 
-read-context-requires : tie.Need-read-context-requires
+read-context-requires : tie.Need-read_context-first-requires
 read-context-requires c κs = let o = c.before.before.before.before.requires.0 in found-entry _ 0 (block-there _ o 0 (blocks-some _ o))
 
-read-coefficients-requires : tie.Need-read-coefficients-requires
+read-coefficients-requires : tie.Need-read_coefficients-coefficients-requires
 read-coefficients-requires c κs = search rules
 
 get32-requires : tie.Need-get32-requires
@@ -32,11 +32,11 @@ total : (c : tie.After-get32) → c.get32.result ≡ total_in c.before.before.be
 unfolding total_in
 total c = c.get32.ensures
 
-rate : (c : tie.After-get322) → c.get322.result ≡ rate_in c.before.before.before.before.before.before.before.before.before.args.image.now
+rate : (c : tie.After-get32-2) → c.get32-2.result ≡ rate_in c.before.before.before.before.before.before.before.before.before.args.image.now
 unfolding rate_in
-rate c = c.get322.ensures
+rate c = c.get32-2.ensures
 
-put-counts-requires : tie.Need-put-counts-requires
+put-counts-requires : tie.Need-put_counts-requires
 put-counts-requires c κs =
     let s = c.before.before.before.before.before.before.before.before.before in
     let m = s.requires.0.head.limits in
@@ -45,48 +45,48 @@ put-counts-requires c κs =
     let t = total c.before in
     (omega (arith, a, t), omega (arith, b, t), s.requires.1)
 
-word-at-requires : tie.Need-word-at-requires
+word-at-requires : tie.Need-word_at-requires
 word-at-requires c κs = search rules
 
 -- the number of loops was read, and the gain
-loops : (c : tie.After-word-at) → c.word_at.result ≡ loops_in c.before.before.before.before.before.before.before.before.before.before.before.before.before.before.args.image.now
+loops : (c : tie.After-word_at) → c.word_at.result ≡ loops_in c.before.before.before.before.before.before.before.before.before.before.before.before.before.before.args.image.now
 unfolding loops_in
 loops c = c.word_at.ensures
 
-gain : (c : tie.After-word-at2) → c.word-at2.result ≡ gain_in c.before.before.before.before.before.before.before.before.before.before.before.before.before.before.before.before.before.before.before.before.before.before.before.args.image.now
+gain : (c : tie.After-word_at-2) → c.word_at-2.result ≡ gain_in c.before.before.before.before.before.before.before.before.before.before.before.before.before.before.before.before.before.before.before.before.before.before.before.args.image.now
 unfolding gain_in
-gain c = c.word-at2.ensures
+gain c = c.word_at-2.ensures
 
-put-looped-requires : tie.Need-put-looped-requires
+put-looped-requires : tie.Need-put_looped-requires
 put-looped-requires c κs =
     let s = c.before.before.before.before.before.before.before.before.before.before.before.before.before.before in
-    (rw c.before.before.before.before.before.before.before.before.before.before.before.read-loop.ensures (looping _ s.requires.0), omega (arith, s.requires.1, c.before.before.before.before.put-counts.auto.0))
+    (rw c.before.before.before.before.before.before.before.before.before.before.before.read_loop-looped.ensures (looping _ s.requires.0), omega (arith, s.requires.1, c.before.before.before.before.put_counts.auto.out))
 
-put-coefficients-requires : tie.Need-put-coefficients-requires
+put-coefficients-requires : tie.Need-put_coefficients-requires
 put-coefficients-requires c κs = search rules
 
-word-at-requires-2 : tie.Need-word-at-requires-2
+word-at-requires-2 : tie.Need-word_at-requires-2
 word-at-requires-2 c κs = let h = c.before.before.before.before.before.before.before.before.before.before.before.before.before.before.before.before.before.before.before.before.before.before.requires.0.head.long in omega (arith, h)
 
-put-contexts-requires : tie.Need-put-contexts-requires
-put-contexts-requires c κs = omega (arith, c.before.before.before.before.before.before.before.before.before.before.before.before.before.before.before.before.before.before.before.before.before.before.before.requires.1, c.before.before.before.before.before.before.before.before.before.before.before.before.before.put-counts.auto.0, c.before.before.before.before.before.before.before.before.put-looped.auto.0, c.before.before.before.before.put-coefficients.auto.0)
+put-contexts-requires : tie.Need-put_contexts-requires
+put-contexts-requires c κs = omega (arith, c.before.before.before.before.before.before.before.before.before.before.before.before.before.before.before.before.before.before.before.before.before.before.before.requires.1, c.before.before.before.before.before.before.before.before.before.before.before.before.before.put_counts.auto.out, c.before.before.before.before.before.before.before.before.put_looped.auto.out, c.before.before.before.before.put_coefficients.auto.image)
 
-same_length : tie.Need-same-length
+same_length : tie.Need-shape_of-out
 same_length c = search rules
 
 returns : tie.Need-returns
 returns c =
     let a = c.before.before.before.before.before.before.before.before.before.before.before.before.before.before.before.before.before.before.before.before.before.before.before.before.before.before.args in
-    let counts = c.before.before.before.before.before.before.before.before.before.before.before.before.before.before.before.before.put-counts in
-    let looped = c.before.before.before.before.before.before.before.before.before.before.before.put-looped in
-    let pairs = c.before.before.before.before.before.before.before.put-coefficients in
-    let ends = c.before.before.put-contexts in
-    header-put a.image.now a.out.now counts.new.0 looped.new.0 pairs.new.0 ends.new.0 _ _ _ _ _ _ _ _
-    (total c.before.before.before.before.before.before.before.before.before.before.before.before.before.before.before.before.before.before) (rate c.before.before.before.before.before.before.before.before.before.before.before.before.before.before.before.before.before) (loops c.before.before.before.before.before.before.before.before.before.before.before.before) c.before.before.before.before.before.before.before.before.before.before.before.before.before.before.before.before.before.before.before.before.before.before.before.read-loop.ensures c.before.before.before.before.before.before.before.before.before.before.before.before.before.before.before.before.before.before.before.before.read-coefficients.ensures (gain c.before.before.before)
-    c.before.before.before.before.before.before.before.before.before.before.before.before.before.before.before.before.before.before.before.before.before.read-context.ensures c.before.before.before.before.before.before.before.before.before.before.before.before.before.before.before.before.before.before.before.before.before.before.loop-context.ensures counts.ensures looped.ensures pairs.ensures ends.ensures
+    let counts = c.before.before.before.before.before.before.before.before.before.before.before.before.before.before.before.before.put_counts in
+    let looped = c.before.before.before.before.before.before.before.before.before.before.before.put_looped in
+    let pairs = c.before.before.before.before.before.before.before.put_coefficients in
+    let ends = c.before.before.put_contexts in
+    header-put a.image.now a.out.now counts.new.out looped.new.out pairs.new.image ends.new.out _ _ _ _ _ _ _ _
+    (total c.before.before.before.before.before.before.before.before.before.before.before.before.before.before.before.before.before.before) (rate c.before.before.before.before.before.before.before.before.before.before.before.before.before.before.before.before.before) (loops c.before.before.before.before.before.before.before.before.before.before.before.before) c.before.before.before.before.before.before.before.before.before.before.before.before.before.before.before.before.before.before.before.before.before.before.before.read_loop-looped.ensures c.before.before.before.before.before.before.before.before.before.before.before.before.before.before.before.before.before.before.before.before.read_coefficients-coefficients.ensures (gain c.before.before.before)
+    c.before.before.before.before.before.before.before.before.before.before.before.before.before.before.before.before.before.before.before.before.before.read_context-first.ensures c.before.before.before.before.before.before.before.before.before.before.before.before.before.before.before.before.before.before.before.before.before.before.loop_context-context.ensures counts.ensures looped.ensures pairs.ensures ends.ensures
 
-pub put-header-spec : {M : Type 1} → statement M
-put-header-spec =
+pub put_header_spec : {M : Type 1} → statement M
+put_header_spec =
     tie.close
     (tie.spec
     read-loop-requires

@@ -10,13 +10,13 @@ use Rattle.dsp.proofs.Contents.{marked-head}
 use Rattle.dsp.proofs.importing.put_marked.Statement.{statement}
 use Rattle.dsp.proofs.importing.put_marked.Tie as tie
 
-put-head-requires : tie.Need-put-head-requires
+put-head-requires : tie.Need-put_head-requires
 put-head-requires c κs = search rules
 
-put-mark-requires : tie.Need-put-mark-requires
+put-mark-requires : tie.Need-put_mark-requires
 put-mark-requires c κs = search rules
 
-same_length : tie.Need-same-length
+same_length : tie.Need-shape_of-image
 same_length c = search rules
 
 -- a coefficient in each of sixteen places
@@ -26,9 +26,9 @@ sixteen c = search rules
 returns : tie.Need-returns
 returns c =
     let s = c.before.before.before.before.before.before.before.before.before in
-    c.before.before.put-mark.ensures
-    ∙ ap (λ (m : List ℕ). sets m 0 mark) c.before.before.before.before.before.before.put-head.ensures
+    c.before.before.put_mark.ensures
+    ∙ ap (λ (m : List ℕ). sets m 0 mark) c.before.before.before.before.before.before.put_head.ensures
     ∙ marked-head s.args.image.now s.args.g (sixteen s) s.requires.0
 
-pub put-marked-spec : {M : Type 1} → statement M
-put-marked-spec = tie.close (tie.spec put-head-requires put-mark-requires same_length returns)
+pub put_marked_spec : {M : Type 1} → statement M
+put_marked_spec = tie.close (tie.spec put-head-requires put-mark-requires same_length returns)
