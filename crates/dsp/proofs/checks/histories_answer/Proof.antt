@@ -100,34 +100,34 @@ equal-history-requires : tie.Need-equal_history-requires invariant-loop decrease
 equal-history-requires c κs = search rules
 
 -- whether the next block's history is what this one leaves
-goes : (c : tie.After-equal_history invariant-loop decreases-loop) → c.equal_history.result ≡ goes_on c.before.before.before.before.before.before.before.before.before.before.before.before.before.args.image.now c.before.before.before.before.before.before.before.before.before.before.loop-j.j
+goes : (c : tie.After-equal_history invariant-loop decreases-loop) → c.equal_history.result ≡ goes_on c.before.before.before.before.before.before.before.before.before.before.before.before.before.before.before.args.image.now c.before.before.before.before.before.before.before.before.before.before.before.before.loop-j.j
 unfolding goes_on
 goes c =
-    let l = c.before.before.before.before.before.before.before.before.before.before.before.before.before.args.image.now in
+    let l = c.before.before.before.before.before.before.before.before.before.before.before.before.before.before.before.args.image.now in
     c.equal_history.ensures
-    ∙ ap₂ (λ (x y : FrameContext). equal_history x.last_samples y.last_samples) (after c.before.before) (c.before.read_context-next.ensures ∙ ap (context_in l) (add-one c.before.before.before.before.before.before.before.before.before.before.loop-j.j))
+    ∙ ap₂ (λ (x y : FrameContext). equal_history x.last_samples y.last_samples) (after c.before.before.before.before) (c.before.before.before.read_context-next.ensures ∙ ap (context_in l) (add-one c.before.before.before.before.before.before.before.before.before.before.before.before.loop-j.j))
 
-add-t16 : tie.Need-overflow-add-t16 invariant-loop decreases-loop
-add-t16 c = omega (arith, small c.before.before.before.before.before.before.before.before.before.before)
+add-t16 : tie.Need-overflow_add-result invariant-loop decreases-loop
+add-t16 c = omega (arith, small c.before.before.before.before.before.before.before.before.before.before.before.before)
 
-cast-t17 : tie.Need-overflow-cast-t17 invariant-loop decreases-loop
-cast-t17 c = record { fits = omega (arith, small c.before.before.before.before.before.before.before.before.before.before) }
+cast-t17 : tie.Need-overflow_cast-result invariant-loop decreases-loop
+cast-t17 c = record { fits = omega (arith, small c.before.before.before.before.before.before.before.before.before.before.before.before) }
 
 returns : tie.Need-returns-then-not-equal_history invariant-loop decreases-loop
 returns c =
-    let l = c.before.before.before.before.before.before.before.before.before.before.before in
-    sym (sym (all l) ∙ l.loop-j.invariant.1 ∙ history-wrong c.before.before.before.before.before.before.before.before.before.before.before.before.before.before.args.image.now (l.before.get32.result - 1) l.loop-j.j c.before.before.before.before.before.before.before.before.before.before.loop-j-test.true (sym (goes c.before) ∙ not-true _ c.if-not-equal_history.true-raw))
+    let l = c.before.before.before.before.before.before.before.before.before.before.before.before.before in
+    sym (sym (all l) ∙ l.loop-j.invariant.1 ∙ history-wrong c.before.before.before.before.before.before.before.before.before.before.before.before.before.before.before.before.args.image.now (l.before.get32.result - 1) l.loop-j.j c.before.before.before.before.before.before.before.before.before.before.before.before.loop-j-test.true (sym (goes c.before) ∙ not-true _ c.if-not-equal_history.true-raw))
 
 add-j : tie.Need-overflow_add-j-in-loop-j invariant-loop decreases-loop
-add-j c = omega (arith, small c.before.before.before.before.before.before.before.before.before.before)
+add-j c = omega (arith, small c.before.before.before.before.before.before.before.before.before.before.before.before)
 
 loop-less : tie.Need-loop-j-smaller invariant-loop decreases-loop
 loop-less c = omega arith
 
 loop-again : tie.Need-loop-j-preserved invariant-loop decreases-loop
 loop-again c =
-    let l = c.before.before.before.before.before.before.before.before.before.before.before in
-    (omega arith, l.loop-j.invariant.1 ∙ history-right c.before.before.before.before.before.before.before.before.before.before.before.before.before.before.args.image.now (l.before.get32.result - 1) l.loop-j.j c.before.before.before.before.before.before.before.before.before.before.loop-j-test.true (sym (goes c.before) ∙ not-false _ c.if-not-equal_history.false-raw))
+    let l = c.before.before.before.before.before.before.before.before.before.before.before.before.before in
+    (omega arith, l.loop-j.invariant.1 ∙ history-right c.before.before.before.before.before.before.before.before.before.before.before.before.before.before.before.before.args.image.now (l.before.get32.result - 1) l.loop-j.j c.before.before.before.before.before.before.before.before.before.before.before.before.loop-j-test.true (sym (goes c.before) ∙ not-false _ c.if-not-equal_history.false-raw))
 
 returns-2 : tie.Need-returns invariant-loop decreases-loop
 returns-2 c =
