@@ -18,7 +18,7 @@ use importing::put_image;
 use layout::fields::get32;
 
 // Why a call is refused; one of them names the block that another history stands before, and an image's may name the block whose entry is bad.
-#[derive(Drop)]
+#[derive(Clone, Copy)]
 pub enum Refusal {
     BadSampleCount,
     RateZero,

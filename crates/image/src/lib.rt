@@ -34,7 +34,7 @@ use playing::{play_found, play_opened, refused_playback};
 use running::play_part;
 
 // Why a call is refused; three of them name the block whose entry is bad.
-#[derive(Drop)]
+#[derive(Clone, Copy)]
 pub enum Refusal {
     LowestPair,
     OutputTooShort,
@@ -47,7 +47,7 @@ pub enum Refusal {
     BadLoop,
 }
 
-#[derive(Drop)]
+#[derive(Clone, Copy)]
 pub enum Answer {
     Accepted,
     Refused(Refusal),

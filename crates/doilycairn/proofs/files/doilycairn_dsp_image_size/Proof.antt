@@ -5,15 +5,15 @@ use Rattle.doilycairn.specs.Files.{written_answer}
 use Rattle.doilycairn.proofs.files.doilycairn_dsp_image_size.Statement.{statement}
 use Rattle.doilycairn.proofs.files.doilycairn_dsp_image_size.Tie as tie
 
-room-for-requires : tie.Need-room-for-requires
+room-for-requires : tie.Need-room_for-requires
 room-for-requires c κs = search rules
 
-written-answer-requires : tie.Need-written-answer-requires
+written-answer-requires : tie.Need-written_answer-requires
 written-answer-requires c κs = search rules
 
 returns : tie.Need-returns
-returns c = c.written-answer.ensures ∙ ap written_answer c.before.room_for.ensures
+returns c = c.written_answer.ensures ∙ ap written_answer c.before.room_for.ensures
 
-pub doilycairn-dsp-image-size-spec : {M : Type 1} → statement M
-doilycairn-dsp-image-size-spec =
+pub doilycairn_dsp_image_size_spec : {M : Type 1} → statement M
+doilycairn_dsp_image_size_spec =
     tie.close (tie.spec room-for-requires written-answer-requires returns)

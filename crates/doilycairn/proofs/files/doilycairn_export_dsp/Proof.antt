@@ -7,15 +7,15 @@ use Rattle.doilycairn.proofs.files.doilycairn_export_dsp.Tie as tie
 export-requires : tie.Need-export-requires
 export-requires c κs = search rules
 
-written-answer-requires : tie.Need-written-answer-requires
+written-answer-requires : tie.Need-written_answer-requires
 written-answer-requires c κs = search rules
 
-same_length : tie.Need-same-length
+same_length : tie.Need-shape_of-out
 same_length c = search rules
 
 returns : tie.Need-returns
-returns c = written-seen _ _ c.written-answer.ensures c.before.before.before.export.ensures
+returns c = written-seen _ _ c.written_answer.ensures c.before.before.before.export.ensures
 
-pub doilycairn-export-dsp-spec : {M : Type 1} → statement M
-doilycairn-export-dsp-spec =
+pub doilycairn_export_dsp_spec : {M : Type 1} → statement M
+doilycairn_export_dsp_spec =
     tie.close (tie.spec export-requires written-answer-requires same_length returns)

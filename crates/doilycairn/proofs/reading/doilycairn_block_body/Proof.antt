@@ -7,36 +7,36 @@ use borrow.Author.Rules.{rules}
 use Rattle.doilycairn.proofs.reading.doilycairn_block_body.Statement.{statement}
 use Rattle.doilycairn.proofs.reading.doilycairn_block_body.Tie as tie
 
-find-requires : tie.Need-block-answer-requires
+find-requires : tie.Need-block_answer-answer-requires
 find-requires c κs = search rules
 
-enum_told : tie.Need-enum-told
+enum_told : tie.Need-enum_told-1
 enum_told c = search rules
 
-body-at-requires : tie.Need-body-at-requires
-body-at-requires c κs = block-accepted _ _ (sym c.before.before.block-answer.ensures ∙ ap outcome c.enum_told.given.1)
+body-at-requires : tie.Need-body_at-requires
+body-at-requires c κs = block-accepted _ _ (sym c.before.block_answer-answer.ensures ∙ ap outcome c.in-Accepted.is)
 
-enum-known-answer : tie.Need-enum-known-answer
+enum-known-answer : tie.Need-enum_known-answer
 enum-known-answer c = search rules
 
-new-requires : tie.Need-new-requires
+new-requires : tie.Need-new-context-requires
 new-requires c κs = search rules
 
 code-requires : tie.Need-code-requires
 code-requires c κs = search rules
 
-bad-block-requires : tie.Need-bad-block-requires
+bad-block-requires : tie.Need-bad_block-requires
 bad-block-requires c κs = search rules
 
-returns : tie.Need-returns
-returns c = body-found _ _ c.body_at.ensures (sym c.before.before.before.block-answer.ensures ∙ ap outcome c.before.enum_told.given.1)
+returns : tie.Need-returns-in-Accepted
+returns c = body-found _ _ c.body_at.ensures (sym c.before.before.block_answer-answer.ensures ∙ ap outcome c.before.in-Accepted.is)
 
-returns-2 : tie.Need-returns-2
-returns-2 c = body_refused _ _ _ _ c.before.code.ensures c.bad-block.ensures c.before.before.new.ensures (sym c.before.before.before.before.before.before.block-answer.ensures
-    ∙ ap outcome c.before.before.before.before.answer.given.1)
+returns-2 : tie.Need-returns-in-Refused
+returns-2 c = body_refused _ _ _ _ c.before.code.ensures c.bad_block.ensures c.before.before.new-context.ensures (sym c.before.before.before.before.block_answer-answer.ensures
+    ∙ ap outcome c.before.before.before.in-Refused.is)
 
-pub doilycairn-block-body-spec : {M : Type 1} → statement M
-doilycairn-block-body-spec =
+pub doilycairn_block_body_spec : {M : Type 1} → statement M
+doilycairn_block_body_spec =
     tie.close
     (tie.spec
     find-requires

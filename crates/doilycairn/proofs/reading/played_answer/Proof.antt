@@ -3,24 +3,24 @@ use borrow.Author.Rules.{rules}
 use Rattle.doilycairn.proofs.reading.played_answer.Statement.{statement}
 use Rattle.doilycairn.proofs.reading.played_answer.Tie as tie
 
-enum-known-answer : tie.Need-enum-known-answer
+enum-known-answer : tie.Need-enum_known-answer
 enum-known-answer c = search rules
 
-enum-known-answer-2 : tie.Need-enum-known-answer-2
+enum-known-answer-2 : tie.Need-enum_known-answer-in-Refused-1
 enum-known-answer-2 c = search rules
 
 code-requires : tie.Need-code-requires
 code-requires c κs = search rules
 
-bad-block-requires : tie.Need-bad-block-requires
+bad-block-requires : tie.Need-bad_block-requires
 bad-block-requires c κs = search rules
 
-returns : tie.Need-returns
-returns c = rw c.before.answer.given.1
+returns : tie.Need-returns-in-Played
+returns c = rw c.in-Played.is
 
-returns-2 : tie.Need-returns-2
-returns-2 c = rw (c.before.before.before.answer2.given.1, c.before.code.ensures, c.bad-block.ensures)
+returns-2 : tie.Need-returns-in-Refused
+returns-2 c = rw (c.before.before.in-Refused.is, c.before.code.ensures, c.bad_block.ensures)
 
-pub played-answer-spec : {M : Type 1} → statement M
-played-answer-spec =
+pub played_answer_spec : {M : Type 1} → statement M
+played_answer_spec =
     tie.close (tie.spec enum-known-answer enum-known-answer-2 code-requires bad-block-requires returns returns-2)

@@ -10,54 +10,54 @@ use Rattle.doilycairn.specs.Sizes.{size_with}
 use Rattle.doilycairn.proofs.sizes.size_with.Statement.{statement}
 use Rattle.doilycairn.proofs.sizes.size_with.Tie as tie
 
-returns : tie.Need-returns
+returns : tie.Need-returns-then-total-lt1
 unfolding size_with
-returns c = simp (lt-leb _ _ c.if1.true)
+returns c = simp (lt-leb _ _ c.if-total-lt1.true)
 
-returns-2 : tie.Need-returns-2
+returns-2 : tie.Need-returns-then-total-gt-MOST_SAMPLES
 unfolding size_with
-returns-2 c = simp (le-leb _ _ c.before.if1.false, lt-leb _ _ c.if2.true)
+returns-2 c = simp (le-leb _ _ c.before.if-total-lt1.false, lt-leb _ _ c.if-total-gt-MOST_SAMPLES.true)
 
-returns-3 : tie.Need-returns-3
+returns-3 : tie.Need-returns-then-block_size-lt8
 unfolding size_with
-returns-3 c = simp (le-leb _ _ c.before.before.if1.false, le-leb _ _ c.before.if2.false, lt-leb _ _ c.if3.true)
+returns-3 c = simp (le-leb _ _ c.before.before.if-total-lt1.false, le-leb _ _ c.before.if-total-gt-MOST_SAMPLES.false, lt-leb _ _ c.if-block_size-lt8.true)
 
-returns-4 : tie.Need-returns-4
+returns-4 : tie.Need-returns-then-block_size-gt65536
 unfolding size_with
-returns-4 c = simp (le-leb _ _ c.before.before.before.if1.false, le-leb _ _ c.before.before.if2.false, le-leb _ _ c.before.if3.false, lt-leb _ _ c.if4.true)
+returns-4 c = simp (le-leb _ _ c.before.before.before.if-total-lt1.false, le-leb _ _ c.before.before.if-total-gt-MOST_SAMPLES.false, le-leb _ _ c.before.if-block_size-lt8.false, lt-leb _ _ c.if-block_size-gt65536.true)
 
-cut-down-requires : tie.Need-cut-down-requires
+cut-down-requires : tie.Need-cut_down-requires
 cut-down-requires c κs = search rules
 
-shape-of-requires : tie.Need-shape-of-requires
+shape-of-requires : tie.Need-shape_of-shape-requires
 shape-of-requires c κs = search rules
 
-image-size-requires : tie.Need-image-size-requires
+image-size-requires : tie.Need-image_size-requires
 unfolding Layout.cut_down
 image-size-requires c κs = let e = c.before.cut_down.ensures in
-    rw c.shape_of.ensures (record {
-      some = omega (arith, c.before.before.before.before.before.if1.false);
-      few = omega (arith, c.before.before.before.before.if2.false);
-      wide = omega (arith, c.before.before.before.if3.false, e);
-      narrow = omega (arith, c.before.before.if4.false, e);
+    rw c.shape_of-shape.ensures (record {
+      some = omega (arith, c.before.before.before.before.before.if-total-lt1.false);
+      few = omega (arith, c.before.before.before.before.if-total-gt-MOST_SAMPLES.false);
+      wide = omega (arith, c.before.before.before.if-block_size-lt8.false, e);
+      narrow = omega (arith, c.before.before.if-block_size-gt65536.false, e);
       eights = omega (arith, e);
       further = c.before.before.before.before.before.before.requires;
     })
 
-returns-5 : tie.Need-returns-5
+returns-5 : tie.Need-returns
 unfolding size_with
 returns-5 c = let a = c.before.before.before.before.before.before.before.args in
-    let s = c.image-size.ensures ∙ ap Layout.image_size (c.before.shape_of.ensures ∙ ap (λ (b : ℕ). Layout.shape a.total b a.extra) c.before.before.cut_down.ensures) in
+    let s = c.image_size.ensures ∙ ap Layout.image_size (c.before.shape_of-shape.ensures ∙ ap (λ (b : ℕ). Layout.shape a.total b a.extra) c.before.before.cut_down.ensures) in
     simp (
-      le-leb _ _ c.before.before.before.before.before.before.if1.false,
-      le-leb _ _ c.before.before.before.before.before.if2.false,
-      le-leb _ _ c.before.before.before.before.if3.false,
-      le-leb _ _ c.before.before.before.if4.false,
+      le-leb _ _ c.before.before.before.before.before.before.if-total-lt1.false,
+      le-leb _ _ c.before.before.before.before.before.if-total-gt-MOST_SAMPLES.false,
+      le-leb _ _ c.before.before.before.before.if-block_size-lt8.false,
+      le-leb _ _ c.before.before.before.if-block_size-gt65536.false,
       s,
     )
 
-pub size-with-spec : {M : Type 1} → statement M
-size-with-spec =
+pub size_with_spec : {M : Type 1} → statement M
+size_with_spec =
     tie.close
     (tie.spec
     returns

@@ -4,15 +4,15 @@ use borrow.Author.Rules.{rules}
 use Rattle.doilycairn.proofs.writing.doilycairn_encode_frame.Statement.{statement}
 use Rattle.doilycairn.proofs.writing.doilycairn_encode_frame.Tie as tie
 
-encode-one-frame-requires : tie.Need-encode-one-frame-requires
+encode-one-frame-requires : tie.Need-encode_one_frame-done-requires
 encode-one-frame-requires c κs = search rules
 
-frame-code-requires : tie.Need-frame-code-requires
+frame-code-requires : tie.Need-frame_code-requires
 frame-code-requires c κs = search rules
 
 returns : tie.Need-returns
-returns c = let done = c.before.before.before.encode-one-frame in frame-seen done.result c.frame-code.ensures done.ensures
+returns c = let done = c.before.before.before.encode_one_frame-done in frame-seen done.result c.frame_code.ensures done.ensures
 
-pub doilycairn-encode-frame-spec : {M : Type 1} → statement M
-doilycairn-encode-frame-spec =
+pub doilycairn_encode_frame_spec : {M : Type 1} → statement M
+doilycairn_encode_frame_spec =
     tie.close (tie.spec encode-one-frame-requires frame-code-requires returns)
