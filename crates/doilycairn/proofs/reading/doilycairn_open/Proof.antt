@@ -14,7 +14,7 @@ entry-of-requires : tie.Need-entry_of-requires
 entry-of-requires c κs = search rules
 
 returns : tie.Need-returns
-returns c = open-seen _ _ _ _ c.before.code_of.ensures c.entry_of.ensures c.before.before.before.before.before.«open».ensures
+returns c = open-seen _ _ _ _ c.before.code_of.ensures c.entry_of.ensures c.before.before.before.before.before.open-done.ensures
 
 pub doilycairn_open_spec : {M : Type 1} → statement M
 doilycairn_open_spec = tie.close (tie.spec open-requires code-of-requires entry-of-requires returns)
