@@ -1,5 +1,6 @@
 // Blocks of DSP ADPCM: addresses, contexts, playing bytes, joining.
 #![tactic(auto)]
+
 pub mod coefficients;
 mod frame;
 pub mod join;

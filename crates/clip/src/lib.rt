@@ -1,5 +1,6 @@
 // The clip image: starting, feeding, closing.
 #![tactic(auto)]
+
 ghost use Rattle.std.specs.Prelude.{◌≡◌};
 ghost use Rattle.whole.specs.Outcome.{effect};
 ghost use Rattle.clip.specs.Encoding.{code, outcome, left, start, feed, close};

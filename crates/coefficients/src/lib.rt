@@ -1,5 +1,6 @@
 // Measuring samples and asking for coefficients.
 #![tactic(auto)]
+
 ghost use Rattle.std.specs.Prelude.{◌≡◌};
 ghost use Rattle.whole.specs.Outcome.{effect};
 ghost use Rattle.coefficients.specs.Measure as Measure;

@@ -1,5 +1,6 @@
 // The codec for C and for other languages: every call over numbers, slices and structs by value.
 #![tactic(auto)]
+
 pub mod blocks;
 pub mod files;
 pub mod measuring;

@@ -1,5 +1,6 @@
 // .dsp files: export of an image's clip, import of a file as an image.
 #![tactic(auto)]
+
 ghost use Rattle.std.specs.Prelude.{◌≡◌};
 ghost use Rattle.whole.specs.Outcome.{effect};
 ghost use Rattle.dsp.specs.Answers.{code, bad_block, written};

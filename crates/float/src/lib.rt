@@ -1,5 +1,6 @@
 // The float kit: f64's `mul_add`, `abs`, `max`, `min` and `round`, for every input.
 #![tactic(auto)]
+
 ghost use Rattle.std.specs.Prelude.{◌≡◌};
 ghost use Rattle.std.specs.Float.{binary64};
 ghost use Rattle.float.specs.FusedMultiplyAdd.{fused_multiply_add};

@@ -1,5 +1,6 @@
 // The frame encoder: fourteen samples to eight bytes (section 3 of document 01).
 #![tactic(auto)]
+
 ghost use Rattle.std.specs.Prelude.{◌≡◌, ◌≤◌, nat_abs};
 ghost use Rattle.frame.specs.Choice.{AllBounded};
 ghost use Rattle.frame.specs.Frame.{code, coefficients_ok, encode_frame, encode_one_frame, frame_effect, history_after, pair_ok};

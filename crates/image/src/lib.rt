@@ -1,5 +1,6 @@
 // Reading a clip image: opening, the body of a block, playing a block, the whole, a part or the loop, sameness.
 #![tactic(auto)]
+
 ghost use Rattle.std.specs.Prelude.{◌≡◌};
 ghost use Rattle.block.specs.Frame.{playing};
 ghost use Rattle.image.specs.Opening.{code, bad_block, outcome, told, no_head, open_image};

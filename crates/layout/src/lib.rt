@@ -1,5 +1,6 @@
 // The layout of a clip image: its mark, its limits, its sizes and its fields.
 #![tactic(auto)]
+
 pub mod fields;
 pub mod limits;
 pub mod sizes;
