@@ -8,6 +8,7 @@
 // same and feeds that piece; c closes. s, f and c are answered by a line: 00 or the refusal's number, the state's fields from N on, closed,
 // the loop and its context where one of their numbers is not zero, the digest of the lent buffer, and its bytes where the line asks for them.
 #![tactic(auto)]
+
 mod record;
 mod text;
 
@@ -15,7 +16,8 @@ use clip::starting::Start;
 use clip::{Answer, Encoder, Encoding};
 use layout::Loop;
 use record::{add, coefficients_of, context_of, encoder_of, history_of, loop_of, no_loop};
-use replay::{byte, double_word, least, word};
+use replay::{byte, double_word, least, read_line, word};
+use std::io::{self, BufReader, BufWriter, Read, Write};
 use text::write_line;
 
 // The encoding state, the samples of the piece that is to come, and whether the list goes on.
@@ -28,15 +30,18 @@ struct State {
 
 // A new image buffer.
 fn fill(image: &mut [u8; 4096]) {
-    let mut i: usize = 0;
-    while i < 4096 {
+    for i in 0..4096 {
         image[i] = (i % 251) as u8;
-        i += 1;
     }
 }
 
 // Writes what a call answers and leaves; the next piece is empty.
-fn answered(done: Encoding, image: &[u8], shown: bool) -> State {
+fn answered(
+    writer: &mut impl Write,
+    done: Encoding,
+    image: &[u8],
+    shown: bool,
+) -> io::Result<State> {
     let answer = done.answer;
     let encoder = done.encoder;
     let code = match answer {
@@ -44,12 +49,12 @@ fn answered(done: Encoding, image: &[u8], shown: bool) -> State {
         Answer::Refused(why) => clip::code(why),
     };
     let mut text = [0u8; 8704];
-    let more = write_line(&mut text, code, encoder, image, shown);
-    State {
+    write_line(writer, &mut text, code, encoder, image, shown)?;
+    Ok(State {
         encoder,
         pending: 0,
-        more,
-    }
+        more: true,
+    })
 }
 
 // The loop that the clip of a line is started with: the state's, or none.
@@ -62,7 +67,13 @@ fn given_loop(line: &[u8; 182], encoder: Encoder) -> Loop {
 }
 
 // Starts the clip of a line.
-fn start(line: &[u8; 182], encoder: Encoder, image: &mut [u8], shown: bool) -> State {
+fn start(
+    writer: &mut impl Write,
+    line: &[u8; 182],
+    encoder: Encoder,
+    image: &mut [u8],
+    shown: bool,
+) -> io::Result<State> {
     let looped = given_loop(line, encoder);
     let coefficients = coefficients_of(line);
     let history = history_of(line);
@@ -76,54 +87,68 @@ fn start(line: &[u8; 182], encoder: Encoder, image: &mut [u8], shown: bool) -> S
         looped: looped,
     };
     let done = clip::start(given, image);
-    answered(done, image, shown)
+    answered(writer, done, image, shown)
 }
 
 // Feeds the piece.
-fn feed(encoder: Encoder, piece: &[i16], pending: usize, image: &mut [u8], shown: bool) -> State {
+fn feed(
+    writer: &mut impl Write,
+    encoder: Encoder,
+    piece: &[i16],
+    pending: usize,
+    image: &mut [u8],
+    shown: bool,
+) -> io::Result<State> {
     let n = least(pending, piece.len());
     let done = clip::feed(encoder, &piece[..n], image);
-    answered(done, image, shown)
+    answered(writer, done, image, shown)
 }
 
 // Closes the clip.
-fn close(encoder: Encoder, image: &mut [u8], shown: bool) -> State {
+fn close(
+    writer: &mut impl Write,
+    encoder: Encoder,
+    image: &mut [u8],
+    shown: bool,
+) -> io::Result<State> {
     let done = clip::close(encoder, image);
-    answered(done, image, shown)
+    answered(writer, done, image, shown)
 }
 
 // Makes the call of a letter on the first bytes of the buffer.
 fn call(
+    writer: &mut impl Write,
     letter: u8,
     line: &[u8; 182],
     encoder: Encoder,
     piece: &[i16],
     pending: usize,
     image: &mut [u8],
-) -> State {
+) -> io::Result<State> {
     let room = least(word(line, 1) as usize, image.len());
     let shown = byte(line, 5) != 0;
     if letter == b's' {
-        return start(line, encoder, &mut image[..room], shown);
+        return start(writer, line, encoder, &mut image[..room], shown);
     }
     if letter == b'f' {
-        return feed(encoder, piece, pending, &mut image[..room], shown);
+        return feed(writer, encoder, piece, pending, &mut image[..room], shown);
     }
-    close(encoder, &mut image[..room], shown)
+    close(writer, encoder, &mut image[..room], shown)
 }
 
 // Replays a line.
 fn turn(
+    writer: &mut impl Write,
     letter: u8,
     line: &[u8; 182],
     state: State,
     piece: &mut [i16; 2048],
     image: &mut [u8; 4096],
-) -> State {
+) -> io::Result<State> {
     let mut encoder = state.encoder;
     let mut pending = state.pending;
     if letter == b's' || letter == b'c' {
-        return call(letter, line, encoder, piece, pending, image);
+        return call(writer, letter, line, encoder, piece, pending, image);
     }
     if letter == b'n' {
         fill(image);
@@ -137,33 +162,40 @@ fn turn(
     } else {
         pending = add(line, piece, pending);
         if letter == b'f' {
-            return call(letter, line, encoder, piece, pending, image);
+            return call(writer, letter, line, encoder, piece, pending, image);
         }
     }
-    State {
+    Ok(State {
         encoder,
         pending,
         more: true,
-    }
+    })
 }
 
 // Reads a line and replays it.
-fn replay(state: State, piece: &mut [i16; 2048], image: &mut [u8; 4096]) -> State {
+fn replay(
+    reader: &mut impl Read,
+    writer: &mut impl Write,
+    state: State,
+    piece: &mut [i16; 2048],
+    image: &mut [u8; 4096],
+) -> io::Result<State> {
     let mut line = [0u8; 182];
-    let n = io::read_full(0, &mut line);
-    if n < 182 {
+    if !read_line(reader, &mut line)? {
         let encoder = state.encoder;
-        return State {
+        return Ok(State {
             encoder,
             pending: 0,
             more: false,
-        };
+        });
     }
-    turn(line[0], &line, state, piece, image)
+    turn(writer, line[0], &line, state, piece, image)
 }
 
 // Replays every line of the list.
-fn main() {
+fn main(rt: HostRuntime) -> io::Result<()> {
+    let mut reader = BufReader::new(rt.alloc(), rt.reader())?;
+    let mut writer = BufWriter::new(rt.alloc(), io::writer(&rt))?;
     let mut piece = [0i16; 2048];
     let mut image = [0u8; 4096];
     let nothing = [0u8; 182];
@@ -173,9 +205,11 @@ fn main() {
         pending: 0,
         more: true,
     };
-    let mut turns: u32 = 4_000_000_000;
-    while turns > 0 && state.more {
-        state = replay(state, &mut piece, &mut image);
-        turns -= 1;
+    for _ in 0..4_000_000_000u32 {
+        if !state.more {
+            break;
+        }
+        state = replay(&mut reader, &mut writer, state, &mut piece, &mut image)?;
     }
+    writer.flush()
 }

@@ -4,6 +4,7 @@ ghost use Rattle.std.specs.Prelude.{◌≤◌, ◌<◌};
 use clip::Encoder;
 use layout::fields::bits16;
 use replay::least;
+use std::io::{self, Write};
 
 // A byte as a number of 64 bits.
 fn wide(x: u8) -> u64
@@ -22,10 +23,8 @@ fn glyph(d: u64) -> u8
 // Bytes as the digits of a number, modulo a prime.
 fn digest(bytes: &[u8]) -> u64 {
     let mut sum: u64 = 0;
-    let mut i: usize = 0;
-    while i < bytes.len() {
-        sum = (sum * 1_000_003 + wide(bytes[i]) + 1) % 1_099_511_627_689;
-        i += 1;
+    for byte in bytes {
+        sum = (sum * 1_000_003 + wide(*byte) + 1) % 1_099_511_627_689;
     }
     sum
 }
@@ -36,14 +35,12 @@ fn put(text: &mut [u8; 8704], at: usize, value: u64, width: usize) -> usize
 {
     let start = least(at, 8688);
     let mut rest = value;
-    let mut i = least(width, 16);
-    let end = start + i;
-    while i > 0 {
-        i -= 1;
+    let n = least(width, 16);
+    for i in (0..n).rev() {
         text[start + i] = glyph(rest % 16);
         rest /= 16;
     }
-    end
+    start + n
 }
 
 // Puts one character into the text, and answers where it ends.
@@ -68,10 +65,8 @@ fn put_samples(text: &mut [u8; 8704], at: usize, samples: &[i16]) -> usize
     ensures { result ≤ 8704 }
 {
     let mut end = at;
-    let mut i: usize = 0;
-    while i < samples.len() {
-        end = put(text, end, bits16(samples[i]) as u64, 4);
-        i += 1;
+    for sample in samples {
+        end = put(text, end, bits16(*sample) as u64, 4);
     }
     put_character(text, end, b' ')
 }
@@ -79,10 +74,8 @@ fn put_samples(text: &mut [u8; 8704], at: usize, samples: &[i16]) -> usize
 // Puts bytes.
 fn put_bytes(text: &mut [u8; 8704], at: usize, bytes: &[u8]) -> usize {
     let mut end = at;
-    let mut i: usize = 0;
-    while i < bytes.len() {
-        end = put(text, end, wide(bytes[i]), 2);
-        i += 1;
+    for byte in bytes {
+        end = put(text, end, wide(*byte), 2);
     }
     end
 }
@@ -147,19 +140,20 @@ fn put_encoder(text: &mut [u8; 8704], at: usize, e: Encoder) -> usize
 }
 
 // Writes the first bytes of a text.
-fn write_first(text: &[u8], count: usize) -> bool {
+fn write_first(writer: &mut impl Write, text: &[u8], count: usize) -> io::Result<()> {
     let n = least(count, text.len());
-    io::write_all(1, &text[..n])
+    writer.write_all(&text[..n])
 }
 
 // Writes the line of an answer, with the buffer's bytes where they are asked for.
 pub(crate) fn write_line(
+    writer: &mut impl Write,
     text: &mut [u8; 8704],
     code: u32,
     e: Encoder,
     image: &[u8],
     shown: bool,
-) -> bool {
+) -> io::Result<()> {
     let number = put_field(text, 0, code as u64, 2);
     let state = put_encoder(text, number, e);
     let mut end = put(text, state, digest(image), 10);
@@ -168,5 +162,5 @@ pub(crate) fn write_line(
         end = put_bytes(text, end, image);
     }
     end = put_character(text, end, b'\n');
-    write_first(text, end)
+    write_first(writer, text, end)
 }

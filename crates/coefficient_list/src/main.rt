@@ -4,10 +4,14 @@
 // coefficients. A line of the output is what an asking gives: the number of records, with the one of the frame that is filled up;
 // each record's two patterns, one and the same for every NaN; the sixteen coefficients' patterns. A refusal writes its number.
 #![tactic(auto)]
+
 ghost use Rattle.std.specs.Prelude.{◌≤◌};
 
 use coefficients::{Answer, CoefficientCalculator, Refusal};
-use replay::{add_samples, digit, float_bits, least, print_samples, print_space};
+use replay::{
+    add_samples, digit, float_bits, least, print_hex, print_samples, print_space, read_line,
+};
+use std::io::{self, BufReader, BufWriter, Read, Write};
 
 // The measuring state, the samples of the piece that is to come, and whether the list goes on.
 #[derive(Drop)]
@@ -30,31 +34,34 @@ fn add(line: &[u8; 60], piece: &mut [i16; 1024], pending: usize) -> usize {
 }
 
 // Writes the number of a refusal.
-fn write_refusal(why: Refusal) -> bool {
-    io::write_all(1, b"refused ");
-    io::print_decimal(1, coefficients::code(why) as u64);
-    io::write_all(1, b"\n")
+fn write_refusal(writer: &mut impl Write, why: Refusal) -> io::Result<()> {
+    let number = coefficients::code(why);
+    writeln!(writer, "refused {number}")
 }
 
 // Writes the first records of the store.
-fn write_records(store: &[f64; 128], n: usize) {
+fn write_records(writer: &mut impl Write, store: &[f64; 128], n: usize) -> io::Result<()> {
     let end = least(n, 64);
-    let mut k: usize = 0;
-    while k < end {
-        print_space();
-        io::print_hex(1, float_bits(store[2 * k]), 16);
-        io::print_hex(1, float_bits(store[2 * k + 1]), 16);
-        k += 1;
+    for k in 0..end {
+        print_space(writer)?;
+        print_hex(writer, float_bits(store[2 * k]), 16)?;
+        print_hex(writer, float_bits(store[2 * k + 1]), 16)?;
     }
+    Ok(())
 }
 
 // Writes the line of an answer.
-fn write_answer(store: &[f64; 128], n: usize, coefficients: &[i16; 16]) -> bool {
-    io::print_decimal(1, n as u64);
-    write_records(store, n);
-    print_space();
-    print_samples(coefficients);
-    io::write_all(1, b"\n")
+fn write_answer(
+    writer: &mut impl Write,
+    store: &[f64; 128],
+    n: usize,
+    coefficients: &[i16; 16],
+) -> io::Result<()> {
+    write!(writer, "{n}")?;
+    write_records(writer, store, n)?;
+    print_space(writer)?;
+    print_samples(writer, coefficients)?;
+    writer.write_all(b"\n")
 }
 
 // A number that no record has goes to record r's place.
@@ -85,84 +92,99 @@ fn start() -> State {
 
 // Measures the piece, after which the next one is empty.
 fn measure(
+    writer: &mut impl Write,
     calculator: CoefficientCalculator,
     piece: &[i16],
     pending: usize,
     store: &mut [f64; 128],
-) -> State {
+) -> io::Result<State> {
     let n = least(pending, piece.len());
     let done = calculator.process(&piece[..n], store);
     let answer = done.answer;
     let next = done.calculator;
-    let more = match answer {
-        Answer::Accepted => true,
-        Answer::Refused(why) => write_refusal(why),
-    };
-    State {
+    match answer {
+        Answer::Accepted => {}
+        Answer::Refused(why) => write_refusal(writer, why)?,
+    }
+    Ok(State {
         calculator: next,
         pending: 0,
-        more,
-    }
+        more: true,
+    })
 }
 
 // Asks for the coefficients and writes them.
-fn ask(calculator: CoefficientCalculator, pending: usize, store: &mut [f64; 128]) -> State {
+fn ask(
+    writer: &mut impl Write,
+    calculator: CoefficientCalculator,
+    pending: usize,
+    store: &mut [f64; 128],
+) -> io::Result<State> {
     let r = calculator.records as usize;
     mark(store, r);
     let done = calculator.finish(store);
     let answer = done.answer;
     let coefficients = done.coefficients;
     let next = done.calculator;
-    let more = match answer {
-        Answer::Accepted => write_answer(store, counted(store, r), &coefficients),
-        Answer::Refused(why) => write_refusal(why),
-    };
-    State {
+    match answer {
+        Answer::Accepted => write_answer(writer, store, counted(store, r), &coefficients)?,
+        Answer::Refused(why) => write_refusal(writer, why)?,
+    }
+    Ok(State {
         calculator: next,
         pending,
-        more,
-    }
+        more: true,
+    })
 }
 
 // Replays one line.
-fn replay(state: State, piece: &mut [i16; 1024], store: &mut [f64; 128]) -> State {
+fn replay(
+    reader: &mut impl Read,
+    writer: &mut impl Write,
+    state: State,
+    piece: &mut [i16; 1024],
+    store: &mut [f64; 128],
+) -> io::Result<State> {
     let calculator = state.calculator;
     let pending = state.pending;
     let mut line = [0u8; 60];
-    let n = io::read_full(0, &mut line);
-    if n < 60 {
-        return State {
+    if !read_line(reader, &mut line)? {
+        return Ok(State {
             calculator,
             pending,
             more: false,
-        };
+        });
     }
     let letter = line[0];
     if letter == b'n' {
-        return start();
+        return Ok(start());
     }
     if letter == b'a' {
-        return ask(calculator, pending, store);
+        return ask(writer, calculator, pending, store);
     }
     let length = add(&line, piece, pending);
     if letter == b'm' {
-        return measure(calculator, piece, length, store);
+        return measure(writer, calculator, piece, length, store);
     }
-    State {
+    Ok(State {
         calculator,
         pending: length,
         more: true,
-    }
+    })
 }
 
 // Replays every line of the list.
-fn main() {
+fn main(rt: HostRuntime) -> io::Result<()> {
+    let mut reader = BufReader::new(rt.alloc(), rt.reader())?;
+    let mut writer = BufWriter::new(rt.alloc(), io::writer(&rt))?;
     let mut piece = [0i16; 1024];
     let mut store = [0.0f64; 128];
     let mut state = start();
-    let mut turns: u32 = 4_000_000_000;
-    while turns > 0 && state.more {
-        state = replay(state, &mut piece, &mut store);
-        turns -= 1;
+    for _ in 0..4_000_000_000u32 {
+        if !state.more {
+            break;
+        }
+        state = replay(&mut reader, &mut writer, state, &mut piece, &mut store)?;
     }
+    writer.flush()
 }

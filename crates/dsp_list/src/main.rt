@@ -6,10 +6,12 @@
 // modulo 251. A call is answered by a line: 00 or the refusal's number; the block that it names, or 0; how many bytes; the digest of the
 // lent output, and its bytes where the line asks for them.
 #![tactic(auto)]
+
 mod text;
 
 use dsp::Written;
-use replay::{byte, double_word, least, print_bytes, print_space, word};
+use replay::{byte, double_word, least, print_bytes, print_space, read_line, word};
+use std::io::{self, BufReader, BufWriter, Read, Write};
 use text::{print_digest, print_written};
 
 // Which buffer is the source, and whether the list goes on.
@@ -21,10 +23,8 @@ struct State {
 
 // Fills a buffer.
 fn fill(out: &mut [u8; 1024]) {
-    let mut i: usize = 0;
-    while i < 1024 {
+    for i in 0..1024 {
         out[i] = (i % 251) as u8;
-        i += 1;
     }
 }
 
@@ -40,82 +40,117 @@ fn made(letter: u8, source: &[u8], size: u32, out: &mut [u8]) -> Written {
 }
 
 // Makes a call and writes what it answers and leaves.
-fn call(letter: u8, source: &[u8], size: u32, shown: bool, out: &mut [u8]) -> bool {
+fn call(
+    writer: &mut impl Write,
+    letter: u8,
+    source: &[u8],
+    size: u32,
+    shown: bool,
+    out: &mut [u8],
+) -> io::Result<()> {
     let answer = made(letter, source, size, out);
-    print_written(answer);
-    print_digest(out);
+    print_written(writer, answer)?;
+    print_digest(writer, out)?;
     if shown {
-        print_space();
-        print_bytes(out);
+        print_space(writer)?;
+        print_bytes(writer, out)?;
     }
-    io::write_all(1, b"\n")
+    writer.write_all(b"\n")
 }
 
 // Makes the call of a line on the first bytes of the buffers.
-fn lend(letter: u8, line: &[u8; 32], source: &[u8], out: &mut [u8]) -> bool {
+fn lend(
+    writer: &mut impl Write,
+    letter: u8,
+    line: &[u8; 32],
+    source: &[u8],
+    out: &mut [u8],
+) -> io::Result<()> {
     let n = least(word(line, 1) as usize, source.len());
     let m = least(word(line, 5) as usize, out.len());
     let size = double_word(line, 9);
     let shown = byte(line, 17) != 0;
-    call(letter, &source[..n], size, shown, &mut out[..m])
+    call(writer, letter, &source[..n], size, shown, &mut out[..m])
 }
 
 // Puts the bytes of a line at their place in the source.
 fn put(line: &[u8; 32], source: &mut [u8; 1024]) {
     let start = least(word(line, 1) as usize, 1012);
     let k = least(byte(line, 5) as usize, 12);
-    let mut i: usize = 0;
-    while i < k {
+    for i in 0..k {
         source[start + i] = byte(line, 7 + 2 * i);
-        i += 1;
     }
 }
 
-// Replays a line that puts bytes or is a call, and answers whether the list goes on.
-fn turn(letter: u8, line: &[u8; 32], source: &mut [u8; 1024], out: &mut [u8; 1024]) -> bool {
+// Replays a line that puts bytes or is a call.
+fn turn(
+    writer: &mut impl Write,
+    letter: u8,
+    line: &[u8; 32],
+    source: &mut [u8; 1024],
+    out: &mut [u8; 1024],
+) -> io::Result<()> {
     if letter == b'p' {
         put(line, source);
-        return true;
+        return Ok(());
     }
     fill(out);
-    lend(letter, line, source, out)
+    lend(writer, letter, line, source, out)
 }
 
 // Reads a line and replays it.
-fn replay(swapped: bool, first: &mut [u8; 1024], second: &mut [u8; 1024]) -> State {
+fn replay(
+    reader: &mut impl Read,
+    writer: &mut impl Write,
+    swapped: bool,
+    first: &mut [u8; 1024],
+    second: &mut [u8; 1024],
+) -> io::Result<State> {
     let mut line = [0u8; 32];
-    let n = io::read_full(0, &mut line);
-    if n < 32 {
-        return State {
+    if !read_line(reader, &mut line)? {
+        return Ok(State {
             swapped,
             more: false,
-        };
+        });
     }
     if line[0] == b's' {
-        return State {
+        return Ok(State {
             swapped: !swapped,
             more: true,
-        };
+        });
     }
-    let more = if swapped {
-        turn(line[0], &line, second, first)
+    if swapped {
+        turn(writer, line[0], &line, second, first)?;
     } else {
-        turn(line[0], &line, first, second)
-    };
-    State { swapped, more }
+        turn(writer, line[0], &line, first, second)?;
+    }
+    Ok(State {
+        swapped,
+        more: true,
+    })
 }
 
 // Replays every line of the list.
-fn main() {
+fn main(rt: HostRuntime) -> io::Result<()> {
+    let mut reader = BufReader::new(rt.alloc(), rt.reader())?;
+    let mut writer = BufWriter::new(rt.alloc(), io::writer(&rt))?;
     let mut first = [0u8; 1024];
     let mut second = [0u8; 1024];
     let mut state = State {
         swapped: false,
         more: true,
     };
-    let mut turns: u32 = 4_000_000_000;
-    while turns > 0 && state.more {
-        state = replay(state.swapped, &mut first, &mut second);
-        turns -= 1;
+    for _ in 0..4_000_000_000u32 {
+        if !state.more {
+            break;
+        }
+        state = replay(
+            &mut reader,
+            &mut writer,
+            state.swapped,
+            &mut first,
+            &mut second,
+        )?;
     }
+    writer.flush()
 }

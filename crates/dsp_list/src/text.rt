@@ -2,7 +2,8 @@
 ghost use Rattle.std.specs.Prelude.{◌<◌};
 
 use dsp::{Refusal, Written};
-use replay::print_field;
+use replay::{print_field, print_hex};
+use std::io::{self, Write};
 
 // A byte as a number of 64 bits.
 fn wide(x: u8) -> u64
@@ -14,37 +15,35 @@ fn wide(x: u8) -> u64
 // Bytes as the digits of a number, modulo a prime.
 fn digest(bytes: &[u8]) -> u64 {
     let mut sum: u64 = 0;
-    let mut i: usize = 0;
-    while i < bytes.len() {
-        sum = (sum * 1_000_003 + wide(bytes[i]) + 1) % 1_099_511_627_689;
-        i += 1;
+    for byte in bytes {
+        sum = (sum * 1_000_003 + wide(*byte) + 1) % 1_099_511_627_689;
     }
     sum
 }
 
 // Writes the digest of an output.
-pub(crate) fn print_digest(out: &[u8]) {
-    print_field(digest(out), 10);
+pub(crate) fn print_digest(writer: &mut impl Write, out: &[u8]) -> io::Result<()> {
+    print_field(writer, digest(out), 10)
 }
 
 // Writes that a call is accepted: number 0, and block 0; and how many bytes.
-fn print_done(bytes: u64) {
-    io::print_hex(1, 0, 2);
-    print_field(0, 8);
-    print_field(bytes, 8);
+fn print_done(writer: &mut impl Write, bytes: u64) -> io::Result<()> {
+    print_hex(writer, 0, 2)?;
+    print_field(writer, 0, 8)?;
+    print_field(writer, bytes, 8)
 }
 
 // Writes a refusal's number, the block that it names, and 0 for the bytes.
-fn print_refusal(why: Refusal) {
-    io::print_hex(1, dsp::code(why) as u64, 2);
-    print_field(dsp::bad_block(why) as u64, 8);
-    print_field(0, 8);
+fn print_refusal(writer: &mut impl Write, why: Refusal) -> io::Result<()> {
+    print_hex(writer, dsp::code(why) as u64, 2)?;
+    print_field(writer, dsp::bad_block(why) as u64, 8)?;
+    print_field(writer, 0, 8)
 }
 
 // Writes an answer.
-pub(crate) fn print_written(answer: Written) {
+pub(crate) fn print_written(writer: &mut impl Write, answer: Written) -> io::Result<()> {
     match answer {
-        Written::Done(bytes) => print_done(bytes),
-        Written::Refused(why) => print_refusal(why),
+        Written::Done(bytes) => print_done(writer, bytes),
+        Written::Refused(why) => print_refusal(writer, why),
     }
 }

@@ -2,7 +2,9 @@
 // and three operands, each 16 hexadecimal digits of a pattern, those that the function does not take zero. A line of the
 // output is the answer's pattern, one and the same for every NaN.
 #![tactic(auto)]
-use replay::{float_bits, quad_word};
+
+use replay::{float_bits, print_hex, quad_word, read_line};
+use std::io::{self, BufReader, BufWriter, Read, Write};
 
 // The float of a pattern.
 fn float_of(bits: u64) -> f64 {
@@ -30,23 +32,27 @@ fn answer(letter: u8, a: f64, b: f64, c: f64) -> f64 {
 }
 
 // Replays one line, and answers whether there was one.
-fn replay() -> bool {
+fn replay(reader: &mut impl Read, writer: &mut impl Write) -> io::Result<bool> {
     let mut line = [0u8; 53];
-    let n = io::read_full(0, &mut line);
-    if n < 53 {
-        return false;
+    if !read_line(reader, &mut line)? {
+        return Ok(false);
     }
     let a = float_of(quad_word(&line, 2));
     let b = float_of(quad_word(&line, 19));
     let c = float_of(quad_word(&line, 36));
-    io::print_hex(1, float_bits(answer(line[0], a, b, c)), 16);
-    io::write_all(1, b"\n")
+    print_hex(writer, float_bits(answer(line[0], a, b, c)), 16)?;
+    writer.write_all(b"\n")?;
+    Ok(true)
 }
 
 // Replays every line of the input.
-fn main() {
-    let mut turns: u32 = 1_000_000;
-    while turns > 0 && replay() {
-        turns -= 1;
+fn main(rt: HostRuntime) -> io::Result<()> {
+    let mut reader = BufReader::new(rt.alloc(), rt.reader())?;
+    let mut writer = BufWriter::new(rt.alloc(), io::writer(&rt))?;
+    for _ in 0..1_000_000u32 {
+        if !replay(&mut reader, &mut writer)? {
+            break;
+        }
     }
+    writer.flush()
 }

@@ -2,12 +2,15 @@
 // newest and the older history sample (4 each), fourteen samples and sixteen coefficients (4 each, joined). A line of the output: the
 // eight bytes, the passes (2), the newest and the older history sample after the real samples; or "refused" and document 01's number.
 #![tactic(auto)]
+
 ghost use Rattle.std.specs.Prelude.{◌≤◌};
 ghost use Rattle.frame.specs.Choice.{AllBounded};
 
 use replay::{
-    byte, least, print_bytes, print_field, print_samples, print_space, read_samples, sample,
+    byte, least, print_bytes, print_field, print_samples, print_space, read_line, read_samples,
+    sample,
 };
+use std::io::{self, BufReader, BufWriter, Read, Write};
 
 // The number of real samples.
 fn count(line: &[u8; 135]) -> usize
@@ -31,9 +34,9 @@ fn coefficients_of(line: &[u8; 135]) -> [i16; 16] {
 }
 
 // Writes a space and a sample.
-fn print_sample(x: i16) {
-    print_space();
-    print_samples(&[x]);
+fn print_sample(writer: &mut impl Write, x: i16) -> io::Result<()> {
+    print_space(writer)?;
+    print_samples(writer, &[x])
 }
 
 // The history after m real samples: the one-frame call's where the frame is full.
@@ -52,31 +55,36 @@ fn history_after(
 }
 
 // Encodes one frame and writes its answer.
-fn answer(history: whole::History, samples: [i16; 14], coefficients: [i16; 16], m: usize) -> bool
+fn answer(
+    writer: &mut impl Write,
+    history: whole::History,
+    samples: [i16; 14],
+    coefficients: [i16; 16],
+    m: usize,
+) -> io::Result<()>
     requires { m ≤ 14 }
 {
     if !frame::coefficients_ok(coefficients) {
-        return io::write_all(1, b"refused 7\n");
+        return writer.write_all(b"refused 7\n");
     }
     let one = frame::encode_one_frame(history, samples, coefficients);
     let bytes = one.bytes;
-    print_bytes(&bytes);
-    print_field(one.passes as u64, 2);
+    print_bytes(writer, &bytes)?;
+    print_field(writer, one.passes as u64, 2)?;
     let mut after = one.history;
     if m < 14 {
         after = history_after(history, samples, coefficients, m);
     }
-    print_sample(after.newest);
-    print_sample(after.older);
-    io::write_all(1, b"\n")
+    print_sample(writer, after.newest)?;
+    print_sample(writer, after.older)?;
+    writer.write_all(b"\n")
 }
 
 // Replays one line, and answers whether there was one.
-fn replay() -> bool {
+fn replay(reader: &mut impl Read, writer: &mut impl Write) -> io::Result<bool> {
     let mut line = [0u8; 135];
-    let n = io::read_full(0, &mut line);
-    if n < 135 {
-        return false;
+    if !read_line(reader, &mut line)? {
+        return Ok(false);
     }
     let history = whole::History {
         newest: sample(&line, 3),
@@ -84,13 +92,18 @@ fn replay() -> bool {
     };
     let samples = samples_of(&line);
     let coefficients = coefficients_of(&line);
-    answer(history, samples, coefficients, count(&line))
+    answer(writer, history, samples, coefficients, count(&line))?;
+    Ok(true)
 }
 
 // Replays line after line.
-fn main() {
-    let mut turns: u32 = 1_000_000;
-    while turns > 0 && replay() {
-        turns -= 1;
+fn main(rt: HostRuntime) -> io::Result<()> {
+    let mut reader = BufReader::new(rt.alloc(), rt.reader())?;
+    let mut writer = BufWriter::new(rt.alloc(), io::writer(&rt))?;
+    for _ in 0..1_000_000u32 {
+        if !replay(&mut reader, &mut writer)? {
+            break;
+        }
     }
+    writer.flush()
 }

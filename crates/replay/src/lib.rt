@@ -1,8 +1,11 @@
 // What the replay programs share: numbers in hexadecimal digits of lower case, read from a line and written to the output.
 #![tactic(auto)]
+
 ghost use Rattle.std.specs.Prelude.{◌≡◌, ◌+◌, ◌-◌, ◌*◌, ◌≤◌, ◌<◌, length};
 ghost use Rattle.std.proofs.lemmas.List.Edits.{sets};
 ghost use Rattle.replay.specs.Digits.{digit, byte, word, double_word, quad_word, sample_at, samples_at, least, beginning, ending, float_bits};
+
+use std::io::{self, ErrorKind, Read, Write};
 
 // internal: the smaller of two numbers.
 pub fn least(a: usize, b: usize) -> usize
@@ -103,31 +106,43 @@ fn wide(x: u8) -> u64 {
     x as u64
 }
 
+// internal: reads a line, and answers whether the input has all of it.
+pub fn read_line(reader: &mut impl Read, line: &mut [u8]) -> io::Result<bool> {
+    match reader.read_exact(line) {
+        Ok(()) => Ok(true),
+        Err(error) if error.kind() == ErrorKind::UnexpectedEof => Ok(false),
+        Err(error) => Err(error),
+    }
+}
+
+// Writes a number, of as many digits at least.
+pub fn print_hex(writer: &mut impl Write, value: u64, width: usize) -> io::Result<()> {
+    write!(writer, "{value:0width$x}")
+}
+
 // Writes a space.
-pub fn print_space() {
-    io::write_all(1, b" ");
+pub fn print_space(writer: &mut impl Write) -> io::Result<()> {
+    writer.write_all(b" ")
 }
 
 // Writes a space and a number.
-pub fn print_field(value: u64, width: usize) {
-    print_space();
-    io::print_hex(1, value, width);
+pub fn print_field(writer: &mut impl Write, value: u64, width: usize) -> io::Result<()> {
+    print_space(writer)?;
+    print_hex(writer, value, width)
 }
 
 // Writes samples, of four digits each.
-pub fn print_samples(samples: &[i16]) {
-    let mut i: usize = 0;
-    while i < samples.len() {
-        io::print_hex(1, layout::fields::bits16(samples[i]) as u64, 4);
-        i += 1;
+pub fn print_samples(writer: &mut impl Write, samples: &[i16]) -> io::Result<()> {
+    for sample in samples {
+        print_hex(writer, layout::fields::bits16(*sample) as u64, 4)?;
     }
+    Ok(())
 }
 
 // Writes bytes, of two digits each.
-pub fn print_bytes(bytes: &[u8]) {
-    let mut i: usize = 0;
-    while i < bytes.len() {
-        io::print_hex(1, wide(bytes[i]), 2);
-        i += 1;
+pub fn print_bytes(writer: &mut impl Write, bytes: &[u8]) -> io::Result<()> {
+    for byte in bytes {
+        print_hex(writer, wide(*byte), 2)?;
     }
+    Ok(())
 }
