@@ -7,34 +7,34 @@ use Rattle.replay.proofs.Samples.{samples-put, ends, begins}
 use Rattle.replay.proofs.add_samples.Statement.{statement}
 use Rattle.replay.proofs.add_samples.Tie as tie
 
-least-requires : tie.Need-least-requires
+least-requires : tie.Need-least-start-requires
 least-requires c κs = search rules
 
-sub-least : tie.Need-overflow-sub-least
+sub-least : tie.Need-overflow_sub-piece
 sub-least c = search rules
 
-least-requires-2 : tie.Need-least-requires-2
+least-requires-2 : tie.Need-least-requires
 least-requires-2 c κs = search rules
 
-add-end : tie.Need-overflow-add-end
+add-end : tie.Need-overflow_add-end
 add-end c = search rules
 
-mul-read-samples : tie.Need-overflow-mul-read-samples
+mul-read-samples : tie.Need-offset_bounds-piece-start
 mul-read-samples c = search rules
 
-sub-read-samples : tie.Need-overflow-sub-read-samples
+sub-read-samples : tie.Need-slice_bounds-read_samples-count
 sub-read-samples c = search rules
 
-part-read-samples-start : tie.Need-slice-bounds-read-samples-start
+part-read-samples-start : tie.Need-slice_bounds-read_samples-start
 part-read-samples-start c = search rules
 
-part-read-samples-end : tie.Need-slice-bounds-read-samples-end
+part-read-samples-end : tie.Need-slice_bounds-read_samples-end
 part-read-samples-end c = search rules
 
-read-samples-requires : tie.Need-read-samples-requires
+read-samples-requires : tie.Need-read_samples-requires
 read-samples-requires c κs = search rules
 
-same_length : tie.Need-same-length
+same_length : tie.Need-shape_of-piece
 same_length c = search rules
 
 returns : tie.Need-returns
@@ -43,16 +43,16 @@ returns c =
     let k = r.before.before in
     let j = k.before in
     let a = j.before.before.args in
-    let s = j.least.ensures.2 in
-    let n = k.least2.ensures.2 in
+    let s = j.least-start.ensures.2 in
+    let n = k.least.ensures.2 in
     let m = length a.piece.now in (
       ends m a.pending a.count _ _ s n,
-      samples-put a.piece.now _ a.line.now a.at _ _ (omega arith) r.read-samples.ensures
-          ∙ begins m a.pending a.count _ k.least2.result s a.piece.now a.line.now a.at,
+      samples-put a.piece.now _ a.line.now a.at _ _ (omega arith) r.read_samples.ensures
+          ∙ begins m a.pending a.count _ k.least.result s a.piece.now a.line.now a.at,
     )
 
-pub add-samples-spec : {M : Type 1} → statement M
-add-samples-spec =
+pub add_samples_spec : {M : Type 1} → statement M
+add_samples_spec =
     tie.close
     (tie.spec
     least-requires

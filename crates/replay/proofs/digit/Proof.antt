@@ -6,16 +6,16 @@ use borrow.Author.Tests.{lt-ltb, le-ltb}
 use Rattle.replay.proofs.digit.Statement.{statement}
 use Rattle.replay.proofs.digit.Tie as tie
 
-returns : tie.Need-returns
+returns : tie.Need-returns-then-c-lt58
 unfolding digit
-returns c = (rw (lt-ltb _ 58 c.if1.true), (omega arith, (λ h k. omega arith, λ h k. omega arith)))
+returns c = (rw (lt-ltb _ 58 c.if-c-lt58.true), (omega arith, (λ h k. omega arith, λ h k. omega arith)))
 
-add-result : tie.Need-overflow-add-result
+add-result : tie.Need-overflow_add-result
 add-result c = search rules
 
-returns-2 : tie.Need-returns-2
+returns-2 : tie.Need-returns
 unfolding digit
-returns-2 c = (rw (le-ltb _ 58 c.if1.false), (omega arith, (λ h k. omega arith, λ h k. omega arith)))
+returns-2 c = (rw (le-ltb _ 58 c.if-c-lt58.false), (omega arith, (λ h k. omega arith, λ h k. omega arith)))
 
-pub digit-spec : {M : Type 1} → statement M
-digit-spec = tie.close (tie.spec returns add-result returns-2)
+pub digit_spec : {M : Type 1} → statement M
+digit_spec = tie.close (tie.spec returns add-result returns-2)

@@ -28,14 +28,14 @@ own-pattern nan e = absurd (subst T e tt)
 own-pattern (inf s) e = refl
 own-pattern (fin s m d) e = refl
 
-returns : tie.Need-returns
-returns c = one-pattern _ c.if1.true
+returns : tie.Need-returns-then-x
+returns c = one-pattern _ c.if-x.true
 
-float-to-bits-result : tie.Need-float-to-bits-result
-float-to-bits-result c = no_nan _ c.if1.false
+float-to-bits-result : tie.Need-float_to_bits-result
+float-to-bits-result c = no_nan _ c.if-x.false
 
-returns-2 : tie.Need-returns-2
-returns-2 c = own-pattern _ c.if1.false
+returns-2 : tie.Need-returns
+returns-2 c = own-pattern _ c.if-x.false
 
-pub float-bits-spec : {M : Type 1} → statement M
-float-bits-spec = tie.close (tie.spec returns float-to-bits-result returns-2)
+pub float_bits_spec : {M : Type 1} → statement M
+float_bits_spec = tie.close (tie.spec returns float-to-bits-result returns-2)

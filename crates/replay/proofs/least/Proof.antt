@@ -16,11 +16,11 @@ second : (a b : ℕ) → b ≤ a → b ≡ least a b
 unfolding least
 second a b h = sym (ap (λ (t : Bool). cond t a b) (le-ltb a b h))
 
-returns : tie.Need-returns
+returns : tie.Need-returns-then-a-b
 returns c = (omega arith, omega arith, first _ _ (omega arith))
 
-returns-2 : tie.Need-returns-2
+returns-2 : tie.Need-returns-else-a-b
 returns-2 c = (omega arith, omega arith, second _ _ (omega arith))
 
-pub least-spec : {M : Type 1} → statement M
-least-spec = tie.close (tie.spec returns returns-2)
+pub least_spec : {M : Type 1} → statement M
+least_spec = tie.close (tie.spec returns returns-2)

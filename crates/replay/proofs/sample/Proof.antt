@@ -17,10 +17,10 @@ signed16-requires c κs = search rules
 returns : tie.Need-returns
 returns c =
     let g = c.before.word in
-    let f : Fits w16 g.result = record { fits = g.type-inv } in
+    let f : Fits w16 g.result = record { fits = g.type_inv } in
     ap (λ (y : ℤ). to_z w16 (of_z w16 y)) c.signed16.ensures
     ∙ to_z-of_z w16 (to_z w16 g.result) (to_z-Fits w16 g.result f)
     ∙ ap (to_z w16) g.ensures
 
-pub sample-spec : {M : Type 1} → statement M
-sample-spec = tie.close (tie.spec word-requires signed16-requires returns)
+pub sample_spec : {M : Type 1} → statement M
+sample_spec = tie.close (tie.spec word-requires signed16-requires returns)
