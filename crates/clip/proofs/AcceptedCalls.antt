@@ -1,14 +1,12 @@
 -- What an accepted call tells.
-use mathlib.Core.Path.{◌≡◌, refl}
-use mathlib.Core.Bool.{Bool, true, false, not, cond}
-use mathlib.Core.List.{List}
+use mathlib.Core.Path.{◌≡◌}
+use mathlib.Core.Bool.{true, false}
 use Prim.Native.Nat.{ℕ, ◌-◌, ◌*◌, ◌/◌, ◌≤◌}
 use native.Mathlib.Omega.{arith}
 use borrow.Author.Tests.{leb-true, ltb-false, eqb-false}
 use lib.Dec.{leb, ltb, eqb}
-use lib.IntN.{ℤ}
 use Rattle.frame.specs.Frame.{coefficients_ok}
-use Rattle.whole.specs.Outcome.{accepted, refused}
+use Rattle.whole.specs.Outcome.{accepted}
 use Rattle.whole.proofs.Outcomes.{passed, failed}
 use Rattle.clip.specs.declared.starting.Start.{Start}
 use Rattle.clip.specs.Image.{cut, start_shape}

@@ -10,7 +10,7 @@ use lib.IntN.{ℤ}
 use lib.ListN.{length, set, length-append}
 use Rattle.frame.specs.Frame.{encode_frame, history_after}
 use Rattle.frame.specs.declared.EncodedFrame.{EncodedFrame}
-use Rattle.whole.specs.Outcome.{Outcome, accepted, refused, effect}
+use Rattle.whole.specs.Outcome.{Outcome, accepted, effect}
 use Rattle.clip.specs.declared.Encoder.{Encoder}
 use Rattle.layout.specs.Sizes.{image_size}
 use Rattle.whole.specs.Frames.{most}

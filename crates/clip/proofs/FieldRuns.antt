@@ -1,18 +1,18 @@
 -- Runs of fields, one after the other.
 use mathlib.Core.Path.{◌≡◌, refl, sym, ap, ap₂, ◌∙◌}
 use mathlib.Core.Bool.{Bool, true, false, cond}
-use mathlib.Core.List.{List, [], ◌∷◌, ◌++◌, append_assoc}
-use Prim.Native.Nat.{ℕ, zero, suc, ◌+◌, ◌*◌, ◌≤◌, ◌<◌, ◌^◌}
+use mathlib.Core.List.{List, [], ◌∷◌, ◌++◌}
+use Prim.Native.Nat.{ℕ, ◌+◌, ◌*◌, ◌<◌, ◌^◌}
 use native.Mathlib.Omega.{arith}
 use native.Mathlib.Numerals.{add-one}
 use lib.IntN.{ℤ, pos}
-use lib.ListN.{length, take, get_or, replicate, length-append}
+use lib.ListN.{length, take, get_or, length-append}
 use lib.Seq.{sets, take-suc, length-take-le}
 use lib.Signed.{mag}
 use mir.Facts.{to_z-of_z}
 use mir.Syntax.{w16}
 use mir.Val.{of_z, to_z, SFits}
-use Rattle.whole.proofs.Stores.{sets-append, sets_then}
+use Rattle.whole.proofs.Stores.{sets_then}
 use Rattle.layout.specs.declared.Loop.{Loop}
 use Rattle.block.specs.declared.FrameContext.{FrameContext}
 use Rattle.layout.specs.Fields.{be16, be32, sample16}

@@ -1,5 +1,5 @@
 -- A loop alters no frame, body, context or pass; a clip without one has the image that document 01 gives it.
-use mathlib.Core.Path.{◌≡◌, refl, sym, ap, ap₂, ◌∙◌}
+use mathlib.Core.Path.{◌≡◌, refl, ap, ap₂, ◌∙◌}
 use mathlib.Core.Bool.{Bool, true, false, cond}
 use mathlib.Core.List.{List, [], ◌∷◌, ◌++◌, append_assoc}
 use Prim.Native.Nat.{ℕ, zero, suc, ◌+◌, ◌*◌, ◌/◌}
@@ -14,7 +14,7 @@ use Rattle.layout.specs.declared.Loop.{Loop}
 use Rattle.layout.specs.Fields.{be16, be32, mark, no_mark}
 use Rattle.layout.specs.Sizes.{shape, loop_count, block_count, body_bytes}
 use Rattle.clip.specs.declared.starting.Start.{Start}
-use Rattle.clip.specs.Image.{context_bytes, no_context, coefficient_bytes, table_bytes, head_bytes, loop_bytes, no_loop_bytes}
+use Rattle.clip.specs.Image.{context_bytes, no_context, coefficient_bytes, table_bytes, head_bytes, loop_bytes}
 use Rattle.clip.specs.Loops.{with_loop, LoopApart, image_before}
 use Rattle.clip.specs.Runs.{history_at, encoded_at, bodies, passes_up_to, context_at, loop_context_at, frames_done, loop_entry, image_after}
 

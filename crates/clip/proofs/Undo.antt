@@ -1,6 +1,6 @@
 -- An older encoding state goes on with a later buffer as if nothing had come after it.
 use mathlib.Core.Path.{◌≡◌, refl, sym, ap, ◌∙◌, subst}
-use mathlib.Core.Bool.{Bool, true, false}
+use mathlib.Core.Bool.{Bool, false}
 use mathlib.Core.List.{List, [], ◌∷◌, ◌++◌}
 use Prim.Native.Nat.{ℕ}
 use native.Mathlib.Omega.{arith}
@@ -11,10 +11,10 @@ use lib.Seq.{drop_at}
 use Rattle.clip.specs.Image.{cut, start_shape}
 use Rattle.whole.specs.Outcome.{Outcome, accepted, refused_at}
 use Rattle.clip.specs.declared.Encoder.{Encoder}
-use Rattle.layout.specs.Sizes.{image_size, cut_down}
+use Rattle.layout.specs.Sizes.{image_size}
 use Rattle.clip.specs.Encoding.{encoder_shape, Left, left, valid, feed_answer, feed, close_answer, close, start}
 use Rattle.clip.specs.declared.starting.Start.{Start}
-use Rattle.clip.specs.Runs.{image_after, state_after, left_after, Call, feeds, closes, Plain, plain, plain_answer, plain_after, call_effect, after, passes_up_to, context_at, bodies, encoded_at, history_at}
+use Rattle.clip.specs.Runs.{image_after, state_after, left_after, Call, feeds, closes, plain, plain_after, call_effect, after, passes_up_to, context_at, bodies, encoded_at, history_at}
 use Rattle.clip.specs.Undo.{SameSoFar, Steps, done, call, undone, reached, kept, Equivalent, AsPlain}
 use Rattle.clip.proofs.ByOutcome.{CallEffect, feed_by, close_by}
 use Rattle.whole.proofs.Outcomes.{passed, failed}

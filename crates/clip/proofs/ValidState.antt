@@ -1,15 +1,14 @@
 -- What the state test says of a state that passes it.
 use Rattle.layout.proofs.LimitLaws.{both_true, numbers-sound, loop-few}
-use mathlib.Core.Path.{◌≡◌, refl, sym, subst}
-use mathlib.Core.Bool.{Bool, true, false, not, cond, ◌&&◌}
-use Prim.Native.Nat.{ℕ, ◌*◌, ◌%◌, ◌≤◌}
-use borrow.Author.Tests.{leb-true, eqb-true, eqb-false}
-use lib.Dec.{T, leb, ltb, eqb}
+use mathlib.Core.Path.{◌≡◌}
+use mathlib.Core.Bool.{Bool, true, not, ◌&&◌}
+use Prim.Native.Nat.{ℕ, ◌*◌, ◌≤◌}
+use borrow.Author.Tests.{leb-true}
+use lib.Dec.{ltb}
 use Rattle.frame.specs.Frame.{coefficients_ok}
 use Rattle.clip.specs.declared.Encoder.{Encoder}
-use Rattle.whole.specs.Frames.{most}
 use Rattle.layout.specs.Sizes.{loop_count}
-use Rattle.layout.specs.Limits.{total_ok, block_ok, numbers_ok, loop_ok}
+use Rattle.layout.specs.Limits.{numbers_ok, loop_ok}
 use Rattle.clip.specs.Encoding.{encoder_shape, counts_ok, valid, encoded_frames}
 use Rattle.layout.specs.Limits.{Limits}
 

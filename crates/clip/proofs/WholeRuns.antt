@@ -11,7 +11,7 @@ use lib.ListN.{length, take, drop, get_or, length-append}
 use lib.Seq.{sets-eq, take_at}
 use Rattle.whole.specs.Frames.{frame_at, most, frame_count}
 use Rattle.whole.proofs.Stores.{take-replicate}
-use Rattle.layout.specs.Sizes.{block_count, body_bytes, image_size, cut_down}
+use Rattle.layout.specs.Sizes.{block_count, body_bytes, image_size}
 use Rattle.layout.specs.Fields.{mark, no_mark}
 use Rattle.whole.specs.Outcome.{Outcome, accepted, refused_at, effect}
 use Rattle.clip.specs.Image.{cut, start_shape, head_bytes, context_bytes, no_context, table_bytes, no_loop_bytes, fresh_bytes, coefficient_bytes}

@@ -1,7 +1,6 @@
 -- What a loop does to an image, and what it does not. Definitions only.
 use Rattle.std.specs.Prelude.{Bool, cond, List, ◌∷◌, ◌++◌, ◌≡◌, ℕ, ℤ, take, replicate}
 use Rattle.layout.specs.declared.Loop.{Loop}
-use Rattle.layout.specs.declared.Shape.{Shape}
 use Rattle.layout.specs.Fields.{be16, be32, mark, no_mark}
 use Rattle.layout.specs.Sizes.{shape, block_count, body_bytes}
 use Rattle.clip.specs.declared.starting.Start.{Start}

@@ -1,5 +1,5 @@
 -- Exported for the bounds of the coefficients: finish_record, matrix_filter, merge_finish_record and the last conversion keep within bounds.
-use Rattle.std.proofs.Common.{◌≡◌, ℕ, zero, suc, ◌+◌, ◌-◌, ◌*◌, ◌/◌, ◌%◌, ◌^◌, ◌<◌, ◌≤◌, min, Bool, true, false, cond, ◌&&◌, ◌||◌, T, eqb, ltb, leb, ℤ, pos, negsuc, neg_ℤ, nat_abs, sym, refl, ap, ◌∙◌, subst, inl, inr, true≢false, zero-le, le_trans, le_of_eq, lt_of_le_of_lt, zero-lt-suc, suc-mul, div-lt_iff_lt-mul, eq-or-lt_of_le, mul-pos, lt_of_not-le, zero-mul, mul-one, mul_left_comm, arith, lit<, lit≤, le→leb, ltb→lt, leb→le, pow_pos, ltb-false, le-ltb}
+use Rattle.std.proofs.Common.{◌≡◌, ℕ, zero, suc, ◌+◌, ◌*◌, ◌/◌, ◌%◌, ◌^◌, ◌<◌, ◌≤◌, min, Bool, true, false, cond, ◌&&◌, ◌||◌, T, eqb, ltb, leb, ℤ, pos, negsuc, neg_ℤ, nat_abs, sym, refl, ap, ◌∙◌, subst, inl, inr, true≢false, zero-le, le_trans, le_of_eq, lt_of_le_of_lt, zero-lt-suc, suc-mul, div-lt_iff_lt-mul, eq-or-lt_of_le, mul-pos, lt_of_not-le, zero-mul, mul-one, mul_left_comm, arith, lit<, lit≤, le→leb, ltb→lt, leb→le, pow_pos, ltb-false, le-ltb}
 use native.Mathlib.Nat.{min-le_left}
 use native.Mathlib.Decide.{dec_le}
 use lib.Dec.{eqb_refl}

@@ -3,7 +3,7 @@ use Rattle.std.proofs.Common.{◌≡◌, ◌+◌, ◌/◌, ◌%◌, ◌≤◌, B
 use mathlib.Core.List.{foldl, foldl-append}
 use lib.Ieee.{Float}
 use Rattle.whole.specs.Frames.{frame_count}
-use Rattle.whole.specs.Outcome.{Outcome, accepted, refused, effect}
+use Rattle.whole.specs.Outcome.{Outcome, accepted, effect}
 use Rattle.coefficients.specs.declared.CoefficientCalculator.{CoefficientCalculator}
 use Rattle.coefficients.specs.FrameRecord.{analyse}
 use Rattle.coefficients.specs.Measure.{Measuring, calculator, measuring, framed, push, process_answer, process}

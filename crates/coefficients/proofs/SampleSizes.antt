@@ -1,5 +1,5 @@
 -- Products of samples are small, small whole numbers are floats, and a number that fits is read back from its bits.
-use Rattle.std.proofs.Common.{◌≡◌, ◌*◌, ◌^◌, ◌<◌, ◌≤◌, T, ℤ, pos, negsuc, ◌*ℤ◌, nat_abs, mul-le-mul, arith, le→leb, lt→ltb, to_z-of_z, w16, SFits, to_z, of_z}
+use Rattle.std.proofs.Common.{◌≡◌, ◌^◌, ◌<◌, ◌≤◌, T, ℤ, pos, negsuc, ◌*ℤ◌, nat_abs, mul-le-mul, arith, le→leb, lt→ltb, to_z-of_z, w16, SFits, to_z, of_z}
 use lib.Signed.{mag}
 use lib.Ieee.{binary64, in_float}
 use mir.Syntax.{Width}

@@ -1,5 +1,5 @@
 -- What is worked out once is what the plain definitions work out.
-use Rattle.std.proofs.Common.{◌≡◌, ℕ, zero, suc, ◌+◌, ◌*◌, ◌<◌, ◌≤◌, Bool, true, false, cond, not, eqb, List, length, get_or, set, ℤ, ◌+ℤ◌, sym, refl, ap, ◌∙◌, ap₂, mul-one, add-one, arith, length-set, get_or-set_other, get_or-set_same}
+use Rattle.std.proofs.Common.{◌≡◌, ℕ, zero, suc, ◌+◌, ◌*◌, ◌<◌, ◌≤◌, Bool, true, false, cond, not, eqb, List, length, get_or, set, ◌+ℤ◌, sym, refl, ap, ◌∙◌, ap₂, mul-one, add-one, arith, length-set, get_or-set_other, get_or-set_same}
 use native.Mathlib.Decide.{ℕ_discrete}
 use lib.Arith.{lt_of_le-ne}
 use lib.Ieee.{Float, nan, inf, fin, binary64, unlike, neg, add, of_bits}

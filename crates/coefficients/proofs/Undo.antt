@@ -9,7 +9,7 @@ use Rattle.coefficients.specs.declared.framing.Found.{Found}
 use Rattle.coefficients.specs.declared.merging.Record.{Record}
 use Rattle.coefficients.specs.FrameRecord.{analyse, stored, counted}
 use Rattle.coefficients.specs.Finish.{record_coefficients}
-use Rattle.coefficients.specs.Measure.{FinishEffect, Measuring, calculator, measuring, fresh, padded, padded_store, padded_count, process_answer, process, finish_answer, finish_by}
+use Rattle.coefficients.specs.Measure.{FinishEffect, Measuring, measuring, fresh, padded, padded_store, padded_count, process_answer, process, finish_answer, finish_by}
 use Rattle.coefficients.specs.Measure.{finish}
 use Rattle.coefficients.proofs.ByOutcome.{ProcessEffect, process_by}
 use Rattle.coefficients.specs.Runs.{Call, measures, asks, plain_run, call_outcome, call_next, run}

@@ -1,5 +1,5 @@
 -- Measuring pieces and asking for coefficients: what each call does to its state and to the lent store. Definitions only.
-use Rattle.std.specs.Prelude.{ℕ, zero, suc, ◌+◌, ◌-◌, ◌*◌, ◌/◌, ◌%◌, Bool, cond, not, ◌&&◌, List, ◌++◌, length, set, replicate, ℤ, pos, ◌==◌, nat_le, nat_lt, slice_index_or, slice_set, Float}
+use Rattle.std.specs.Prelude.{ℕ, zero, suc, ◌+◌, ◌-◌, ◌*◌, ◌/◌, ◌%◌, Bool, cond, not, ◌&&◌, List, length, set, replicate, ℤ, pos, ◌==◌, nat_le, nat_lt, slice_index_or, slice_set, Float}
 use mathlib.Core.List.{foldl}
 use Rattle.std.proofs.lemmas.List.Edits.{sets}
 use Rattle.whole.specs.Frames.{most, frame_count}

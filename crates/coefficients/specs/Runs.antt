@@ -7,7 +7,7 @@ use Rattle.coefficients.specs.declared.framing.Found.TheVariants.{Nothing, One}
 use Rattle.coefficients.specs.declared.merging.Record.{Record}
 use Rattle.coefficients.specs.FrameRecord.{analyse}
 use Rattle.coefficients.specs.Finish.{record_coefficients}
-use Rattle.coefficients.specs.Measure.{calculator, needed, Measuring, measuring, process, finish}
+use Rattle.coefficients.specs.Measure.{needed, Measuring, measuring, process, finish}
 
 -- ---- the coefficients of X
 

@@ -1,5 +1,5 @@
 -- What writing the image of a file stores.
-use mathlib.Core.List.{List, [], ◌∷◌, ◌++◌}
+use mathlib.Core.List.{List}
 use mathlib.Core.Path.{◌≡◌, refl, sym, ap, ◌∙◌}
 use Prim.Native.Nat.{ℕ, suc, ◌+◌, ◌-◌, ◌*◌, ◌/◌, ◌≤◌, ◌<◌}
 use native.Mathlib.Nat.{zero-mul}
@@ -9,14 +9,13 @@ use lib.ListN.{length, get_or, take, drop, length-drop}
 use lib.Seq.{sets, drop-drop, get_or-drop}
 use Rattle.whole.proofs.Stores.{spread, part-all}
 use Rattle.whole.specs.Frames.{frame_count}
-use Rattle.whole.specs.declared.History.{History}
 use Rattle.block.specs.declared.FrameContext.{FrameContext}
 use Rattle.block.specs.Context.{context_with, with_header}
 use Rattle.block.specs.Play.{play_from, play}
 use Rattle.layout.specs.declared.Shape.{Shape}
 use Rattle.layout.specs.Fields.{mark, no_mark}
 use Rattle.layout.specs.Limits.{Limits}
-use Rattle.layout.specs.Sizes.{block_count, block_length, block_offset, body_bytes, image_size, last_frame_samples}
+use Rattle.layout.specs.Sizes.{block_count, block_length, block_offset, body_bytes, image_size}
 use Rattle.layout.proofs.SizeLaws.{block-place}
 use Rattle.clip.specs.declared.starting.Start.{Start}
 use Rattle.clip.specs.Image.{head_bytes, coefficient_bytes}

@@ -16,12 +16,11 @@ use Rattle.block.specs.Context.{history_with, context_with}
 use Rattle.block.specs.Frame.{Playing}
 use Rattle.block.specs.Play.{play}
 use Rattle.block.specs.Refusals.{lowest_pair}
-use Rattle.layout.specs.declared.Shape.{Shape}
 use Rattle.layout.specs.Fields.{at16, at32, mark}
 use Rattle.layout.specs.Sizes.{no_loop, block_count, body_bytes, cut_down, image_size}
 use Rattle.layout.proofs.SizeLaws.{block-place}
 use Rattle.clip.specs.declared.starting.Start.{Start}
-use Rattle.clip.specs.Image.{start_shape, head_bytes, context_bytes, table_bytes, loop_bytes}
+use Rattle.clip.specs.Image.{start_shape, head_bytes, context_bytes, loop_bytes}
 use Rattle.clip.proofs.Tables.{table_below}
 use Rattle.image.specs.Reading.{signed_at, coefficients_up_to, coefficients_in}
 use Rattle.image.specs.Opening.{holds}

@@ -5,7 +5,6 @@ use Rattle.image.specs.Opening as Image
 use Rattle.dsp.specs.declared.Answer.{Answer}
 use Rattle.dsp.specs.declared.Answer.TheVariants as Answers
 use Rattle.dsp.specs.declared.Written.{Written}
-use Rattle.dsp.specs.declared.Written.TheVariants as Written
 use Rattle.dsp.specs.declared.Refusal.{Refusal}
 use Rattle.dsp.specs.declared.Refusal.TheVariants.{BadSampleCount, RateZero, BadBlockSize, ImageTooShort, LowestPair, OutputTooShort, FileTooShort, BadField, OtherHistory, OfImage}
 

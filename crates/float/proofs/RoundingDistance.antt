@@ -1,6 +1,6 @@
 -- How far the results of a product, a sum and of both in one are from one another, where their operands are close and not large.
-use Rattle.std.proofs.Common.{◌≡◌, ℕ, ◌+◌, ◌*◌, ◌^◌, ◌<◌, ◌≤◌, Bool, true, false, T, sym, refl, ◌∙◌, ap₂, le_trans, le_of_eq, mul-le-mul_right, add-mul, mul-le-mul, mul-pos, le_of_mul-le-mul_right, arith, pow_pos}
-use lib.Ieee.{Float, nan, inf, fin, Format, low, up, down, unlike, size, round, add, mul, le}
+use Rattle.std.proofs.Common.{◌≡◌, ℕ, ◌+◌, ◌*◌, ◌^◌, ◌<◌, ◌≤◌, Bool, true, false, sym, refl, ◌∙◌, ap₂, le_trans, le_of_eq, mul-le-mul_right, add-mul, mul-le-mul, mul-pos, le_of_mul-le-mul_right, arith, pow_pos}
+use lib.Ieee.{Float, nan, inf, fin, Format, low, up, down, unlike, round, add, mul}
 use lib.Ieee.Fits.{down_pos}
 use lib.Ieee.Exact.{HasValue}
 use lib.Ieee.Scale.{round_same}

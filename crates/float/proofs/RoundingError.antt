@@ -4,7 +4,7 @@ use mathlib.Core.Bool.{beq}
 use Prim.Native.Nat.{compare}
 use native.Mathlib.Nat.{pow-succ'}
 use lib.Pow.{pow-lt}
-use lib.Ieee.{Float, Format, binary64, prec, emax, low, size, round, sum, le}
+use lib.Ieee.{Float, Format, binary64, prec, emax, low, size, round, sum}
 use lib.Ieee.Fits.{two, round_is, nearest-le}
 use lib.Ieee.Exact.{HasValue, units_val}
 use lib.Ieee.Digits.{size-le}

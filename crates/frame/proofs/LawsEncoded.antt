@@ -1,9 +1,8 @@
 -- What holds of every encoded frame: for the layers above.
 use mathlib.Core.Path.{◌≡◌, refl, sym, ap, ◌∙◌, subst}
-use mathlib.Core.Bool.{Bool, true, false, cond}
-use mathlib.Core.List.{List, [], ◌∷◌}
-use mathlib.Core.Logic.{◌⊎◌, inl, inr, ⊎_elim}
-use Prim.Native.Nat.{ℕ, zero, suc, ◌+◌, ◌-◌, ◌*◌, ◌/◌, ◌%◌, ◌^◌, ◌≤◌, ◌<◌}
+use mathlib.Core.List.{List}
+use mathlib.Core.Logic.{⊎_elim}
+use Prim.Native.Nat.{ℕ, zero, suc, ◌+◌, ◌*◌, ◌/◌, ◌%◌, ◌^◌, ◌≤◌, ◌<◌}
 use native.Mathlib.Omega.{arith}
 use lib.IntN.{ℤ, pos, nat_abs, ◌+ℤ◌, ◌-ℤ◌, ◌*ℤ◌}
 use lib.ListN.{get_or, length}
@@ -15,18 +14,17 @@ use Rattle.frame.specs.declared.EncodedFrame.{EncodedFrame}
 use Rattle.frame.specs.declared.search.Coded.{Coded}
 use Rattle.frame.specs.declared.pass.Pass.{Pass}
 use Rattle.frame.specs.Estimate.{weigh}
-use Rattle.frame.specs.Quantise.{scale}
-use Rattle.frame.specs.Pass.{Bounded, reconstruct, code_sample, upto, run_pass}
-use Rattle.frame.specs.Search.{finished, try_coefficients}
+use Rattle.frame.specs.Pass.{reconstruct, upto, run_pass}
+use Rattle.frame.specs.Search.{finished}
 use Rattle.frame.specs.Choice.{c0_at, c1_at, AllBounded, candidate_at, winner, passes_up_to}
 use Rattle.frame.specs.Frame.{header, low_four, nibble_at, pack_frame, preceded, history_after, encode_frame}
 use Rattle.frame.specs.inner.Nibbles.{InNibble}
 use Rattle.frame.specs.Fits.{Fit, FitHistory}
 use Rattle.frame.proofs.LawsPass.{reconstruct-played, step_at, overflow-upto, upto-sample, pass-lengths, pass-sample, pass_fits}
-use Rattle.frame.proofs.LawsSearch.{Shape, Found, try-found, ended}
+use Rattle.frame.proofs.LawsSearch.{Found, try-found, ended}
 use Rattle.frame.proofs.LawsChoice.{candidate-shape, candidate-nibble, winner-le, passes-le}
 use Rattle.frame.proofs.LawsDistance.{step-distance}
-use Rattle.frame.proofs.LawsNibbles.{low-lt, signed_low, pack-length, pack-head, pack-byte, byte-parts, nibble-at}
+use Rattle.frame.proofs.LawsNibbles.{signed_low, pack-length, pack-head, nibble-at}
 
 -- ---- the history, place by place
 pub history-step : (h : History) (xs : List ℤ) (i : ℕ) → history_after h xs (suc i) ≡ record { newest = get_or xs i (pos 0); older = (history_after h xs i).newest }

@@ -1,11 +1,8 @@
 -- Document 01's worked numbers of quantising and of one frame, computed.
 use mathlib.Core.Path.{◌≡◌, refl}
 use lib.Ieee.{size, span, climb}
-use lib.IntN.{ℤ, pos, negsuc}
-use mathlib.Core.List.{List, [], ◌∷◌}
-use lib.ListN.{replicate}
+use lib.IntN.{pos, negsuc}
 use Rattle.whole.specs.Whole.{clamp}
-use Prim.Native.Nat.{ℕ}
 use Rattle.frame.specs.Worked.{alone, frame}
 use Rattle.frame.specs.Estimate.{weigh, difference, larger_magnitude, is_lowest, look, largest_difference, is_small, halvings_within, halvings, max_z, exponent_of, first_exponent}
 use Rattle.frame.specs.Quantise.{unit24, round24, nearest_down, quantise}

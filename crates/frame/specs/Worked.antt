@@ -1,5 +1,5 @@
 -- The frames of document 01's worked numbers. Definitions only.
-use Rattle.std.specs.Prelude.{List, ◌∷◌, ℕ, ℤ, pos, replicate}
+use Rattle.std.specs.Prelude.{◌∷◌, ℕ, ℤ, pos, replicate}
 use Rattle.frame.specs.declared.EncodedFrame.{EncodedFrame}
 use Rattle.frame.specs.Frame.{encode_frame}
 

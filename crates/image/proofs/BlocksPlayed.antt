@@ -1,22 +1,19 @@
 -- Playing a whole image is playing its blocks in turn: one call of `play` for each, on the output from the end of the block before on.
-use mathlib.Core.List.{List, ◌++◌}
+use mathlib.Core.List.{List}
 use mathlib.Core.Path.{◌≡◌, refl, sym, ap, ◌∙◌}
-use Prim.Native.Nat.{ℕ, zero, suc, ◌+◌, ◌≤◌, ◌<◌}
+use Prim.Native.Nat.{ℕ, zero, suc, ◌≤◌, ◌<◌}
 use native.Mathlib.Omega.{arith}
-use lib.IntN.{ℤ, pos}
-use lib.ListN.{length, take, drop}
-use lib.Seq.{sets}
-use Rattle.block.specs.declared.FrameContext.{FrameContext}
-use Rattle.block.specs.Context.{new_context}
+use lib.IntN.{ℤ}
+use lib.ListN.{length, drop}
 use Rattle.block.specs.Play.{play_into}
 use Rattle.whole.specs.Outcome.{accepted, Effect, effect}
 use Rattle.block.specs.Frame.{Playing, playing}
 use Rattle.image.specs.BlocksInTurn.{after_call, turns}
-use Rattle.image.specs.Reading.{total_in, blocks_in, length_in}
+use Rattle.image.specs.Reading.{total_in, blocks_in}
 use Rattle.image.specs.inner.Asked.{AllPlayable}
 use Rattle.image.specs.Playing.{play_answer, play}
 use Rattle.image.specs.Sameness.{block_samples, samples_from, samples_in}
-use Rattle.image.specs.WholeImage.{all_answer, context_after, all_into, play_all}
+use Rattle.image.specs.WholeImage.{all_answer, context_after, play_all}
 use Rattle.image.proofs.Joined.{samples-count}
 use Rattle.image.proofs.LawsAll.{all-accepted, all_made, all-written, context_on, written, turn-playable, turn-written, turn-counted}
 use Rattle.image.proofs.LawsBody.{play-accepts}

@@ -21,7 +21,7 @@ use Rattle.layout.specs.Sizes.{entry_place, bodies_place, last_frame_samples, bl
 use Rattle.whole.specs.Frames.{frame_count}
 use Rattle.layout.proofs.SizeLaws.{block-place, block-first}
 use Rattle.whole.specs.Outcome.{accepted, refused_at}
-use Rattle.image.specs.Reading.{shape_in, total_in, block_in, blocks_in, coefficients_in, offset_in, length_in, header_in, newest_in, older_in, context_in}
+use Rattle.image.specs.Reading.{shape_in, blocks_in, coefficients_in, offset_in, length_in, header_in, newest_in, older_in, context_in}
 use Rattle.image.specs.Opening.{open_answer}
 use Rattle.image.specs.inner.Asked.{Found, Playable}
 use Rattle.image.specs.Bodies.{block_answer, body_in, block_body}

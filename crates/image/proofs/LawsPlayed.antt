@@ -1,13 +1,12 @@
 -- A block that is played from an image.
 use mathlib.Core.List.{List, ◌++◌}
-use mathlib.Core.Path.{◌≡◌, refl, sym, ap, ◌∙◌}
+use mathlib.Core.Path.{◌≡◌, sym, ap, ◌∙◌}
 use Prim.Native.Nat.{ℕ}
 use native.Mathlib.Omega.{arith}
 use lib.IntN.{ℤ}
 use lib.ListN.{length, drop}
-use Rattle.block.specs.declared.FrameContext.{FrameContext}
 use Rattle.block.specs.Address.{address_to_sample}
-use Rattle.block.specs.Frame.{Playing, playing}
+use Rattle.block.specs.Frame.{Playing}
 use Rattle.block.specs.Play.{play_into}
 use Rattle.block.proofs.LawsCalls.{play-out}
 use Rattle.block.proofs.LawsPlay.{play-count}
@@ -15,7 +14,7 @@ use Rattle.whole.specs.Outcome.{Outcome, accepted, Effect, effect}
 use Rattle.image.specs.Reading.{coefficients_in, length_in, context_in}
 use Rattle.image.specs.inner.Asked.{Found, Playable}
 use Rattle.image.specs.Bodies.{body_in}
-use Rattle.image.specs.Playing.{room_answer, play_answer, play}
+use Rattle.image.specs.Playing.{room_answer, play}
 use Rattle.image.specs.inner.Played.{play_by}
 use Rattle.image.specs.Sameness.{block_samples}
 use Rattle.image.proofs.LawsBody.{room-accepts, play-accepts, found_some}

@@ -1,11 +1,11 @@
 -- What comparing was accepted with.
-use mathlib.Core.Bool.{true, false}
+use mathlib.Core.Bool.{false}
 use mathlib.Core.List.{List}
-use mathlib.Core.Path.{◌≡◌, sym, ◌∙◌}
+use mathlib.Core.Path.{◌≡◌}
 use Prim.Native.Nat.{ℕ}
 use borrow.Author.Tests.{eq-eqb, ne_eqb}
 use Rattle.block.specs.Refusals.{lowest_pair}
-use Rattle.whole.specs.Outcome.{Outcome, accepted, refused}
+use Rattle.whole.specs.Outcome.{accepted}
 use Rattle.whole.proofs.Outcomes.{failed}
 use Rattle.image.specs.Reading.{total_in, coefficients_in}
 use Rattle.image.specs.Opening.{open_answer}

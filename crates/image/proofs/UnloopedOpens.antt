@@ -1,14 +1,12 @@
 -- An image without a loop opens, or does not, as it did before there were loops.
 use mathlib.Core.Path.{◌≡◌, refl, ap₂, ◌∙◌}
-use mathlib.Core.Bool.{Bool, not, cond, ◌&&◌}
+use mathlib.Core.Bool.{Bool, not, cond}
 use mathlib.Core.List.{List}
 use Prim.Native.Nat.{ℕ}
-use lib.Dec.{leb}
-use lib.ListN.{length}
 use Rattle.whole.specs.Outcome.{Outcome, accepted, refused_at, refused}
 use Rattle.layout.specs.Sizes.{shape, block_count}
-use Rattle.image.specs.Reading.{total_in, rate_in, block_in, loops_in, blocks_in}
-use Rattle.image.specs.Opening.{and_then, mark_ok, numbers_fit, head_ok, entries_answer, open_answer}
+use Rattle.image.specs.Reading.{total_in, block_in, loops_in}
+use Rattle.image.specs.Opening.{and_then, numbers_fit, head_ok, entries_answer, open_answer}
 use Rattle.image.specs.Unlooped.{head_before, open_before}
 use Rattle.image.proofs.LawsLoop.{fits-zero}
 

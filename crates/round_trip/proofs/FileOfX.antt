@@ -27,7 +27,7 @@ use Rattle.layout.specs.Limits.{block_ok}
 use Rattle.layout.specs.Sizes.{shape, loop_count, last_frame_samples, block_count, body_bytes, bodies_place, image_size}
 use Rattle.layout.proofs.SizeLaws.{block-first}
 use Rattle.clip.specs.declared.starting.Start.{Start}
-use Rattle.clip.specs.Image.{start_shape, coefficient_bytes, head_bytes, context_bytes, no_context, entry_bytes, table_bytes, loop_bytes}
+use Rattle.clip.specs.Image.{start_shape, coefficient_bytes, head_bytes, context_bytes, no_context, table_bytes, loop_bytes}
 use Rattle.clip.specs.Runs.{history_at, encoded_at, context_at, loop_context_at, loop_entry}
 use Rattle.clip.proofs.Tables.{table_below}
 use Rattle.clip.proofs.ImageByFrames.{Fine, headed, listed, filled, built, headed-length, listed-length, filled-length, entry-last, built-length}

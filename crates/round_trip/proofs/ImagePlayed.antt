@@ -11,16 +11,15 @@ use Rattle.block.specs.Address.{address_to_sample}
 use Rattle.block.specs.Frame.{Playing, playing}
 use Rattle.block.specs.Play as Block
 use Rattle.block.specs.Refusals.{lowest_pair}
-use Rattle.layout.specs.Sizes.{bodies_place, block_count, block_length}
+use Rattle.layout.specs.Sizes.{block_count, block_length}
 use Rattle.whole.specs.Frames.{frame_count}
 use Rattle.layout.specs.Sizes.{frame_place}
 use Rattle.clip.specs.Image.{start_shape}
 use Rattle.clip.specs.declared.starting.Start.{Start}
 use Rattle.clip.specs.Runs.{encoded_at}
 use Rattle.clip.proofs.ImageByFrames.{Fine}
-use Rattle.round_trip.proofs.FieldsReadBack as read
 use Rattle.round_trip.proofs.FramesPlayed.{Audible, context_within}
-use Rattle.round_trip.proofs.BlocksOfX.{wholes, ending, block_sound, blocks_sound, sound_of, block-played, all_blocks, frame-place}
+use Rattle.round_trip.proofs.BlocksOfX.{wholes, ending, block_sound, blocks_sound, sound_of, block-played, all_blocks}
 use Rattle.whole.specs.Outcome.{Outcome, accepted, Effect}
 use Rattle.image.specs.Reading.{coefficients_in, offset_in, length_in, context_in}
 use Rattle.image.specs.Bodies.{body_in}

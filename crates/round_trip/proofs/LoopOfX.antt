@@ -1,5 +1,5 @@
 -- The loop of X's closed image: what it stores, and what playing it gives.
-use mathlib.Core.Path.{◌≡◌, refl, sym, ap, ap₂, ◌∙◌, subst}
+use mathlib.Core.Path.{◌≡◌, refl, sym, ap, ap₂, ◌∙◌}
 use mathlib.Core.Bool.{Bool, true, false, cond}
 use mathlib.Core.List.{List, ◌++◌}
 use Prim.Native.Nat.{ℕ, zero, suc, ◌+◌, ◌-◌, ◌*◌, ◌/◌, ◌%◌, ◌≤◌, ◌<◌}
@@ -7,7 +7,6 @@ use native.Mathlib.Omega.{arith}
 use lib.IntN.{ℤ, pos}
 use lib.ListN.{length, get_or, take, drop}
 use Rattle.whole.specs.declared.History.{History}
-use Rattle.whole.specs.Frames.{frame_count}
 use Rattle.whole.specs.Outcome.{accepted, effect}
 use Rattle.frame.specs.Frame.{history_after, preceded}
 use Rattle.frame.proofs.LawsEncoded.{history-start}
@@ -16,24 +15,24 @@ use Rattle.block.specs.Address.{sample_to_address}
 use Rattle.block.specs.Context.{history_with, context_with, new_context}
 use Rattle.block.specs.Play as Block
 use Rattle.layout.specs.declared.Loop.{Loop}
-use Rattle.layout.specs.Sizes.{no_loop, told_loop, block_count, block_length, frame_place}
+use Rattle.layout.specs.Sizes.{no_loop, told_loop, block_length, frame_place}
 use Rattle.clip.specs.Image.{start_shape}
 use Rattle.clip.specs.declared.starting.Start.{Start}
 use Rattle.clip.specs.Runs.{history_at, encoded_at}
 use Rattle.clip.proofs.ImageByFrames.{Fine}
-use Rattle.image.specs.Reading.{coefficients_in, offset_in, length_in, context_in, loops_in, loop_in, loop_context_in}
+use Rattle.image.specs.Reading.{coefficients_in, offset_in, length_in, context_in, loop_in, loop_context_in}
 use Rattle.image.specs.Bodies.{body_in}
 use Rattle.image.specs.Looping.{loop_length, loop_once, repeated, play_loop}
-use Rattle.image.specs.Part.{samples_per_block, per_block}
+use Rattle.image.specs.Part.{samples_per_block}
 use Rattle.image.specs.Sameness.{samples_in}
 use Rattle.image.specs.inner.Runs.{context_at_sample}
 use Rattle.image.proofs.LawsLoop.{loop-zero, loop-none}
 use Rattle.image.proofs.LoopPlayed.{loop-part, plays-loop, plays-none}
 use Rattle.image.proofs.Parts.{part_at}
 use Rattle.round_trip.specs.ClosedClip.{played_before, stored_context}
-use Rattle.round_trip.proofs.FramesPlayed.{Audible, context_before, context_within}
+use Rattle.round_trip.proofs.FramesPlayed.{Audible, context_within}
 use Rattle.round_trip.proofs.BlocksOfX.{sound_of, sound-is, block-until, sample-block, sample-frame, sample-inside, frame-of}
-use Rattle.round_trip.proofs.ImageOpens.{image, block-is, loops-are, coefficients-are, entry-made, context-is, image-made, image-opens, none_is, rule, loop-is, stored_is}
+use Rattle.round_trip.proofs.ImageOpens.{image, block-is, coefficients-are, entry-made, context-is, image-made, image-opens, none_is, rule, loop-is, stored_is}
 use Rattle.round_trip.proofs.ImagePlayed.{all-heard, pairs-heard, header-heard}
 
 -- ---- the two samples played before a sample

@@ -7,7 +7,7 @@ use native.Mathlib.Nat.{le-div_iff_mul-le, div-lt_iff_lt-mul}
 use native.Mathlib.Omega.{arith}
 use borrow.Author.Tests.{le-ltb}
 use lib.IntN.{pos, negsuc}
-use lib.ListN.{length, drop, replicate}
+use lib.ListN.{length, drop}
 use Rattle.whole.specs.Frames.{frame_at, frame_count}
 use Rattle.frame.specs.Frame.{pair_ok, pairs_ok, coefficients_ok}
 use Rattle.frame.proofs.Worked.{quotients, frames}
@@ -25,7 +25,7 @@ use Rattle.clip.specs.Encoding.{Left, start_answer, start}
 use Rattle.clip.specs.Runs.{history_at, encoded_at, bodies, context_at, image_after, left_after, feeds, closes, plain_after, state_after, passes_up_to, loop_entry}
 use Rattle.clip.proofs.WholeRuns.{encoding-states}
 use Rattle.image.proofs.Worked.{plays}
-use Rattle.round_trip.specs.Numbers.{silence, of_nine, nine, heard, WorkedNumbers}
+use Rattle.round_trip.specs.Numbers.{of_nine, nine, heard, WorkedNumbers}
 
 heard-are : (heard 0x00 0x80 ≡ negsuc 7 ∷ []) × (heard 0x01 0x40 ≡ pos 8 ∷ [])
 unfolding play play_from take_header take_nibble next_sample nibble_at push_sample with_header predictor scale decode_sample signed_nibble clamp

@@ -1,12 +1,11 @@
 -- `close` meets its contract. Assumes nothing.
-use mathlib.Core.Path.{◌≡◌, sym, ap, ◌∙◌}
-use Rattle.whole.specs.Outcome.{Outcome, accepted, refused, effect}
+use mathlib.Core.Path.{sym, ap, ◌∙◌}
+use Rattle.whole.specs.Outcome.{accepted, effect}
 use Rattle.clip.specs.Encoding.{outcome, Left, close}
 use Rattle.clip.proofs.AcceptedCalls.{close-accepted}
 use borrow.Author.Rules.{rules}
 use Rattle.clip.proofs.close.Statement.{statement}
 use Rattle.clip.proofs.close.Tie as tie
-use Rattle.clip.proofs.close.Reads as reads
 
 close-answer-requires : tie.Need-close_answer-answer-requires
 close-answer-requires c κs = search rules

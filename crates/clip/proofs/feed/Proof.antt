@@ -1,12 +1,11 @@
 -- `feed` meets its contract. Assumes nothing.
-use mathlib.Core.Path.{◌≡◌, sym, ap, ◌∙◌}
-use Rattle.whole.specs.Outcome.{Outcome, accepted, refused, effect}
+use mathlib.Core.Path.{sym, ap, ◌∙◌}
+use Rattle.whole.specs.Outcome.{accepted, effect}
 use Rattle.clip.specs.Encoding.{outcome, Left, feed}
 use Rattle.clip.proofs.AcceptedCalls.{feed-accepted}
 use borrow.Author.Rules.{rules}
 use Rattle.clip.proofs.feed.Statement.{statement}
 use Rattle.clip.proofs.feed.Tie as tie
-use Rattle.clip.proofs.feed.Reads as reads
 
 feed-answer-requires : tie.Need-feed_answer-answer-requires
 feed-answer-requires c κs = search rules

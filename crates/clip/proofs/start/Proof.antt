@@ -7,7 +7,7 @@ use lib.Seq.{sets}
 use Rattle.whole.specs.Outcome.{accepted, effect}
 use Rattle.clip.specs.declared.Encoder.{Encoder}
 use Rattle.clip.specs.declared.starting.Start.{Start}
-use Rattle.clip.specs.Image.{cut, fresh_bytes}
+use Rattle.clip.specs.Image.{fresh_bytes}
 use Rattle.clip.specs.Encoding.{outcome, left, begun, start}
 use Rattle.clip.proofs.AcceptedCalls.{start-accepted}
 use Rattle.clip.proofs.start.Statement.{statement}

@@ -1,11 +1,11 @@
 -- What the private functions ask of the state and the buffer.
 use Rattle.layout.specs.declared.Shape.{Shape}
 use Rattle.layout.specs.Limits.{Limits, loop_ok}
-use Rattle.std.specs.Prelude.{ℕ, ◌+◌, ◌*◌, ◌/◌, ◌%◌, ◌≤◌, ◌<◌, ◌≡◌, true}
+use Rattle.std.specs.Prelude.{ℕ, ◌+◌, ◌*◌, ◌/◌, ◌≤◌, ◌<◌, ◌≡◌, true}
 use Rattle.frame.specs.Frame.{coefficients_ok}
 use Rattle.clip.specs.declared.Encoder.{Encoder}
 use Rattle.layout.specs.Sizes.{body_bytes, image_size}
-use Rattle.whole.specs.Frames.{most, frame_count}
+use Rattle.whole.specs.Frames.{frame_count}
 use Rattle.clip.specs.Encoding.{encoder_shape}
 
 -- frame q's first k bytes are within the image

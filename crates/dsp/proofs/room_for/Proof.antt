@@ -1,6 +1,6 @@
 -- `room_for` meets its contract. Assumes nothing.
 use borrow.Author.Rules.{rules}
-use mathlib.Core.Path.{◌≡◌, sym, ap, ◌∙◌}
+use mathlib.Core.Path.{sym, ap, ◌∙◌}
 use Rattle.whole.specs.Outcome.{accepted}
 use Rattle.layout.specs.Sizes.{image_size}
 use Rattle.clip.specs.declared.starting.Start.{Start}

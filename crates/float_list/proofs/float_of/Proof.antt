@@ -1,5 +1,5 @@
 -- `float_of` is safe. Assumes nothing.
-use mathlib.Core.Path.{◌≡◌, sym, subst, ◌∙◌}
+use mathlib.Core.Path.{sym, subst, ◌∙◌}
 use mathlib.Core.Bool.{Bool, not}
 use borrow.Author.Rules.{rules}
 use borrow.Author.Tests.{le-ltb}

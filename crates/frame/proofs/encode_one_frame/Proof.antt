@@ -1,12 +1,9 @@
 -- `encode_one_frame` meets its contract: refused by code 7, or encoded.
 use borrow.Author.Rules.{rules}
-use mathlib.Core.Path.{◌≡◌, sym, ap, ◌∙◌}
-use mathlib.Core.Bool.{Bool, true, false}
-use mathlib.Core.List.{List}
-use native.Mathlib.Omega.{arith}
+use mathlib.Core.Path.{◌≡◌, sym, ◌∙◌}
+use mathlib.Core.Bool.{true, false}
 use borrow.Author.Tests.{not-true, not-false}
-use Rattle.frame.specs.declared.EncodedFrame.{EncodedFrame}
-use Rattle.frame.specs.Frame.{encode_frame, encode_one_frame, history_after, coefficients_ok}
+use Rattle.frame.specs.Frame.{encode_one_frame, coefficients_ok}
 use Rattle.frame.proofs.LawsFrame.{limits-bounded}
 use Rattle.frame.proofs.encode_one_frame.Statement.{statement}
 use Rattle.frame.proofs.encode_one_frame.Tie as tie

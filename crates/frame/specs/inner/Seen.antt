@@ -1,5 +1,5 @@
 -- What the numbers of a quick pass show. Definitions only.
-use Rattle.std.specs.Prelude.{Bool, false, ◌≡◌, List, ℕ, zero, suc, ◌+◌, ◌-◌, ◌*◌, ◌/◌, ◌%◌, ◌^◌, ◌≤◌, ◌<◌, max, ltb, ℤ, pos, nat_abs, ◌+ℤ◌, get_or, length, take}
+use Rattle.std.specs.Prelude.{Bool, false, ◌≡◌, List, ℕ, zero, suc, ◌+◌, ◌-◌, ◌*◌, ◌/◌, ◌%◌, ◌^◌, ◌<◌, max, ltb, ℤ, pos, nat_abs, ◌+ℤ◌, get_or, length, take}
 use Rattle.std.specs.Int.Signed.{mag}
 use Rattle.frame.specs.declared.pass.Pass.{Pass}
 use Rattle.frame.specs.declared.seen.Seen.{Seen}

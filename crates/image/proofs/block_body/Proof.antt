@@ -2,10 +2,8 @@
 use borrow.Author.Rules.{rules}
 use mathlib.Core.Path.{◌≡◌, ap, sym, ◌∙◌}
 use mathlib.Core.List.{[]}
-use Prim.Native.Nat.{ℕ, ◌+◌, ◌/◌}
+use Prim.Native.Nat.{ℕ, ◌+◌}
 use native.Mathlib.Omega.{arith}
-use lib.ListN.{take, drop}
-use Rattle.image.specs.declared.bodies.Entry.{Entry}
 use Rattle.image.specs.Opening.{outcome}
 use Rattle.image.specs.Bodies.{body_in, block_body, block_part}
 use Rattle.whole.specs.Outcome.{effect}

@@ -1,6 +1,6 @@
 -- `open` meets its contract. Assumes nothing.
 use borrow.Author.Rules.{rules}
-use mathlib.Core.Path.{ap, ◌≡◌, sym, ◌∙◌}
+use mathlib.Core.Path.{ap, sym, ◌∙◌}
 use Rattle.image.specs.Opening.{outcome, open_image}
 use Rattle.image.specs.inner.Asked.{Headed}
 use Rattle.image.proofs.OpenImages.{opened}

@@ -1,6 +1,6 @@
 -- `play` meets its contract. Assumes nothing.
 use borrow.Author.Rules.{rules}
-use mathlib.Core.Path.{◌≡◌, ap, sym, ◌∙◌}
+use mathlib.Core.Path.{ap, sym, ◌∙◌}
 use Rattle.image.specs.Opening.{outcome}
 use Rattle.image.specs.Playing.{play_answer, play, room_answer}
 use Rattle.image.proofs.LawsBody.{block-accepted}

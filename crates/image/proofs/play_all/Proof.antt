@@ -1,6 +1,6 @@
 -- `play_all` meets its contract. Assumes nothing.
 use borrow.Author.Rules.{rules}
-use mathlib.Core.Path.{◌≡◌, ap, sym, ◌∙◌}
+use mathlib.Core.Path.{ap, sym, ◌∙◌}
 use Rattle.image.specs.Opening.{outcome}
 use Rattle.image.specs.WholeImage.{all_answer, play_all}
 use Rattle.image.proofs.OpenImages.{opened}

@@ -1,5 +1,5 @@
 -- `sounds_same` meets its contract. Assumes nothing.
-use mathlib.Core.Path.{ap, ◌≡◌, sym, ◌∙◌}
+use mathlib.Core.Path.{ap, sym, ◌∙◌}
 use Rattle.image.specs.Sameness.{sounds_same}
 use Rattle.image.specs.Opening.{outcome}
 use Rattle.image.proofs.LawsSame.{both-accepted}

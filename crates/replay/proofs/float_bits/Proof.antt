@@ -1,11 +1,9 @@
 -- `float_bits` meets its contract. Assumes nothing.
 use mathlib.Core.Path.{◌≡◌, refl, sym, ap, subst}
-use mathlib.Core.Bool.{Bool, true, false, not}
-use borrow.Author.Rules.{rules}
+use mathlib.Core.Bool.{true, false, not}
 use lib.Dec.{T}
 use lib.Ieee.{Float, nan, inf, fin, binary64, is_nan, ne, eq, to_bits}
 use lib.Ieee.Compare.{differs_from_itself}
-use Prim.Native.Nat.{ℕ}
 use Rattle.replay.specs.Digits.{float_bits}
 use Rattle.replay.proofs.float_bits.Statement.{statement}
 use Rattle.replay.proofs.float_bits.Tie as tie

@@ -1,5 +1,5 @@
 -- `sample` meets its contract. Assumes nothing.
-use mathlib.Core.Path.{◌≡◌, ap, ◌∙◌}
+use mathlib.Core.Path.{ap, ◌∙◌}
 use mir.Syntax.{w16}
 use mir.Val.{Fits, of_z, to_z}
 use lib.IntN.{ℤ}

@@ -1,7 +1,7 @@
 -- `context_after` meets its contract: after k turns the first k frames are played. Assumes nothing.
 use mathlib.Core.Path.{◌≡◌, refl, sym, ◌∙◌}
 use mathlib.Core.List.{[]}
-use Prim.Native.Nat.{◌+◌, ◌-◌, ◌*◌, ◌<◌}
+use Prim.Native.Nat.{◌+◌, ◌*◌, ◌<◌}
 use native.Mathlib.Omega.{arith}
 use Rattle.block.specs.Frame.{playing}
 use Rattle.block.specs.inner.Frames.{play_frames}

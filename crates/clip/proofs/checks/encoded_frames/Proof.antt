@@ -1,6 +1,5 @@
 -- `encoded_frames` meets its contract. Assumes nothing.
-use mathlib.Core.Path.{◌≡◌, sym, ap, ◌∙◌}
-use mathlib.Core.Bool.{Bool}
+use mathlib.Core.Path.{sym, ap, ◌∙◌}
 use native.Mathlib.Omega.{arith}
 use Rattle.clip.specs.Encoding.{encoded_frames}
 use borrow.Author.Rules.{rules}

@@ -3,12 +3,8 @@ use borrow.Author.Rules.{rules}
 use mathlib.Core.Path.{◌≡◌, sym, ◌∙◌}
 use mathlib.Core.Bool.{true}
 use borrow.Author.Tests.{lt-ltb, le-ltb, not-true, not-false}
-use Rattle.layout.specs.declared.Shape.{Shape}
-use Rattle.layout.specs.Limits.{Limits}
 use Rattle.clip.specs.Encoding.{valid, feed_answer}
 use Rattle.clip.proofs.ValidState.{sound}
-use mathlib.Core.Path.{ap}
-use lib.ListN.{length}
 use Rattle.clip.proofs.checks.feed_answer.Statement.{statement}
 use Rattle.clip.proofs.checks.feed_answer.Tie as tie
 

@@ -1,8 +1,6 @@
 -- `valid` meets its contract. Assumes nothing.
-use mathlib.Core.Path.{◌≡◌, sym, ◌∙◌}
-use mathlib.Core.Bool.{true}
+use mathlib.Core.Path.{sym, ◌∙◌}
 use borrow.Author.Tests.{not-true, not-false}
-use Rattle.layout.specs.Limits.{numbers_ok}
 use Rattle.clip.specs.Encoding.{valid}
 use Rattle.layout.proofs.LimitLaws.{numbers-sound}
 use native.Mathlib.Omega.{arith}

@@ -1,13 +1,11 @@
 -- `put_end` meets its contract. Assumes nothing.
-use mathlib.Core.Path.{◌≡◌, refl, ap, ◌∙◌}
+use mathlib.Core.Path.{ap, ◌∙◌}
 use mathlib.Core.List.{List}
-use Prim.Native.Nat.{ℕ, ◌+◌, ◌*◌, ◌≤◌}
+use Prim.Native.Nat.{ℕ}
 use native.Mathlib.Omega.{arith}
-use lib.ListN.{length}
 use lib.Seq.{sets}
 use Rattle.layout.specs.Fields.{mark}
 use Rattle.layout.specs.Sizes.{block_count, body_bytes, image_size, last_frame_samples, entry_place}
-use Rattle.layout.proofs.SizeLaws.{blocks-most}
 use Rattle.whole.specs.Frames.{frame_count}
 use Rattle.clip.specs.Image.{loop_bytes}
 use Rattle.clip.specs.Encoding.{ended}

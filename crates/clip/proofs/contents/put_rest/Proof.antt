@@ -1,9 +1,5 @@
 -- `put_rest` meets its contract. Assumes nothing.
-use mathlib.Core.Path.{◌≡◌, refl, ap, ◌∙◌}
-use mathlib.Core.List.{List, ◌++◌}
-use Prim.Native.Nat.{ℕ, ◌+◌, ◌*◌}
-use native.Mathlib.Omega.{arith}
-use lib.Seq.{sets}
+use mathlib.Core.Path.{refl}
 use Rattle.layout.specs.Fields.{be16, be32}
 use Rattle.clip.proofs.FieldRuns.{runs3}
 use borrow.Author.Rules.{rules}

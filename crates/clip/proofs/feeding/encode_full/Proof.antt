@@ -1,11 +1,11 @@
 -- `encode_full` meets its contract. Assumes nothing.
 use mathlib.Core.List.{List}
-use mathlib.Core.Path.{◌≡◌, ap, ◌∙◌}
+use mathlib.Core.Path.{ap, ◌∙◌}
 use Prim.Native.Nat.{ℕ}
 use lib.ListN.{take}
 use Rattle.frame.specs.declared.EncodedFrame.{EncodedFrame}
 use Rattle.frame.specs.Frame.{history_after}
-use Rattle.clip.specs.Encoding.{encoder_shape, store, loop_context}
+use Rattle.clip.specs.Encoding.{store, loop_context}
 use Rattle.frame.proofs.LawsFrame.{limits-bounded}
 use Rattle.clip.proofs.Storing.{full-bytes}
 use borrow.Author.Rules.{rules}

@@ -1,7 +1,7 @@
 -- `finish_answer` meets its contract. Assumes nothing.
 use Rattle.std.proofs.Common.{◌≡◌, true, sym, ◌∙◌, le-ltb, lt-ltb}
 use borrow.Author.Tests.{not-false}
-use Rattle.coefficients.specs.Measure.{finish_answer, valid, needed}
+use Rattle.coefficients.specs.Measure.{finish_answer, valid}
 use Rattle.coefficients.proofs.AcceptedCalls.{valid-samples}
 use Rattle.coefficients.proofs.measuring.finish_answer.Statement.{statement}
 use Rattle.coefficients.proofs.measuring.finish_answer.Tie as tie

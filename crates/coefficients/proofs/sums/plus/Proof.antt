@@ -1,5 +1,5 @@
 -- `plus` meets its contract. Assumes nothing.
-use Rattle.std.proofs.Common.{ℤ, ◌+ℤ◌, refl, arith, to_z-of_z, w64, SFits}
+use Rattle.std.proofs.Common.{◌+ℤ◌, refl, arith, to_z-of_z, w64, SFits}
 use Rattle.whole.proofs.SignedLocals.{abs-add, sfits-abs}
 use Rattle.coefficients.proofs.sums.plus.Statement.{statement}
 use Rattle.coefficients.proofs.sums.plus.Tie as tie

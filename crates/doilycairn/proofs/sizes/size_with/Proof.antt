@@ -1,11 +1,10 @@
 -- `size_with` meets its contract. Assumes nothing.
 use borrow.Author.Rules.{rules}
-use mathlib.Core.Path.{◌≡◌, ap, ◌∙◌}
+use mathlib.Core.Path.{ap, ◌∙◌}
 use Prim.Native.Nat.{ℕ}
 use native.Mathlib.Omega.{arith}
 use borrow.Author.Tests.{lt-leb, le-leb}
 use Rattle.layout.specs.Sizes as Layout
-use Rattle.layout.specs.Limits.{Limits}
 use Rattle.doilycairn.specs.Sizes.{size_with}
 use Rattle.doilycairn.proofs.sizes.size_with.Statement.{statement}
 use Rattle.doilycairn.proofs.sizes.size_with.Tie as tie

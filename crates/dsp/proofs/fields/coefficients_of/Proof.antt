@@ -1,8 +1,6 @@
 -- `coefficients_of` meets its contract. Assumes nothing.
 use borrow.Author.Rules.{rules}
-use mathlib.Core.List.{List}
-use mathlib.Core.Path.{◌≡◌, ap, ◌∙◌}
-use Prim.Native.Nat.{ℕ}
+use mathlib.Core.Path.{ap, ◌∙◌}
 use Rattle.whole.proofs.Stores.{part-all}
 use Rattle.image.specs.Reading.{coefficients_in}
 use Rattle.dsp.specs.File.{coefficients_of}

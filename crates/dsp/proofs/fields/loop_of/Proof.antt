@@ -2,7 +2,7 @@
 use borrow.Author.Rules.{rules}
 use borrow.Author.Tests.{eq-eqb, ne_eqb}
 use native.Mathlib.Omega.{arith}
-use mathlib.Core.Path.{◌≡◌, ◌∙◌, sym}
+use mathlib.Core.Path.{◌∙◌, sym}
 use Rattle.block.specs.Address.{address_to_sample}
 use Rattle.dsp.specs.File.{loop_of}
 use Rattle.dsp.proofs.fields.loop_of.Statement.{statement}

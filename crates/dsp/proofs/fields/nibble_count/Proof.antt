@@ -1,7 +1,7 @@
 -- `nibble_count` meets its contract. Assumes nothing.
 use borrow.Author.Rules.{rules}
 use native.Mathlib.Omega.{arith}
-use mathlib.Core.Path.{◌≡◌, ap}
+use mathlib.Core.Path.{ap}
 use Prim.Native.Nat.{ℕ, ◌+◌}
 use Rattle.block.specs.Address.{sample_to_address}
 use Rattle.dsp.specs.File.{nibble_count}

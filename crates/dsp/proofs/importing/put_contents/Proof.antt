@@ -1,24 +1,22 @@
 -- `put_contents` meets its contract. Assumes nothing.
-use mathlib.Core.List.{List, [], ◌∷◌, ◌++◌}
+use mathlib.Core.List.{List}
 use mathlib.Core.Path.{◌≡◌, refl, sym, ap, ap₂, ◌∙◌}
-use Prim.Native.Nat.{ℕ, suc, ◌+◌, ◌-◌, ◌*◌, ◌/◌, ◌≤◌, ◌<◌}
+use Prim.Native.Nat.{ℕ, ◌+◌, ◌-◌, ◌*◌, ◌/◌, ◌≤◌, ◌<◌}
 use native.Mathlib.Numerals.{add-one}
 use native.Mathlib.Omega.{arith}
 use lib.ListN.{length, get_or, take, drop}
 use lib.Seq.{sets}
 use Rattle.whole.specs.Frames.{frame_count}
-use Rattle.whole.specs.declared.History.{History}
 use Rattle.block.specs.declared.FrameContext.{FrameContext}
 use Rattle.block.specs.Context.{context_with, with_header}
 use Rattle.block.specs.Play.{play}
 use Rattle.layout.specs.declared.Shape.{Shape}
-use Rattle.layout.specs.Sizes.{block_count, block_length, block_offset, bodies_place, body_bytes}
+use Rattle.layout.specs.Sizes.{block_count, block_length, block_offset, bodies_place}
 use Rattle.layout.proofs.SizeLaws.{blocks-most, start-most}
 use Rattle.clip.specs.Image.{context_bytes, table_bytes}
 use Rattle.clip.proofs.Tables.{table_none, table-turn}
-use Rattle.dsp.specs.File.{bodies_of, context_at, first_of}
+use Rattle.dsp.specs.File.{bodies_of}
 use Rattle.dsp.specs.Import.{history_before, context_before}
-use Rattle.dsp.specs.inner.Asked.{Tabled}
 use Rattle.dsp.proofs.Contents.{context-six, body-inside, part-is, first_byte, history-start, history-turn, part-long}
 use Rattle.dsp.proofs.importing.put_contents.Statement.{statement}
 use Rattle.dsp.proofs.importing.put_contents.Tie as tie

@@ -1,16 +1,15 @@
 -- `put_image` meets its contract. Assumes nothing.
 use borrow.Author.Rules.{rules}
-use mathlib.Core.List.{List, ◌++◌}
-use mathlib.Core.Path.{◌≡◌, refl, sym, ap, ap₂, ◌∙◌}
-use Prim.Native.Nat.{ℕ, ◌+◌, ◌-◌, ◌*◌, ◌≤◌}
+use mathlib.Core.List.{List}
+use mathlib.Core.Path.{◌≡◌, refl, ap, ◌∙◌}
+use Prim.Native.Nat.{ℕ, ◌+◌, ◌-◌, ◌≤◌}
 use native.Mathlib.Omega.{arith}
 use lib.ListN.{length, take, drop, length-drop}
 use lib.Seq.{sets, length-take-le}
-use Rattle.whole.specs.Frames.{frame_count}
 use Rattle.block.specs.declared.FrameContext.{FrameContext}
 use Rattle.layout.specs.declared.Shape.{Shape}
 use Rattle.layout.specs.Fields.{mark}
-use Rattle.layout.specs.Sizes.{shape, loop_count, entry_place, block_count, bodies_place, body_bytes, image_size, last_frame_samples}
+use Rattle.layout.specs.Sizes.{shape, entry_place, block_count, bodies_place, body_bytes, image_size}
 use Rattle.clip.specs.declared.starting.Start.{Start}
 use Rattle.clip.specs.Image.{start_shape, head_bytes, table_bytes, loop_bytes}
 use Rattle.clip.proofs.FieldRuns.{runs4, head-length, loop-length}

@@ -1,4 +1,4 @@
-use Rattle.std.proofs.Common.{◌<◌, ℕ}
+use Rattle.std.proofs.Common.{◌<◌}
 use Rattle.dsp_list.proofs.text.digest.Given as goal
 
 abbrev pub invariant-loop-byte : goal.invariant-loop-byte

@@ -1,6 +1,6 @@
 -- `shift_right_sticky` meets its contract. Assumes nothing.
 use Rattle.std.proofs.Common.{ℕ, ◌+◌, ◌-◌, ◌*◌, ◌^◌, subst, rules}
-use Rattle.float.specs.inner.Sticky.{Sticky, sticky}
+use Rattle.float.specs.inner.Sticky.{Sticky}
 use Rattle.float.specs.inner.TwoWords.{wide}
 use Rattle.float.proofs.TwoWordShifts.{shift-far, shift-all, two-words}
 use Rattle.float.proofs.two_words.shift_right_sticky.Statement.{statement}

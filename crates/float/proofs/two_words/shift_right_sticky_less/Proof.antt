@@ -1,6 +1,6 @@
 -- `shift_right_sticky_less` meets its contract. Assumes nothing.
 use Rattle.std.proofs.Common.{ℕ, ◌+◌, ◌*◌, ◌/◌, ◌^◌, sym, subst, le_of_lt, mul-one, pow_pos, rules}
-use Rattle.float.specs.inner.Sticky.{Sticky, sticky}
+use Rattle.float.specs.inner.Sticky.{Sticky}
 use Rattle.float.proofs.TwoWordShifts.{shift_fits, shift-words}
 use Rattle.float.proofs.Sticky.{sticky-is}
 use Rattle.float.proofs.two_words.shift_right_sticky_less.Statement.{statement}

@@ -11,7 +11,6 @@ use Rattle.frame.specs.inner.Ends.{difference_at, highest_of, lowest_of}
 use Rattle.frame.proofs.LawsEnds.{two_tops, over_at, under_at, higher-more, lower-more, higher-done, lower-done}
 use Rattle.frame.proofs.estimate.ends_of.Statement.{statement}
 use Rattle.frame.proofs.estimate.ends_of.Tie as tie
-use Rattle.frame.proofs.estimate.ends_of.Lts as lts
 
 abbrev invariant-loop : tie.invariant-loop-i
 invariant-loop c0 c1 frame high₀ low₀ i₀ high low i =

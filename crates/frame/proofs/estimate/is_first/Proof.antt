@@ -13,7 +13,6 @@ use Rattle.frame.proofs.LawsFloor.{wide}
 use Rattle.frame.proofs.LawsEnds.{up-yes, up-no, up-end, same_up, same-down, same-neither}
 use Rattle.frame.proofs.estimate.is_first.Statement.{statement}
 use Rattle.frame.proofs.estimate.is_first.Tie as tie
-use Rattle.frame.proofs.estimate.is_first.Lts as lts
 
 abbrev invariant-loop : tie.invariant-loop-i
 invariant-loop c0 c1 frame high wide i₀ i =

@@ -1,11 +1,10 @@
 -- `low_four` meets its contract.
-use mathlib.Core.Path.{◌≡◌, sym, ap, subst, ◌∙◌}
+use mathlib.Core.Path.{sym, subst}
 use Prim.Native.Nat.{ℕ, ◌<◌}
-use lib.IntN.{ℤ, pos, ◌+ℤ◌}
+use lib.IntN.{pos, ◌+ℤ◌}
 use mir.Syntax.{w8, w64}
 use mir.Val.{to_z, of_z}
-use mir.Facts.{to_z-of_z}
-use Rattle.whole.proofs.SignedLocals.{Is, is-in, is-sized, is-cast, chk-cast, is-lit, is-add, chk-add, is_eq, is-cast-u, chk-cast-u}
+use Rattle.whole.proofs.SignedLocals.{Is, is-sized, is-cast, chk-cast, is-lit, is-add, chk-add, is_eq, is-cast-u, chk-cast-u}
 use Rattle.frame.specs.Frame.{low_four}
 use Rattle.frame.proofs.LawsNibbles.{nibble-size, low-lt, low-neg, low-pos}
 use Rattle.frame.proofs.nibbles.low_four.Statement.{statement}

@@ -1,16 +1,15 @@
 -- `pack_frame` meets its contract. The invariant: the bytes so far are the definition's.
 use mathlib.Core.Path.{◌≡◌, refl, sym, ap₂, ◌∙◌}
-use Prim.Native.Nat.{ℕ, ◌+◌, ◌-◌, ◌*◌, ◌≤◌, ◌<◌}
+use Prim.Native.Nat.{ℕ, ◌+◌, ◌-◌, ◌*◌, ◌≤◌}
 use native.Mathlib.Omega.{arith}
 use native.Mathlib.Nat.{le_of_eq}
 use lib.Seq.{take_all}
-use lib.IntN.{ℤ, pos}
-use lib.ListN.{length, get_or, take, set, length-set}
+use lib.IntN.{pos}
+use lib.ListN.{length, get_or, take, length-set}
 use mir.Syntax.{w8}
-use mir.Val.{SFits, to_z, of_z}
+use mir.Val.{SFits}
 use mir.Facts.{to_z-of_z}
-use Rattle.frame.specs.Frame.{low_four, byte_of, pack_frame}
-use Rattle.frame.specs.inner.Nibbles.{InNibble}
+use Rattle.frame.specs.Frame.{byte_of, pack_frame}
 use Rattle.frame.proofs.LawsNibbles.{pack-more}
 use Rattle.frame.proofs.nibbles.pack_frame.Statement.{statement}
 use Rattle.frame.proofs.nibbles.pack_frame.Tie as tie

@@ -1,8 +1,7 @@
 -- `squared_difference` meets its contract.
-use mathlib.Core.Path.{◌≡◌, refl}
-use lib.IntN.{ℤ, pos, nat_abs, ◌-ℤ◌, ◌*ℤ◌}
+use lib.IntN.{ℤ, ◌-ℤ◌}
 use mir.Syntax.{w16, w64}
-use mir.Val.{SFits, to_z, of_z}
+use mir.Val.{to_z, of_z}
 use Prim.Native.Nat.{ℕ}
 use Rattle.whole.proofs.SignedLocals.{Is, is-16, is-in, is-sub, chk-sub, is_mul, chk-mul, chk-cast, chk-cast-u, is-cast-u, is_eq, mul-self}
 use Rattle.frame.specs.Pass.{squared_difference}

@@ -1,14 +1,13 @@
 -- `fine_of` meets its contract. The invariant: the first i products are stored.
-use mathlib.Core.Path.{◌≡◌, refl, ap, ◌∙◌}
+use mathlib.Core.Path.{◌≡◌, refl}
 use mathlib.Core.List.{List}
-use Prim.Native.Nat.{ℕ, ◌+◌, ◌-◌, ◌*◌, ◌≤◌, ◌<◌}
+use Prim.Native.Nat.{ℕ, ◌+◌, ◌-◌, ◌≤◌, ◌<◌}
 use native.Mathlib.Omega.{arith}
 use lib.IntN.{ℤ, pos, ◌*ℤ◌}
 use lib.ListN.{length, get_or, length-set}
 use mir.Syntax.{w16, w64}
-use mir.Val.{SFits, to_z, of_z}
-use Rattle.whole.proofs.SignedLocals.{Is, is-in, is-cast, chk-cast, is-lit, is_mul, chk-mul}
-use Rattle.frame.specs.inner.Quick.{Fine}
+use mir.Val.{SFits}
+use Rattle.whole.proofs.SignedLocals.{is-in, is-cast, chk-cast, is-lit, is_mul, chk-mul}
 use Rattle.frame.proofs.LawsArrays.{stored_more}
 use Rattle.frame.proofs.LawsOrder.{none_below}
 use Rattle.frame.proofs.places.fine_of.Statement.{statement}

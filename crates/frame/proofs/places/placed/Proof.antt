@@ -14,7 +14,6 @@ use Rattle.frame.proofs.LawsArrays.{array-length, array-fits}
 use Rattle.frame.proofs.LawsPlaces.{filled-behind, placed-done}
 use Rattle.frame.proofs.places.placed.Statement.{statement}
 use Rattle.frame.proofs.places.placed.Tie as tie
-use Rattle.frame.proofs.places.placed.Lts as lts
 
 abbrev invariant-loop : tie.invariant-loop-i
 invariant-loop samples older newest out₀ i₀ out i = (i ≤ 14) × (out ≡ to_z w16 older ∷ to_z w16 newest ∷ (take i samples ++ replicate (16 - i) (pos 0)))

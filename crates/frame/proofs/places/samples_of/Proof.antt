@@ -11,7 +11,6 @@ use mir.Facts.{to_z-of_z}
 use Rattle.frame.proofs.LawsPlaces.{samples-more, samples-done}
 use Rattle.frame.proofs.places.samples_of.Statement.{statement}
 use Rattle.frame.proofs.places.samples_of.Tie as tie
-use Rattle.frame.proofs.places.samples_of.Lts as lts
 
 abbrev invariant-loop : tie.invariant-loop-i
 invariant-loop frame out₀ i₀ out i = (i ≤ 14) × (out ≡ take i (drop 2 frame) ++ replicate (14 - i) (pos 0))

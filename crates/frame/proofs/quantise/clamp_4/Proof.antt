@@ -1,5 +1,5 @@
 -- `clamp_4` meets its contract.
-use mathlib.Core.Path.{◌≡◌, sym}
+use mathlib.Core.Path.{sym}
 use mir.Facts.{to_z-of_z}
 use Rattle.whole.proofs.Clamping.{clamp-low, clamp-high, clamp-mid}
 use Rattle.frame.proofs.quantise.clamp_4.Statement.{statement}

@@ -1,6 +1,5 @@
 -- `excess` meets its contract: the distance from the nearer end.
-use mathlib.Core.Path.{◌≡◌}
-use lib.IntN.{ℤ, pos, negsuc, nat_abs, ◌-ℤ◌}
+use lib.IntN.{pos, negsuc, nat_abs, ◌-ℤ◌}
 use mathlib.Core.Path.{refl}
 use native.Mathlib.Omega.{arith}
 use mir.Syntax.{w64}

@@ -1,7 +1,7 @@
 -- `nearest_even` meets its contract: half the unit less one is added, and one where the quotient is odd.
 use borrow.Author.Rules.{rules}
 use mathlib.Core.Path.{◌≡◌}
-use Prim.Native.Nat.{ℕ, ◌+◌, ◌/◌, ◌%◌, ◌*◌, ◌^◌, ◌-◌, ◌≤◌, ◌<◌}
+use Prim.Native.Nat.{◌%◌, ◌*◌, ◌^◌, ◌-◌, ◌≤◌}
 use native.Mathlib.Omega.{arith}
 use lib.Pow.{pow_mono, pow_pos}
 use Rattle.frame.proofs.LawsQuantise.{one_shl, halves, even_is}

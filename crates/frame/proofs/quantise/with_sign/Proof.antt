@@ -1,10 +1,9 @@
 -- `with_sign` meets its contract.
 use borrow.Author.Rules.{rules}
-use mathlib.Core.Path.{◌≡◌, ◌∙◌}
-use native.Mathlib.Omega.{arith}
+use mathlib.Core.Path.{◌∙◌}
 use mir.Syntax.{w64}
 use mir.Facts.{to_z-of_z}
-use Rattle.whole.proofs.SignedLocals.{Is, is-nat, is-lit, is-sub, chk-sub}
+use Rattle.whole.proofs.SignedLocals.{is-nat, is-lit, is-sub, chk-sub}
 use Rattle.frame.proofs.LawsQuantise.{sign-neg, sign_pos}
 use Rattle.frame.proofs.quantise.with_sign.Statement.{statement}
 use Rattle.frame.proofs.quantise.with_sign.Tie as tie

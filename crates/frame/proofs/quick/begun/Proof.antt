@@ -1,6 +1,6 @@
 -- `begun` meets its contract: each value of the code with its number and its size.
 use mathlib.Core.Path.{ap₂}
-use lib.IntN.{ℤ, ◌-ℤ◌, ◌*ℤ◌}
+use lib.IntN.{◌*ℤ◌}
 use mir.Syntax.{w64}
 use mir.Val.{to_z, of_z}
 use mir.Facts.{to_z-of_z}

@@ -10,11 +10,10 @@ use lib.ListN.{get_or, set}
 use mir.Syntax.{w16, w32, w64}
 use mir.Val.{SFits, to_z, of_z}
 use mir.Facts.{to_z-of_z}
-use Rattle.whole.proofs.SignedLocals.{Is, is-in, is-cast, chk-cast, is-lit, is_mul, chk-mul, is-add, chk-add, is_call, is-size, sfits-abs, abs-sfits, abs-add, abs-sub, abs-mul}
+use Rattle.whole.proofs.SignedLocals.{Is, is-in, is-cast, chk-cast, is-lit, is_mul, chk-mul, is-add, chk-add, is_call, is-size, abs-sfits, abs-sub, abs-mul}
 use Rattle.frame.specs.declared.quick.Traced.{Traced}
 use Rattle.frame.specs.declared.quick.Scales.{Scales}
-use Rattle.frame.specs.Pass.{residual}
-use Rattle.frame.specs.inner.Quick.{Roomy, Steps, ScalesOf, fine_scale, raised, rest_of, traced_by, trace, trace_at, tracked}
+use Rattle.frame.specs.inner.Quick.{Roomy, Steps, fine_scale, rest_of, traced_by, trace, trace_at, tracked}
 use Rattle.frame.proofs.LawsPlaces.{sample-at}
 use Rattle.frame.proofs.LawsQuick.{y_of, w_of, traced-is, weigh-le, rest_le, w-size, raised-size, sum-size, product_le, fine-scale-pos, shl-le, newest_at, older_at, at, Ran, ran-start, ran-more, ran-done, newest-more, older-more, within-16}
 use Rattle.frame.proofs.quick.run_quick.Statement.{statement}

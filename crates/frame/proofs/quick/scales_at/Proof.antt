@@ -1,9 +1,9 @@
 -- `scales_at` meets its contract: each value of the code with its number and its size.
 use borrow.Author.Rules.{rules}
 use mathlib.Core.Path.{◌≡◌, ap, ◌∙◌}
-use Prim.Native.Nat.{ℕ, ◌-◌, ◌*◌, ◌%◌, ◌^◌, ◌≤◌}
+use Prim.Native.Nat.{ℕ, ◌-◌, ◌*◌, ◌%◌, ◌^◌}
 use native.Mathlib.Omega.{arith}
-use lib.IntN.{ℤ, pos, ◌-ℤ◌}
+use lib.IntN.{pos, ◌-ℤ◌}
 use mir.Syntax.{w64}
 use Rattle.whole.proofs.Differences.{diff-pos, diff-sub, diff-eq}
 use Rattle.whole.proofs.SignedLocals.{Is, is-lit, is_mul, chk-mul, is-add, chk-add, is-sub, chk-sub}

@@ -1,5 +1,4 @@
 -- `is_last` meets its contract.
-use mathlib.Core.Path.{◌≡◌, refl}
 use borrow.Author.Tests.{eq-eqb, ne_eqb}
 use Rattle.frame.specs.Search.{is_last}
 use Rattle.frame.proofs.search.is_last.Statement.{statement}

@@ -1,7 +1,7 @@
 -- `raise` meets its contract. The invariant: some number of turns leads from here to what the definition gives.
 use mathlib.Core.Path.{◌≡◌, refl}
 use mathlib.Core.Logic.{⊎_elim}
-use Prim.Native.Nat.{ℕ, ◌+◌, ◌≤◌, min}
+use Prim.Native.Nat.{◌+◌, ◌≤◌, min}
 use native.Mathlib.Omega.{arith}
 use Rattle.frame.specs.Search.{raise}
 use Rattle.frame.proofs.LawsSearch.{Left, left-more, left-done}

@@ -1,5 +1,5 @@
 -- `read_context` meets its contract. Assumes nothing.
-use mathlib.Core.Path.{◌≡◌, ◌∙◌}
+use mathlib.Core.Path.{◌∙◌}
 use native.Mathlib.Omega.{arith}
 use Rattle.image.specs.Reading.{header_in, newest_in, older_in}
 use Rattle.image.proofs.LawsBody.{context-made}

@@ -1,6 +1,5 @@
 -- `read_entry` meets its contract. Assumes nothing.
 use native.Mathlib.Omega.{arith}
-use mathlib.Core.Path.{◌∙◌}
 use Rattle.image.specs.Reading.{offset_in, length_in}
 use Rattle.image.proofs.LawsBody.{found_within, found-entry}
 use Rattle.image.proofs.bodies.read_entry.Statement.{statement}

@@ -1,5 +1,4 @@
 -- `both_answer` meets its contract. Assumes nothing.
-use mathlib.Core.Path.{◌≡◌}
 use Rattle.image.specs.Sameness.{both_answer}
 use borrow.Author.Rules.{rules}
 use Rattle.image.proofs.checks.both_answer.Statement.{statement}

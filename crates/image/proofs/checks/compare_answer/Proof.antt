@@ -1,5 +1,5 @@
 -- `compare_answer` meets its contract. Assumes nothing.
-use mathlib.Core.Path.{ap, ◌≡◌, sym, ◌∙◌}
+use mathlib.Core.Path.{ap, sym, ◌∙◌}
 use Rattle.image.specs.Sameness.{compare_answer}
 use Rattle.image.specs.Opening.{outcome}
 use Rattle.image.proofs.OpenImages.{opened}

@@ -1,7 +1,7 @@
 -- `open_answer` meets its contract. Assumes nothing.
 use borrow.Author.Rules.{rules}
 use borrow.Author.Tests.{not-true, not-false}
-use mathlib.Core.Path.{◌≡◌, sym, ap, ◌∙◌}
+use mathlib.Core.Path.{◌≡◌, sym, ◌∙◌}
 use Rattle.layout.specs.Sizes.{block_count}
 use Rattle.image.specs.Opening.{outcome, entries_answer, open_answer}
 use Rattle.image.specs.Reading.{shape_in}

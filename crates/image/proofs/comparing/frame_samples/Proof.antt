@@ -1,9 +1,6 @@
 -- `frame_samples` meets its contract. Assumes nothing.
 use borrow.Author.Rules.{rules}
 use mathlib.Core.Path.{◌∙◌}
-use borrow.Author.Tests.{lt-ltb, le-ltb}
-use Rattle.whole.specs.Frames.{frame_count}
-use Rattle.image.specs.inner.ByFrames.{frame_samples}
 use Rattle.image.proofs.FramePlaces.{count-whole, count-last}
 use native.Mathlib.Omega.{arith}
 use mathlib.Core.Path.{sym}

@@ -1,13 +1,13 @@
 -- `next_frame` meets its contract. Assumes nothing.
 use borrow.Author.Rules.{rules}
-use mathlib.Core.Path.{◌≡◌, ap, ◌∙◌}
+use mathlib.Core.Path.{ap, ◌∙◌}
 use native.Mathlib.Omega.{arith}
 use Rattle.layout.specs.Sizes.{bodies_place}
 use Rattle.image.specs.declared.Head.{Head}
 use Rattle.image.specs.Reading.{head_in}
 use Rattle.image.specs.inner.Asked.{Source}
 use Rattle.image.specs.inner.ByFrames.{frame_place_in, next_frame}
-use Rattle.image.proofs.FramePlaces.{Placed, placed, place-made, turn-source}
+use Rattle.image.proofs.FramePlaces.{placed, place-made, turn-source}
 use Rattle.image.proofs.comparing.next_frame.Statement.{statement}
 use Rattle.image.proofs.comparing.next_frame.Tie as tie
 

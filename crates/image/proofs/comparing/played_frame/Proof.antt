@@ -1,7 +1,6 @@
 -- `played_frame` meets its contract. Assumes nothing.
-use mathlib.Core.Path.{◌≡◌, ap}
+use mathlib.Core.Path.{ap}
 use Rattle.block.specs.Frame.{Playing}
-use Rattle.image.specs.declared.comparing.Frame.{Frame}
 use Rattle.image.specs.inner.ByFrames.{played_frame}
 use borrow.Author.Rules.{rules}
 use Rattle.image.proofs.comparing.played_frame.Statement.{statement}

@@ -1,9 +1,9 @@
 -- `numbers_fit` meets its contract. Assumes nothing.
 use borrow.Author.Rules.{rules}
-use mathlib.Core.Path.{◌≡◌, sym, ap, ◌∙◌}
+use mathlib.Core.Path.{sym, ap, ◌∙◌}
 use borrow.Author.Tests.{not-true, not-false, lt-leb, le-leb, eq-eqb, ne_eqb}
 use Rattle.layout.specs.Limits.{Limits}
-use Rattle.layout.specs.Sizes.{shape, block_count, image_size}
+use Rattle.layout.specs.Sizes.{block_count, image_size}
 use Rattle.layout.proofs.LimitLaws.{numbers-sound}
 use Rattle.image.specs.Opening.{numbers_fit}
 use Rattle.image.proofs.heading.numbers_fit.Statement.{statement}

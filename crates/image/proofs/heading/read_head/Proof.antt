@@ -1,5 +1,4 @@
 -- `read_head` meets its contract. Assumes nothing.
-use mathlib.Core.Path.{◌≡◌}
 use Rattle.image.specs.Reading.{total_in, rate_in, block_in, gain_in, blocks_in, head_in}
 use borrow.Author.Rules.{rules}
 use Rattle.image.proofs.heading.read_head.Statement.{statement}

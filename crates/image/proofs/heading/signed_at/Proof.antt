@@ -1,5 +1,5 @@
 -- `signed_at` meets its contract. Assumes nothing.
-use mathlib.Core.Path.{◌≡◌, ap, ◌∙◌}
+use mathlib.Core.Path.{ap, ◌∙◌}
 use lib.IntN.{ℤ}
 use mir.Syntax.{w16}
 use mir.Val.{Fits, of_z, to_z}

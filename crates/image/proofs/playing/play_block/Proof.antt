@@ -1,13 +1,11 @@
 -- `play_block` meets its contract. Assumes nothing.
 use borrow.Author.Rules.{rules}
-use mathlib.Core.List.{List}
 use mathlib.Core.Path.{◌≡◌, ap, ◌∙◌}
-use Prim.Native.Nat.{ℕ, ◌+◌, ◌*◌, ◌/◌}
+use Prim.Native.Nat.{◌+◌, ◌/◌}
 use native.Mathlib.Omega.{arith}
 use lib.ListN.{take, drop}
 use Rattle.image.specs.declared.bodies.Entry.{Entry}
 use Rattle.image.specs.Bodies.{body_in}
-use Rattle.image.specs.Reading.{offset_in, length_in}
 use Rattle.image.proofs.LawsBody.{found-end, found_some, body-length}
 use Rattle.image.proofs.playing.play_block.Statement.{statement}
 use Rattle.image.proofs.playing.play_block.Tie as tie

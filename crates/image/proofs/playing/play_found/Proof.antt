@@ -1,7 +1,6 @@
 -- `play_found` meets its contract. Assumes nothing.
 use borrow.Author.Rules.{rules}
 use mathlib.Core.Path.{◌≡◌, ap, sym, ◌∙◌}
-use Prim.Native.Nat.{ℕ}
 use lib.ListN.{length}
 use Rattle.block.specs.Address.{address_to_sample}
 use Rattle.image.specs.declared.bodies.Entry.{Entry}

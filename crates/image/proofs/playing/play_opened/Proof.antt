@@ -1,8 +1,6 @@
 -- `play_opened` meets its contract. Assumes nothing.
 use borrow.Author.Rules.{rules}
 use mathlib.Core.Path.{◌≡◌, ap, sym, ◌∙◌}
-use Prim.Native.Nat.{ℕ}
-use native.Mathlib.Omega.{arith}
 use lib.ListN.{length}
 use Rattle.image.specs.Opening.{outcome}
 use Rattle.image.specs.Reading.{total_in, coefficients_in}

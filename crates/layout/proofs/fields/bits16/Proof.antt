@@ -1,13 +1,12 @@
 -- `bits16` meets its contract. Assumes nothing.
-use native.Mathlib.Omega.{arith}
 use lib.Dec.{T}
 use lib.Signed.{non_neg}
-use lib.IntN.{ℤ, pos, nat_abs, ◌+ℤ◌}
-use mathlib.Core.Path.{subst, sym, ap, ◌∙◌}
+use lib.IntN.{ℤ, nat_abs}
+use mathlib.Core.Path.{subst, sym, ap}
 use mir.ValLaws.{to_z-of_z, of_z_fits}
-use mir.Val.{SFits, Fits, of_z, to_z}
+use mir.Val.{SFits, Fits}
 use mir.Syntax.{w16, w32}
-use Rattle.whole.proofs.SixteenBits.{sum, up, neg, inner, nonneg, fits32}
+use Rattle.whole.proofs.SixteenBits.{sum, up, inner, nonneg, fits32}
 use Rattle.layout.proofs.fields.bits16.Statement.{statement}
 use Rattle.layout.proofs.fields.bits16.Tie as tie
 

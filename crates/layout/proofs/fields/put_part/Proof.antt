@@ -1,14 +1,11 @@
 -- `put_part` meets its contract. Assumes nothing.
-use lib.ListN.{set, get_or}
-use Rattle.whole.proofs.Stores.{sets-take, sets-replicate}
+use Rattle.whole.proofs.Stores.{sets-take}
 use borrow.Author.Rules.{rules}
-use native.Mathlib.Numerals.{add-one}
 use native.Mathlib.Omega.{arith}
-use lib.Seq.{sets, length-sets, take-suc, length-take-le}
-use lib.ListN.{length, take, replicate, length-set, length-replicate}
-use mathlib.Core.List.{List}
-use mathlib.Core.Path.{◌≡◌, refl, sym, ap, ◌∙◌}
-use Prim.Native.Nat.{ℕ, suc, ◌≤◌, ◌+◌, ◌-◌}
+use lib.Seq.{sets, length-sets}
+use lib.ListN.{length, take}
+use mathlib.Core.Path.{◌≡◌, refl, ap, ◌∙◌}
+use Prim.Native.Nat.{◌≤◌, ◌-◌}
 use Rattle.layout.proofs.fields.put_part.Statement.{statement}
 use Rattle.layout.proofs.fields.put_part.Tie as tie
 

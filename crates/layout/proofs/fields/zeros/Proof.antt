@@ -1,14 +1,10 @@
 -- `zeros` meets its contract. Assumes nothing.
-use lib.ListN.{set, get_or}
-use Rattle.whole.proofs.Stores.{sets-take, sets-replicate}
-use borrow.Author.Rules.{rules}
-use native.Mathlib.Numerals.{add-one}
+use Rattle.whole.proofs.Stores.{sets-replicate}
 use native.Mathlib.Omega.{arith}
-use lib.Seq.{sets, length-sets, take-suc, length-take-le}
-use lib.ListN.{length, take, replicate, length-set, length-replicate}
-use mathlib.Core.List.{List}
-use mathlib.Core.Path.{◌≡◌, refl, sym, ap, ◌∙◌}
-use Prim.Native.Nat.{ℕ, suc, ◌≤◌, ◌+◌, ◌-◌}
+use lib.Seq.{sets, length-sets}
+use lib.ListN.{length, replicate}
+use mathlib.Core.Path.{◌≡◌, refl, ap, ◌∙◌}
+use Prim.Native.Nat.{◌≤◌, ◌-◌}
 use Rattle.layout.proofs.fields.zeros.Statement.{statement}
 use Rattle.layout.proofs.fields.zeros.Tie as tie
 

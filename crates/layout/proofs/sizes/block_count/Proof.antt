@@ -6,9 +6,6 @@ use Rattle.layout.specs.Sizes.{block_count}
 use Rattle.layout.proofs.SizeLaws.{blocks-le}
 use Rattle.layout.proofs.sizes.block_count.Statement.{statement}
 use Rattle.layout.proofs.sizes.block_count.Tie as tie
-use Rattle.layout.proofs.sizes.block_count.Reads as reads
-use Rattle.layout.proofs.sizes.block_count.Lts as lts
-use Rattle.layout.proofs.sizes.frame_count.Reads as frame-count-reads
 use Rattle.whole.specs.Frames.{frame_count}
 
 -- src/sizes.rt:36:10

@@ -1,5 +1,5 @@
 use borrow.Author.Rules.{rules}
-use mathlib.Core.Path.{◌≡◌, ap₂, ◌∙◌}
+use mathlib.Core.Path.{ap₂, ◌∙◌}
 use Prim.Native.Nat.{ℕ, ◌+◌, ◌-◌, ◌*◌, ◌/◌}
 use native.Mathlib.Omega.{arith}
 use borrow.Author.Tests.{lt-ltb, le-ltb}
@@ -8,10 +8,6 @@ use Rattle.whole.specs.Frames.{frame_count}
 use Rattle.layout.proofs.SizeLaws.{block-first, frames-some}
 use Rattle.layout.proofs.sizes.block_length.Statement.{statement}
 use Rattle.layout.proofs.sizes.block_length.Tie as tie
-use Rattle.layout.proofs.sizes.block_length.Reads as reads
-use Rattle.layout.proofs.sizes.block_length.Lts as lts
-use Rattle.layout.proofs.sizes.frame_count.Reads as frame-count-reads
-use Rattle.layout.proofs.sizes.last_samples.Reads as last-samples-reads
 
 -- src/sizes.rt:87:9
 frame-count-requires : tie.Need-frame_count-f-requires

@@ -6,10 +6,6 @@ use Rattle.layout.specs.Sizes.{body_bytes, last_frame_samples}
 use Rattle.whole.specs.Frames.{frame_count}
 use Rattle.layout.proofs.sizes.body_bytes.Statement.{statement}
 use Rattle.layout.proofs.sizes.body_bytes.Tie as tie
-use Rattle.layout.proofs.sizes.body_bytes.Reads as reads
-use Rattle.layout.proofs.sizes.body_bytes.Lts as lts
-use Rattle.layout.proofs.sizes.frame_count.Reads as frame-count-reads
-use Rattle.layout.proofs.sizes.last_samples.Reads as last-samples-reads
 
 -- src/sizes.rt:45:10
 frame-count-requires : tie.Need-frame_count-requires

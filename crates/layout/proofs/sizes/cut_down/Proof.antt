@@ -3,8 +3,6 @@ use mathlib.Core.Path.{refl}
 use Rattle.layout.specs.Sizes.{cut_down}
 use Rattle.layout.proofs.sizes.cut_down.Statement.{statement}
 use Rattle.layout.proofs.sizes.cut_down.Tie as tie
-use Rattle.layout.proofs.sizes.cut_down.Reads as reads
-use Rattle.layout.proofs.sizes.cut_down.Lts as lts
 
 -- src/sizes.rt:76:5
 mul-result : tie.Need-overflow_mul-result

@@ -4,8 +4,6 @@ use native.Mathlib.Omega.{arith}
 use Rattle.whole.specs.Frames.{frame_count}
 use Rattle.layout.proofs.sizes.frame_count.Statement.{statement}
 use Rattle.layout.proofs.sizes.frame_count.Tie as tie
-use Rattle.layout.proofs.sizes.frame_count.Reads as reads
-use Rattle.layout.proofs.sizes.frame_count.Lts as lts
 
 -- src/sizes.rt:17:6
 add-result : tie.Need-overflow_add-result

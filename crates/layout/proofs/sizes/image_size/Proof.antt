@@ -6,10 +6,6 @@ use Rattle.layout.specs.Sizes.{image_size, block_count, body_bytes, last_frame_s
 use Rattle.layout.proofs.SizeLaws.{blocks-most}
 use Rattle.layout.proofs.sizes.image_size.Statement.{statement}
 use Rattle.layout.proofs.sizes.image_size.Tie as tie
-use Rattle.layout.proofs.sizes.image_size.Reads as reads
-use Rattle.layout.proofs.sizes.image_size.Lts as lts
-use Rattle.layout.proofs.sizes.bodies_place.Reads as bodies-place-reads
-use Rattle.layout.proofs.sizes.body_bytes.Reads as body-bytes-reads
 use Rattle.whole.specs.Frames.{frame_count}
 
 -- src/sizes.rt:69:5

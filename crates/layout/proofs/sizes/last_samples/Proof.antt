@@ -6,9 +6,6 @@ use Rattle.layout.specs.Sizes.{last_frame_samples}
 use Rattle.whole.specs.Frames.{frame_count}
 use Rattle.layout.proofs.sizes.last_samples.Statement.{statement}
 use Rattle.layout.proofs.sizes.last_samples.Tie as tie
-use Rattle.layout.proofs.sizes.last_samples.Reads as reads
-use Rattle.layout.proofs.sizes.last_samples.Lts as lts
-use Rattle.layout.proofs.sizes.frame_count.Reads as frame-count-reads
 
 -- src/sizes.rt:26:19
 frame-count-requires : tie.Need-frame_count-requires
