@@ -6,8 +6,9 @@ DESTDIR ?=
 CFLAGS ?= -O2 -g
 CXXFLAGS ?= -O2 -g
 
-LIB_DIR = target/staticlib
+LIB_DIR = crates/doilycairn/out
 ARCHIVE = $(LIB_DIR)/libdoilycairn.a
+# What is built here but for the archive and the program stands in target/.
 OUT = target/examples
 EXAMPLES = $(OUT)/encode $(OUT)/play $(OUT)/part $(OUT)/loop $(OUT)/dsp_file $(OUT)/compare $(OUT)/refusals $(OUT)/undo $(OUT)/floating $(OUT)/round_trip
 WARNINGS = -Wall -Wextra -Wconversion -pedantic
@@ -26,7 +27,7 @@ help: ## this list
 	@sed -n 's/^\([a-z-]*\):.*## \(.*\)/  \1\t\2/p' Makefile | expand -t 16
 
 lib: ## proves the library and writes the archive; quick where nothing changed
-	rt staticlib doilycairn
+	cd crates/doilycairn && rt lib
 
 examples: $(EXAMPLES) ## the examples in C and C++
 

@@ -1,4 +1,5 @@
-//! Finds libdoilycairn.a: in the folder that DOILYCAIRN_LIB_DIR names, else in ../target/staticlib.
+//! Finds libdoilycairn.a: in the folder that DOILYCAIRN_LIB_DIR names, else in
+//! ../crates/doilycairn/out.
 
 use std::env;
 use std::path::{Path, PathBuf};
@@ -11,14 +12,14 @@ fn folder() -> PathBuf {
     let here = PathBuf::from(env::var_os("CARGO_MANIFEST_DIR").expect("cargo sets it"));
     match env::var_os(VARIABLE) {
         Some(named) => here.join(named),
-        None => here.join("../target/staticlib"),
+        None => here.join("../crates/doilycairn/out"),
     }
 }
 
 /// Ends the build with what to do.
 fn missing(archive: &Path) -> ! {
     eprintln!("error: there is no {}", archive.display());
-    eprintln!("Build it with `rt staticlib doilycairn` in the repository's root,");
+    eprintln!("Build it with `make lib` in the repository's root,");
     eprintln!("or set {VARIABLE} to the folder that has {ARCHIVE}.");
     std::process::exit(1)
 }

@@ -52,7 +52,7 @@
 //! # Linking
 //!
 //! The build looks for `libdoilycairn.a` in the folder that `DOILYCAIRN_LIB_DIR` names (a relative path counts from this crate's folder), else in
-//! `../target/staticlib`, where `rt staticlib doilycairn` puts it. The archive is for x86-64 Linux.
+//! `../crates/doilycairn/out`, where `make lib` puts it. The archive is for x86-64 Linux.
 
 mod block;
 mod coefficients;

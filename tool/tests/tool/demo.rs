@@ -10,16 +10,17 @@ use std::process::{Command, Output, Stdio};
 const CHECKER: &str = r#"#!/bin/sh
 for crate in whole float coefficients layout frame block clip image doilycairn; do
     echo "fn $crate::something: proved"
-    echo "rt: $crate proved (1 s)"
+    echo "library whole: modules loaded=3 checked=0"
+    echo "crate $crate: modules loaded=9 checked=1"
+    echo "logic=proved functions=1"
 done
-echo "rt: written"
 "#;
 
 /// Crates, as crates.txt has them; not all are the library's.
 const CRATES: &str = "# NAME: the crates that it knows.
 whole:
 float:
-float_list: float io libc
+float_list: float replay
 coefficients: whole float
 frame: whole
 block: whole
@@ -27,7 +28,7 @@ layout: whole
 clip: whole layout frame
 image: whole layout block
 round_trip: coefficients layout clip image frame block whole
-doilycairn: coefficients layout frame block clip image whole
+doilycairn staticlib: coefficients layout frame block clip image whole
 ";
 
 /// A builder that builds nothing; to run is to copy the files that are ready.
@@ -46,7 +47,7 @@ fn script(folder: &Folder, name: &str, text: &str) {
 /// A folder with all that ./demo reads.
 fn folder(checker: &str) -> Folder {
     let folder = Folder::new();
-    for name in ["bin", "docs", "ready", "built", "built/release"] {
+    for name in ["bin", "docs", "ready", "built", "built/release", "crates", "crates/doilycairn"] {
         fs::create_dir(folder.path(name)).unwrap();
     }
     script(&folder, "demo", include_str!("../../../demo"));
@@ -107,12 +108,12 @@ fn it_tells_which_crate_is_proved_and_what_to_open() {
 #[test]
 fn a_proof_that_fails_is_told() {
     let folder =
-        folder("#!/bin/sh\necho 'rt: whole proved (1 s)'\necho 'rt: float REFUSED'\nexit 1\n");
+        folder("#!/bin/sh\necho 'fn whole::something: proved'\necho 'float: error'\nexit 1\n");
     let output = demo(&folder);
     let err = String::from_utf8(output.stderr).unwrap();
     assert_eq!(output.status.code(), Some(1));
     assert!(
-        err.contains("float REFUSED") && err.contains("not proved: see target/demo.log"),
+        err.contains("float: error") && err.contains("not proved: see target/demo.log"),
         "{err}"
     );
 }
