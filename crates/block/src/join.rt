@@ -6,7 +6,8 @@ ghost use Rattle.std.proofs.lemmas.List.Edits.{sets};
 pub(crate) fn shorter(room: usize, first: usize, second: usize) -> bool
     ensures { result ≡ ltb room (first + second) }
 {
-    if room < first {
+    let short = room < first;
+    if short {
         return true;
     }
     room - first < second

@@ -182,7 +182,8 @@ pub fn play_bytes(
         };
     }
     let count = address_to_sample(len);
-    if (out.len() as u64) < count {
+    let short = (out.len() as u64) < count;
+    if short {
         return Playback {
             answer: PlayAnswer::Refused(Refusal::OutputTooShort),
             context: context,

@@ -8,7 +8,8 @@ pub(crate) fn signed_nibble(nibble: u8) -> i64
     requires { nibble < 16 }
     ensures { result ≡ signed_nibble nibble }
 {
-    if nibble < 8 {
+    let positive = nibble < 8;
+    if positive {
         return nibble as i64;
     }
     nibble as i64 - 16

@@ -67,7 +67,8 @@ pub(crate) fn feed_answer(e: Encoder, piece: usize, room: usize) -> Answer
     let n = e.fed as usize;
     let total = e.total as usize;
     let shape = encoder_shape(e);
-    if room < image_size(shape) {
+    let short = room < image_size(shape);
+    if short {
         return Answer::Refused(Refusal::ImageTooShort);
     }
     let closed = e.closed;
@@ -90,7 +91,8 @@ pub(crate) fn close_answer(e: Encoder, room: usize) -> Answer
     let n = e.fed;
     let total = e.total;
     let clip = encoder_shape(e);
-    if room < image_size(clip) {
+    let short = room < image_size(clip);
+    if short {
         return Answer::Refused(Refusal::ImageTooShort);
     }
     let closed = e.closed;
@@ -108,7 +110,8 @@ pub(crate) fn start_answer(g: Start, room: usize) -> Answer
     ensures { outcome result ≡ start_answer g room }
 {
     let total = g.total;
-    if total < 1 {
+    let none = total < 1;
+    if none {
         return Answer::Refused(Refusal::BadSampleCount);
     }
     if total > MOST_SAMPLES {
@@ -134,7 +137,8 @@ pub(crate) fn start_answer(g: Start, room: usize) -> Answer
         return Answer::Refused(Refusal::LoopOutside);
     }
     let asked = shape_of(total, cut_down(wanted), loop_count(looped));
-    if room < image_size(asked) {
+    let short = room < image_size(asked);
+    if short {
         return Answer::Refused(Refusal::ImageTooShort);
     }
     Answer::Accepted

@@ -117,7 +117,8 @@ pub(crate) fn feed_all(e: Encoder, piece: &[i16], image: &mut [u8]) -> Encoder
         frame[at] = piece[i];
         n += 1;
         i += 1;
-        if at < 13 {
+        let unfinished = at < 13;
+        if unfinished {
             continue;
         }
         let full = encode_full(image, shape, q, e, history, frame, context);

@@ -50,7 +50,8 @@ fn long_enough(file: &[u8]) -> bool
 fn of_sample(total: u32, address: u32) -> bool
     ensures { result ≡ of_sample total address }
 {
-    if address % 16 < 2 {
+    let in_header = address % 16 < 2;
+    if in_header {
         return false;
     }
     address_to_sample(address) < total as u64
@@ -173,7 +174,8 @@ pub(crate) fn import_answer(file: &[u8], size: u32, room: usize) -> Answer
     let answer = file_answer(file, size);
     match answer {
         Answer::Accepted => {
-            if room < image_bytes(clip_of(file, size)) {
+            let short = room < image_bytes(clip_of(file, size));
+            if short {
                 return Answer::Refused(Refusal::ImageTooShort);
             }
             Answer::Accepted

@@ -76,7 +76,8 @@ fn is_less(a: f64, b: f64) -> bool
 pub fn max(a: f64, b: f64) -> f64
     ensures { result ≡ Op.maximum_number a b }
 {
-    if a != a || is_less(a, b) { b } else { a }
+    let nan = a != a;
+    if nan || is_less(a, b) { b } else { a }
 }
 
 // The smaller of a and b: of a NaN and a number the number, of -0 and +0 the former.

@@ -58,7 +58,8 @@ fn rounded(neg: bool, w: u64, x: u64) -> u64
     requires { (2 ^ 63 ≤ w) × (x < 8192) }
     ensures { (m : ℕ) → Sticky m w (2 ^ x) → result ≡ to_bits binary64 (rounded 1262 neg m) }
 {
-    if x < 1198 {
+    let tiny = x < 1198;
+    if tiny {
         pattern(neg, 0, 0)
     } else if x < 1251 {
         pattern(neg, nearest_even(w, 1262 - x), 0)

@@ -102,7 +102,8 @@ pub(crate) fn first_exponent(c0: i16, c1: i16, frame: &[i16; 18]) -> u8
     if low < high {
         return up;
     }
-    if is_first(c0, c1, frame, e.high) {
+    let highest_first = is_first(c0, c1, frame, e.high);
+    if highest_first {
         return up;
     }
     down

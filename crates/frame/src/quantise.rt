@@ -59,7 +59,8 @@ fn rounded(d: i64) -> i64
     ensures { result ≡ with_sign d (round24 (nat_abs d)) }
 {
     let m = magnitude(d);
-    if m < 16777216 {
+    let short = m < 16777216;
+    if short {
         return d;
     }
     with_sign(d, round_24(m))
@@ -72,7 +73,8 @@ fn nearest(d: i64, p: u8) -> i64
     ensures { result ≡ with_sign d (nearest_down (nat_abs d) (scale p)) }
 {
     let half = 1024 * (1i64 << p);
-    if 0 < d {
+    let above = 0 < d;
+    if above {
         return (d + half - 1) >> (p + 11);
     }
     (d + half) >> (p + 11)

@@ -118,10 +118,11 @@ pub(crate) fn show(frame: &[i16; 18], w: &[i32; 16], s: &[i16; 16], p: u8) -> Se
         low = low + e % 65536;
         i = i + 1;
     }
+    let apart = near == 0;
     Seen {
         nibbles: nibbles,
         overflow: above_seven(most),
         distance: (high as u64) * 65536 + (low as u64),
-        sure: near == 0 && most < 256,
+        sure: apart && most < 256,
     }
 }

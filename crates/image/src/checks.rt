@@ -38,7 +38,8 @@ pub(crate) fn room_answer(coefficients: [i16; 16], samples: u64, room: usize) ->
     if lowest_pair(coefficients) {
         return Answer::Refused(Refusal::LowestPair);
     }
-    if (room as u64) < samples {
+    let short = (room as u64) < samples;
+    if short {
         return Answer::Refused(Refusal::OutputTooShort);
     }
     Answer::Accepted

@@ -46,7 +46,8 @@ fn context_before(
     ensures { result ≡ context_before image.now i before }
 {
     let per = block / BYTES_PER_FRAME;
-    if i % per == 0 {
+    let begins = i % per == 0;
+    if begins {
         let entry = read_entry(image, i / per);
         let context = entry.context;
         return context;

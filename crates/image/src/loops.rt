@@ -68,7 +68,8 @@ pub fn loop_context(image: &[u8], looped: Loop) -> FrameContext
 fn entry_told(told: u32, header: u32, zero: u32) -> bool
     ensures { result ≡ eqb told header && eqb zero 0 }
 {
-    told == header && zero == 0
+    let same = told == header;
+    same && zero == 0
 }
 
 // Code 24 is not to be given: no loop, or one within N samples whose entry tells its frame's header byte and ends in zeros.

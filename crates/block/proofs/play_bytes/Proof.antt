@@ -38,7 +38,7 @@ no-lowest c = sym c.before.lowest_pair.ensures ∙ c.if-lowest_pair.false
 address-to-sample-requires : tie.Need-address_to_sample-count-requires
 address-to-sample-requires c κs = search rules
 
-returns-3 : tie.Need-returns-then-out-count
+returns-3 : tie.Need-returns-then-short
 returns-3 c =
     let t = c.before.before in
     let e = t.before.before in

@@ -10,11 +10,11 @@ is-less-requires : tie.Need-is_less-requires
 is-less-requires c κs = search rules
 
 -- the test of the branch
-test : (c : tie.Joined-a) → let a = c.before.args in ne a.a a.a || is_less a.a a.b ≡ c.if-a.value
+test : (c : tie.Joined-nan) → let a = c.before.args in ne a.a a.a || is_less a.a a.b ≡ c.if-nan.value
 test c =
     let a = c.before.args in
-    ⊎_elim (λ w. flag-yes (ne a.a a.a) (is_less a.a a.b) _ w.if-a.true w.value-is) (λ w. flag-no (ne a.a a.a) (is_less a.a a.b) _ _ w.if-a.false w.is_less.ensures w.value-is)
-    c.if-a.branch-raw
+    ⊎_elim (λ w. flag-yes (ne a.a a.a) (is_less a.a a.b) _ w.if-nan.true w.value-is) (λ w. flag-no (ne a.a a.a) (is_less a.a a.b) _ _ w.if-nan.false w.is_less.ensures w.value-is)
+    c.if-nan.branch-raw
 
 returns : tie.Need-returns-then-is_less
 unfolding maximum_number

@@ -23,7 +23,7 @@ unfolding cut_down
 limits c =
     let k = c.before.before.before.before.before.before.before.before.before in
     record {
-      some = omega (arith, k.before.before.before.before.if-total-lt1.false);
+      some = omega (arith, k.before.before.before.before.if-none.false);
       few = omega (arith, k.before.before.before.if-total-gt-MOST_SAMPLES.false);
       wide = omega (arith, k.before.if-wanted-lt8.false);
       narrow = omega (arith, k.if-wanted-gt65536.false);
@@ -31,26 +31,26 @@ limits c =
       further = loop-few (told_loop c.before.before.before.before.before.before.before.before.before.before.before.before.before.before.args.g.looped);
     }
 
-returns : tie.Need-returns-then-total-lt1
+returns : tie.Need-returns-then-none
 unfolding start_answer
-returns c = simp (lt-leb _ _ c.if-total-lt1.true)
+returns c = simp (lt-leb _ _ c.if-none.true)
 
 returns-2 : tie.Need-returns-then-total-gt-MOST_SAMPLES
 unfolding start_answer
-returns-2 c = simp (le-leb _ _ c.before.if-total-lt1.false, lt-leb _ _ c.if-total-gt-MOST_SAMPLES.true)
+returns-2 c = simp (le-leb _ _ c.before.if-none.false, lt-leb _ _ c.if-total-gt-MOST_SAMPLES.true)
 
 returns-3 : tie.Need-returns-then-rate-eq0
 unfolding start_answer
-returns-3 c = simp (le-leb _ _ c.before.before.if-total-lt1.false, le-leb _ _ c.before.if-total-gt-MOST_SAMPLES.false, eq-eqb _ _ c.if-rate-eq0.true)
+returns-3 c = simp (le-leb _ _ c.before.before.if-none.false, le-leb _ _ c.before.if-total-gt-MOST_SAMPLES.false, eq-eqb _ _ c.if-rate-eq0.true)
 
 returns-4 : tie.Need-returns-then-wanted-lt8
 unfolding start_answer
-returns-4 c = simp (le-leb _ _ c.before.before.before.if-total-lt1.false, le-leb _ _ c.before.before.if-total-gt-MOST_SAMPLES.false, ne_eqb _ _ c.before.if-rate-eq0.false, lt-leb _ _ c.if-wanted-lt8.true)
+returns-4 c = simp (le-leb _ _ c.before.before.before.if-none.false, le-leb _ _ c.before.before.if-total-gt-MOST_SAMPLES.false, ne_eqb _ _ c.before.if-rate-eq0.false, lt-leb _ _ c.if-wanted-lt8.true)
 
 returns-5 : tie.Need-returns-then-wanted-gt65536
 unfolding start_answer
 returns-5 c = simp (
-  le-leb _ _ c.before.before.before.before.if-total-lt1.false,
+  le-leb _ _ c.before.before.before.before.if-none.false,
   le-leb _ _ c.before.before.before.if-total-gt-MOST_SAMPLES.false,
   ne_eqb _ _ c.before.before.if-rate-eq0.false,
   le-leb _ _ c.before.if-wanted-lt8.false,
@@ -64,7 +64,7 @@ returns-6 : tie.Need-returns-then-not-coefficients_ok
 unfolding start_answer
 returns-6 c = let k = c.before.before.before in
     simp (
-      le-leb _ _ k.before.before.before.before.if-total-lt1.false,
+      le-leb _ _ k.before.before.before.before.if-none.false,
       le-leb _ _ k.before.before.before.if-total-gt-MOST_SAMPLES.false,
       ne_eqb _ _ k.before.before.if-rate-eq0.false,
       le-leb _ _ k.before.if-wanted-lt8.false,
@@ -81,7 +81,7 @@ unfolding start_answer
 returns-7 c = let m = c.before.before.before in
     let k = m.before.before.before in
     simp (
-      le-leb _ _ k.before.before.before.before.if-total-lt1.false,
+      le-leb _ _ k.before.before.before.before.if-none.false,
       le-leb _ _ k.before.before.before.if-total-gt-MOST_SAMPLES.false,
       ne_eqb _ _ k.before.before.if-rate-eq0.false,
       le-leb _ _ k.before.if-wanted-lt8.false,
@@ -104,12 +104,12 @@ shape-of-requires c κs = search rules
 image-size-requires : tie.Need-image_size-requires
 image-size-requires c κs = rw (made c) (limits c)
 
-returns-8 : tie.Need-returns-then-room-image_size
+returns-8 : tie.Need-returns-then-short
 unfolding start_answer
 returns-8 c = let m = c.before.before.before.before.before.before.before.before in
     let k = m.before.before.before in
     simp (
-      le-leb _ _ k.before.before.before.before.if-total-lt1.false,
+      le-leb _ _ k.before.before.before.before.if-none.false,
       le-leb _ _ k.before.before.before.if-total-gt-MOST_SAMPLES.false,
       ne_eqb _ _ k.before.before.if-rate-eq0.false,
       le-leb _ _ k.before.if-wanted-lt8.false,
@@ -118,7 +118,7 @@ returns-8 c = let m = c.before.before.before.before.before.before.before.before 
       not-false m.before.coefficients_ok.result m.if-not-coefficients_ok.false-raw,
       ← c.before.before.before.before.before.before.loop_ok.ensures,
       not-false c.before.before.before.before.before.before.loop_ok.result c.before.before.before.before.before.if-not-loop_ok.false-raw,
-      lt-ltb _ _ (rw (c.before.image_size.ensures, made c.before.before) at c.if-room-image_size.true),
+      lt-ltb _ _ (rw (c.before.image_size.ensures, made c.before.before) at c.if-short.true),
     )
 
 returns-9 : tie.Need-returns
@@ -126,7 +126,7 @@ unfolding start_answer
 returns-9 c = let m = c.before.before.before.before.before.before.before.before in
     let k = m.before.before.before in
     simp (
-      le-leb _ _ k.before.before.before.before.if-total-lt1.false,
+      le-leb _ _ k.before.before.before.before.if-none.false,
       le-leb _ _ k.before.before.before.if-total-gt-MOST_SAMPLES.false,
       ne_eqb _ _ k.before.before.if-rate-eq0.false,
       le-leb _ _ k.before.if-wanted-lt8.false,
@@ -135,7 +135,7 @@ returns-9 c = let m = c.before.before.before.before.before.before.before.before 
       not-false m.before.coefficients_ok.result m.if-not-coefficients_ok.false-raw,
       ← c.before.before.before.before.before.before.loop_ok.ensures,
       not-false c.before.before.before.before.before.before.loop_ok.result c.before.before.before.before.before.if-not-loop_ok.false-raw,
-      le-ltb _ _ (rw (c.before.image_size.ensures, made c.before.before) at c.if-room-image_size.false),
+      le-ltb _ _ (rw (c.before.image_size.ensures, made c.before.before) at c.if-short.false),
     )
 
 pub start_answer_spec : {M : Type 1} → statement M

@@ -67,7 +67,7 @@ add-n c = let g = c.before.before.loop-i.invariant.2 in omega (arith, g.rest, g.
 add-i : tie.Need-overflow_add-i invariant-loop decreases-loop
 add-i c = omega (arith, piece-few c.before.before, c.before.loop-i-test.true)
 
-loop-less : tie.Need-loop-i-smaller-then-at-lt13 invariant-loop decreases-loop
+loop-less : tie.Need-loop-i-smaller-then-unfinished invariant-loop decreases-loop
 loop-less c = let l = c.before.before.before in falls (length l.before.before.before.before.before.before.args.piece.now) l.loop-i.i c.before.before.loop-i-test.true
 
 -- the state at the loop's head
@@ -81,7 +81,7 @@ sample c = let l = c.before.before in get_or l.before.before.before.before.befor
 same : (c : tie.After-frame-in-loop-i-1 invariant-loop decreases-loop) → to_z w16 (of_z w16 (sample c)) ≡ sample c
 same c = to_z-of_z {w = w16} (record { sfits = c.frame-in-loop-i-1.given })
 
-loop-again : tie.Need-loop-i-preserved-then-at-lt13 invariant-loop decreases-loop
+loop-again : tie.Need-loop-i-preserved-then-unfinished invariant-loop decreases-loop
 loop-again c =
     let l = c.before.before.before in
     let a = l.before.before.before.before.before.before.args in
@@ -89,11 +89,11 @@ loop-again c =
     let r = l.loop-i in
     turn (left a.e a.image.now) a.piece.now r.i m r.image _ _ c.before.before.loop-i-test.true r.invariant.1 r.invariant.2 r.invariant.3
     (ap (λ (z : ℤ). left (moved a.e (r.n + 1) r.history (set r.frame (r.n % 14) z) r.passes a.e.closed r.context) r.image) (same c.before)
-    ∙ push-part m (sample c.before) r.image (λ q. omega (arith, c.if-at-lt13.true, q)))
+    ∙ push-part m (sample c.before) r.image (λ q. omega (arith, c.if-unfinished.true, q)))
 
 -- the frame is full
-full : (c : tie.Else-at-lt13 invariant-loop decreases-loop) → c.before.before.before.loop-i.n % 14 ≡ 13
-full c = omega (arith, c.if-at-lt13.false)
+full : (c : tie.Else-unfinished invariant-loop decreases-loop) → c.before.before.before.loop-i.n % 14 ≡ 13
+full c = omega (arith, c.if-unfinished.false)
 
 encode-full-requires : tie.Need-encode_full-full-requires invariant-loop decreases-loop
 encode-full-requires c κs =

@@ -31,18 +31,18 @@ clip-of-requires c κs = (fits c).long
 image-bytes-requires : tie.Need-image_bytes-requires
 image-bytes-requires c κs = rw c.clip_of.ensures (clip-limits _ _ (fits c.before))
 
-returns : tie.Need-returns-then-room-image_bytes
+returns : tie.Need-returns-then-short
 unfolding import_answer
 returns c = let t = c.before.before.before in
-    simp (← t.before.file_answer-answer.ensures, t.in-Accepted.is, ← sized c.before, lt-ltb _ _ c.if-room-image_bytes.true)
+    simp (← t.before.file_answer-answer.ensures, t.in-Accepted.is, ← sized c.before, lt-ltb _ _ c.if-short.true)
 
 enum-known-answer : tie.Need-enum_known-answer
 enum-known-answer c = search rules
 
-returns-2 : tie.Need-returns-else-room-image_bytes
+returns-2 : tie.Need-returns-else-short
 unfolding import_answer
 returns-2 c = let t = c.before.before.before in
-    simp (← t.before.file_answer-answer.ensures, t.in-Accepted.is, ← sized c.before, le-ltb _ _ c.if-room-image_bytes.false)
+    simp (← t.before.file_answer-answer.ensures, t.in-Accepted.is, ← sized c.before, le-ltb _ _ c.if-short.false)
 
 returns-3 : tie.Need-returns-in-Refused
 unfolding import_answer

@@ -29,10 +29,10 @@ pattern-requires-3 c κs =
       inr (subst (λ (z : ℕ). 2 ^ 52 ≤ z) (sym c.nearest_even_53.ensures) (closest-ge a.args.w a.requires.0)),
     )
 
-returns : tie.Need-returns-then-x-lt1198
+returns : tie.Need-returns-then-tiny
 returns c m j =
     let a = c.before.before in
-    c.pattern.ensures ∙ ap (to_bits binary64) (sym (at_none a.args.neg m a.args.w a.args.x j a.requires.0 a.ranges.w.fits c.before.if-x-lt1198.true))
+    c.pattern.ensures ∙ ap (to_bits binary64) (sym (at_none a.args.neg m a.args.w a.args.x j a.requires.0 a.ranges.w.fits c.before.if-tiny.true))
 
 returns-2 : tie.Need-returns-then-x-lt1251
 returns-2 c m j =

@@ -110,28 +110,28 @@ tied c =
     let q = ltb-false (low a.before) (high a.before) (rw ((high_is a).is, (low-is a).is) at c.if-low-high.false) in
     omega arith
 
-is-first-requires : tie.Need-is_first-requires
+is-first-requires : tie.Need-is_first-highest_first-requires
 is-first-requires c κs =
     let s = c.before.before.before.before.before.before.before.before.before.before.before in (
       rw (to_z-of_z s.ranges.c0, to_z-of_z s.ranges.c1) s.requires.0,
       rw (high-in c.before.before.before.before.before.before.before.before.before.before).is tt,
     )
 
-first-is : (c : tie.After-is_first) → let s = c.before.before.before.before.before.before.before.before.before.before.before.before in
-    c.is_first.result ≡ up_first s.args.c0 s.args.c1 s.args.frame.now (high s) 14 0
+first-is : (c : tie.After-is_first-highest_first) → let s = c.before.before.before.before.before.before.before.before.before.before.before.before in
+    c.is_first-highest_first.result ≡ up_first s.args.c0 s.args.c1 s.args.frame.now (high s) 14 0
 first-is c =
     let f = c.before.before.before.before.before.before.before.before.before.before.before.before.ranges in
-    rw (to_z-of_z f.c0, to_z-of_z f.c1, (high-in c.before.before.before.before.before.before.before.before.before.before.before).is) at c.is_first.ensures
+    rw (to_z-of_z f.c0, to_z-of_z f.c1, (high-in c.before.before.before.before.before.before.before.before.before.before.before).is) at c.is_first-highest_first.ensures
 
-returns-4 : tie.Need-returns-then-is_first
+returns-4 : tie.Need-returns-then-highest_first
 returns-4 c =
     let e = c.before.before.before.before.before.before in
-    up_is e.before ∙ first-up _ _ _ _ refl (tied c.before.before.before) (sym (first-is c.before) ∙ c.if-is_first.true)
+    up_is e.before ∙ first-up _ _ _ _ refl (tied c.before.before.before) (sym (first-is c.before) ∙ c.if-highest_first.true)
 
 returns-5 : tie.Need-returns
 returns-5 c =
     let e = c.before.before.before.before.before.before in
-    down_is e ∙ first-down _ _ _ _ refl (tied c.before.before.before) (sym (first-is c.before) ∙ c.if-is_first.false)
+    down_is e ∙ first-down _ _ _ _ refl (tied c.before.before.before) (sym (first-is c.before) ∙ c.if-highest_first.false)
 
 pub first_exponent_spec : {M : Type 1} → statement M
 first_exponent_spec =

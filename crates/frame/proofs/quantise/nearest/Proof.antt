@@ -35,7 +35,7 @@ add-result c = chk-add (d-is c.before) (half_is c.before) tt
 sub-result : tie.Need-overflow_sub-result
 sub-result c = chk-sub (is-add (d-is c.before) (half_is c.before) tt) (is-lit w64 1 tt) tt
 
-add-result-2 : tie.Need-overflow_add-result-then-d-gt0
+add-result-2 : tie.Need-overflow_add-result-then-above
 add-result-2 c = search rules
 
 cast-result : tie.Need-overflow_cast-result
@@ -44,13 +44,13 @@ cast-result c = search rules
 shr-result : tie.Need-overflow_shr-result
 shr-result c = search rules
 
-returns : tie.Need-returns-then-d-gt0
+returns : tie.Need-returns-then-above
 returns c =
     let s = c.before in
     let p = s.args.p in
     (is-shr (is-sub (is-add (d-is s) (half_is s) tt) (is-lit w64 1 tt) tt) (2 ^ (p + 11)) tt).is
     ∙ ap (λ (m : ℕ). shr_z (s.args.d +ℤ pos (1024 * 2 ^ p) -ℤ pos 1) m) (scale-is p)
-    ∙ down_pos s.args.d (2048 * 2 ^ p) (1024 * 2 ^ p) (omega (arith, pow_pos p)) (omega arith) (rw (to_z-of_z s.ranges.d) at c.if-d-gt0.true)
+    ∙ down_pos s.args.d (2048 * 2 ^ p) (1024 * 2 ^ p) (omega (arith, pow_pos p)) (omega arith) (rw (to_z-of_z s.ranges.d) at c.if-above.true)
 
 add-result-3 : tie.Need-overflow_add-result-2
 add-result-3 c = chk-add (d-is c.before) (half_is c.before) tt
@@ -70,7 +70,7 @@ returns-2 c =
     let p = s.args.p in
     (is-shr (is-add (d-is s) (half_is s) tt) (2 ^ (p + 11)) tt).is
     ∙ ap (λ (m : ℕ). shr_z (s.args.d +ℤ pos (1024 * 2 ^ p)) m) (scale-is p)
-    ∙ down-neg s.args.d (2048 * 2 ^ p) (1024 * 2 ^ p) (omega (arith, pow_pos p)) (omega arith) (rw (to_z-of_z s.ranges.d) at c.if-d-gt0.false)
+    ∙ down-neg s.args.d (2048 * 2 ^ p) (1024 * 2 ^ p) (omega (arith, pow_pos p)) (omega arith) (rw (to_z-of_z s.ranges.d) at c.if-above.false)
 
 pub nearest_spec : {M : Type 1} → statement M
 nearest_spec =

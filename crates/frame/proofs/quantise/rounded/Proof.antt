@@ -16,7 +16,7 @@ size c = rw (to_z-of_z c.before.ranges.d) at c.magnitude-m.ensures
 magnitude-requires : tie.Need-magnitude-m-requires
 magnitude-requires c κs = search rules
 
-returns : tie.Need-returns-then-m-lt16777216
+returns : tie.Need-returns-then-short
 returns c =
     let s = c.before.before in
     rw (to_z-of_z s.ranges.d) (sym (sign-abs s.args.d) ∙ ap (with_sign s.args.d) (round_same (nat_abs s.args.d) (omega (arith, size c.before))))

@@ -181,7 +181,7 @@ cast-t60 c = omega (arith, c.before.before.loop-i.invariant.1.low-le)
 add-t61 : tie.Need-overflow_add-result invariant-loop decreases-loop
 add-t61 c = let u = c.before.before.loop-i.invariant.1 in omega (arith, u.high_le, u.low-le)
 
-returns : tie.Need-returns-then-near-eq0 invariant-loop decreases-loop
+returns : tie.Need-returns-then-apart invariant-loop decreases-loop
 returns c = λ q.
     let l = c.before.before.before in
     let s = l.before in
@@ -189,10 +189,10 @@ returns c = λ q.
     let a = s.args in
     let b = l.loop-i in
     let u = subst (λ (n : ℕ). SeenTo a.frame.now a.w.now a.s.now a.p b.nibbles (to_z w16 b.most-bits) b.near b.high b.low n) e b.invariant.1 in
-    seen_all _ _ _ _ _ _ _ _ _ _ _ s.requires.0 s.requires.1.0 c.if-near-eq0.true q c.before.above_seven.ensures u
+    seen_all _ _ _ _ _ _ _ _ _ _ _ s.requires.0 s.requires.1.0 c.if-apart.true q c.before.above_seven.ensures u
 
-returns-2 : tie.Need-returns-else-near-eq0 invariant-loop decreases-loop
-returns-2 c = λ q. absurd (c.if-near-eq0.false (eqb-true c.before.before.before.loop-i.near 0 q))
+returns-2 : tie.Need-returns-else-apart invariant-loop decreases-loop
+returns-2 c = λ q. absurd (c.if-apart.false (eqb-true c.before.before.before.loop-i.near 0 q))
 
 pub show_spec : {M : Type 1} → statement M
 show_spec =

@@ -12,13 +12,13 @@ returns : tie.Need-returns-then-lowest_pair
 unfolding room_answer
 returns c = simp (← c.before.lowest_pair.ensures, c.if-lowest_pair.true)
 
-returns-2 : tie.Need-returns-then-room-samples
+returns-2 : tie.Need-returns-then-short
 unfolding room_answer
-returns-2 c = simp (← c.before.before.lowest_pair.ensures, c.before.if-lowest_pair.false, lt-ltb _ _ c.if-room-samples.true)
+returns-2 c = simp (← c.before.before.lowest_pair.ensures, c.before.if-lowest_pair.false, lt-ltb _ _ c.if-short.true)
 
 returns-3 : tie.Need-returns
 unfolding room_answer
-returns-3 c = simp (← c.before.before.lowest_pair.ensures, c.before.if-lowest_pair.false, le-ltb _ _ c.if-room-samples.false)
+returns-3 c = simp (← c.before.before.lowest_pair.ensures, c.before.if-lowest_pair.false, le-ltb _ _ c.if-short.false)
 
 pub room_answer_spec : {M : Type 1} → statement M
 room_answer_spec = tie.close (tie.spec lowest-pair-requires returns returns-2 returns-3)
