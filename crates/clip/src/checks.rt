@@ -67,7 +67,8 @@ pub(crate) fn feed_answer(e: Encoder, piece: usize, room: usize) -> Answer
     let n = e.fed as usize;
     let total = e.total as usize;
     let shape = encoder_shape(e);
-    let short = room < image_size(shape);
+    let size = image_size(shape);
+    let short = room < size;
     if short {
         return Answer::Refused(Refusal::ImageTooShort);
     }
@@ -91,7 +92,8 @@ pub(crate) fn close_answer(e: Encoder, room: usize) -> Answer
     let n = e.fed;
     let total = e.total;
     let clip = encoder_shape(e);
-    let short = room < image_size(clip);
+    let whole = image_size(clip);
+    let short = room < whole;
     if short {
         return Answer::Refused(Refusal::ImageTooShort);
     }
@@ -137,7 +139,8 @@ pub(crate) fn start_answer(g: Start, room: usize) -> Answer
         return Answer::Refused(Refusal::LoopOutside);
     }
     let asked = shape_of(total, cut_down(wanted), loop_count(looped));
-    let short = room < image_size(asked);
+    let needed = image_size(asked);
+    let short = room < needed;
     if short {
         return Answer::Refused(Refusal::ImageTooShort);
     }

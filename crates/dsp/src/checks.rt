@@ -174,7 +174,8 @@ pub(crate) fn import_answer(file: &[u8], size: u32, room: usize) -> Answer
     let answer = file_answer(file, size);
     match answer {
         Answer::Accepted => {
-            let short = room < image_bytes(clip_of(file, size));
+            let needed = image_bytes(clip_of(file, size));
+            let short = room < needed;
             if short {
                 return Answer::Refused(Refusal::ImageTooShort);
             }

@@ -22,19 +22,19 @@ returns c = simp (← c.before.valid.ensures, not-true c.before.valid.result c.i
 encoder-shape-requires : tie.Need-encoder_shape-clip-requires
 encoder-shape-requires c κs = search rules
 
-image-size-requires : tie.Need-image_size-requires
+image-size-requires : tie.Need-image_size-whole-requires
 image-size-requires c κs = rw c.encoder_shape-clip.ensures (sound _ (passed c.before)).limits
 
 returns-2 : tie.Need-returns-then-short
 unfolding close_answer
-returns-2 c = simp (passed c.before.before.before, lt-ltb _ _ (rw (c.before.image_size.ensures, c.before.before.encoder_shape-clip.ensures) at c.if-short.true))
+returns-2 c = simp (passed c.before.before.before, lt-ltb _ _ (rw (c.before.image_size-whole.ensures, c.before.before.encoder_shape-clip.ensures) at c.if-short.true))
 
 returns-3 : tie.Need-returns-then-closed
 unfolding close_answer
 returns-3 c = simp (
   passed c.before.before.before.before,
   le-ltb _ _
-      (rw (c.before.before.image_size.ensures, c.before.before.before.encoder_shape-clip.ensures) at c.before.if-short.false),
+      (rw (c.before.before.image_size-whole.ensures, c.before.before.before.encoder_shape-clip.ensures) at c.before.if-short.false),
   c.if-closed.true,
 )
 
@@ -42,7 +42,7 @@ returns-4 : tie.Need-returns-then-n-total
 unfolding close_answer
 returns-4 c = simp (
   passed c.before.before.before.before.before,
-  le-ltb _ _ (rw (c.before.before.before.image_size.ensures, c.before.before.before.before.encoder_shape-clip.ensures) at c.before.before.if-short.false),
+  le-ltb _ _ (rw (c.before.before.before.image_size-whole.ensures, c.before.before.before.before.encoder_shape-clip.ensures) at c.before.before.if-short.false),
   c.before.if-closed.false,
   lt-ltb _ _ c.if-n-total.true,
 )
@@ -51,7 +51,7 @@ returns-5 : tie.Need-returns
 unfolding close_answer
 returns-5 c = simp (
   passed c.before.before.before.before.before,
-  le-ltb _ _ (rw (c.before.before.before.image_size.ensures, c.before.before.before.before.encoder_shape-clip.ensures) at c.before.before.if-short.false),
+  le-ltb _ _ (rw (c.before.before.before.image_size-whole.ensures, c.before.before.before.before.encoder_shape-clip.ensures) at c.before.before.if-short.false),
   c.before.if-closed.false,
   le-ltb _ _ c.if-n-total.false,
 )

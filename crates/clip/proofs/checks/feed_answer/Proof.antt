@@ -28,17 +28,17 @@ cast-total c = search rules
 encoder-shape-requires : tie.Need-encoder_shape-shape-requires
 encoder-shape-requires c κs = search rules
 
-image-size-requires : tie.Need-image_size-requires
+image-size-requires : tie.Need-image_size-size-requires
 image-size-requires c κs = rw c.encoder_shape-shape.ensures (sound _ (passed c.before.before.before)).limits
 
 returns-2 : tie.Need-returns-then-short
 unfolding feed_answer
-returns-2 c = simp (passed c.before.before.before.before.before, lt-ltb _ _ (rw (c.before.image_size.ensures, c.before.before.encoder_shape-shape.ensures) at c.if-short.true))
+returns-2 c = simp (passed c.before.before.before.before.before, lt-ltb _ _ (rw (c.before.image_size-size.ensures, c.before.before.encoder_shape-shape.ensures) at c.if-short.true))
 
 returns-3 : tie.Need-returns-then-closed
 unfolding feed_answer
 returns-3 c = let k = c.before.before.before.before.before.before in
-    simp (passed k, le-ltb _ _ (rw (c.before.before.image_size.ensures, c.before.before.before.encoder_shape-shape.ensures) at c.before.if-short.false), c.if-closed.true)
+    simp (passed k, le-ltb _ _ (rw (c.before.before.image_size-size.ensures, c.before.before.before.encoder_shape-shape.ensures) at c.before.if-short.false), c.if-closed.true)
 
 sub-if4 : tie.Need-overflow_sub-total
 sub-if4 c = let k = c.before.before.before.before.before.before in (sound _ (passed k)).fed
@@ -48,7 +48,7 @@ unfolding feed_answer
 returns-4 c = let k = c.before.before.before.before.before.before.before in
     simp (
       passed k,
-      le-ltb _ _ (rw (c.before.before.before.image_size.ensures, c.before.before.before.before.encoder_shape-shape.ensures) at c.before.before.if-short.false),
+      le-ltb _ _ (rw (c.before.before.before.image_size-size.ensures, c.before.before.before.before.encoder_shape-shape.ensures) at c.before.before.if-short.false),
       c.before.if-closed.false,
       lt-ltb _ _ c.if-piece-total.true,
     )
@@ -58,7 +58,7 @@ unfolding feed_answer
 returns-5 c = let k = c.before.before.before.before.before.before.before in
     simp (
       passed k,
-      le-ltb _ _ (rw (c.before.before.before.image_size.ensures, c.before.before.before.before.encoder_shape-shape.ensures) at c.before.before.if-short.false),
+      le-ltb _ _ (rw (c.before.before.before.image_size-size.ensures, c.before.before.before.before.encoder_shape-shape.ensures) at c.before.before.if-short.false),
       c.before.if-closed.false,
       le-ltb _ _ c.if-piece-total.false,
     )

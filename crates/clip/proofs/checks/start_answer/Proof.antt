@@ -101,7 +101,7 @@ loop-count-requires c κs = search rules
 shape-of-requires : tie.Need-shape_of-asked-requires
 shape-of-requires c κs = search rules
 
-image-size-requires : tie.Need-image_size-requires
+image-size-requires : tie.Need-image_size-needed-requires
 image-size-requires c κs = rw (made c) (limits c)
 
 returns-8 : tie.Need-returns-then-short
@@ -118,7 +118,7 @@ returns-8 c = let m = c.before.before.before.before.before.before.before.before 
       not-false m.before.coefficients_ok.result m.if-not-coefficients_ok.false-raw,
       ← c.before.before.before.before.before.before.loop_ok.ensures,
       not-false c.before.before.before.before.before.before.loop_ok.result c.before.before.before.before.before.if-not-loop_ok.false-raw,
-      lt-ltb _ _ (rw (c.before.image_size.ensures, made c.before.before) at c.if-short.true),
+      lt-ltb _ _ (rw (c.before.image_size-needed.ensures, made c.before.before) at c.if-short.true),
     )
 
 returns-9 : tie.Need-returns
@@ -135,7 +135,7 @@ returns-9 c = let m = c.before.before.before.before.before.before.before.before 
       not-false m.before.coefficients_ok.result m.if-not-coefficients_ok.false-raw,
       ← c.before.before.before.before.before.before.loop_ok.ensures,
       not-false c.before.before.before.before.before.before.loop_ok.result c.before.before.before.before.before.if-not-loop_ok.false-raw,
-      le-ltb _ _ (rw (c.before.image_size.ensures, made c.before.before) at c.if-short.false),
+      le-ltb _ _ (rw (c.before.image_size-needed.ensures, made c.before.before) at c.if-short.false),
     )
 
 pub start_answer_spec : {M : Type 1} → statement M

@@ -16,8 +16,8 @@ fits : (c : tie.In-Accepted) → let a = c.before.before.before.args in FileFits
 fits c = file-fits _ _ (sym c.before.file_answer-answer.ensures ∙ ap outcome c.in-Accepted.is)
 
 -- the bytes of its image
-sized : (c : tie.After-image_bytes) → let a = c.before.before.before.before.before.args in c.image_bytes.result ≡ imported_bytes a.file.now a.size
-sized c = c.image_bytes.ensures ∙ ap (λ (g : Start). image_size (start_shape g)) c.before.clip_of.ensures
+sized : (c : tie.After-image_bytes-needed) → let a = c.before.before.before.before.before.args in c.image_bytes-needed.result ≡ imported_bytes a.file.now a.size
+sized c = c.image_bytes-needed.ensures ∙ ap (λ (g : Start). image_size (start_shape g)) c.before.clip_of.ensures
 
 file-answer-requires : tie.Need-file_answer-answer-requires
 file-answer-requires c κs = search rules
@@ -28,7 +28,7 @@ enum_told c = search rules
 clip-of-requires : tie.Need-clip_of-requires
 clip-of-requires c κs = (fits c).long
 
-image-bytes-requires : tie.Need-image_bytes-requires
+image-bytes-requires : tie.Need-image_bytes-needed-requires
 image-bytes-requires c κs = rw c.clip_of.ensures (clip-limits _ _ (fits c.before))
 
 returns : tie.Need-returns-then-short
