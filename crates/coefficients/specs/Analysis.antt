@@ -54,7 +54,7 @@ merge_finish_record s =
     let d2 = quotient val (fma d1 s.x1 f0 +f s.x2) in
     finish_record d1 d2
 
--- the place of the maximum_number of two, the later of equals; 0 where neither compares
+-- the place of the maximumNumber of two, the later of equals; 0 where neither compares
 unfoldable pub pivot : Float → Float → ℕ
 pivot a b = cond (le f0 a) (cond (le a b) 2 1) (cond (le f0 b) 2 0)
 

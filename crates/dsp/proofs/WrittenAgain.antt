@@ -1,4 +1,4 @@
--- An image that opens is its fields written_again again.
+-- An image that opens is its fields written again.
 use mathlib.Core.Bool.{Bool, true, false}
 use mathlib.Core.List.{List, [], ◌∷◌, ◌++◌}
 use mathlib.Core.Path.{◌≡◌, refl, sym, ap, ap₂, ◌∙◌}
@@ -135,6 +135,6 @@ module _ (l : List ℕ) (b : Bytes l) (o : Opens l) where
       parts_are l (head_bytes mark (start_in l)) _ 0 56 56 (16 * kk + (16 * x + t)) (entry_place (kk + x) + t) head-part q refl (omega arith)
       ∙ ap (λ (s : Shape). head_bytes mark (start_in l) ++ (table_bytes context_of s 0 (block_count s) ++ (loop_bytes (loop_in l) (loop_context_in l) ++ bodies_in l))) (sym (shape_is l o))
 
--- The first S bytes of an image that opens are its fields written_again again.
+-- The first S bytes of an image that opens are its fields written again.
 pub written_is : (l : List ℕ) → Bytes l → open_answer l ≡ accepted tt → written_again l ≡ take (image_size (shape_in l)) l
 written_is l b a = sym (whole l b (opened l a))

@@ -1,4 +1,4 @@
--- Export: an image's clip as a.dsp file. Definitions only.
+-- Export: an image's clip as a .dsp file. Definitions only.
 use Rattle.std.specs.Prelude.{Bool, not, cond, ◌&&◌, List, ◌++◌, ℕ, zero, suc, ◌-◌, ltb, length, take, drop, replicate}
 use Rattle.std.proofs.lemmas.List.Edits.{sets}
 use Rattle.whole.specs.declared.History.{History}

@@ -1,4 +1,4 @@
--- A.dsp file: "The 96-byte header, big-endian", and the bodies after it. Definitions only.
+-- A .dsp file: "The 96-byte header, big-endian", and the bodies after it. Definitions only.
 use Rattle.std.specs.Prelude.{true, cond, List, ℕ, ◌+◌, ◌-◌, eqb, ℤ, drop}
 use Rattle.block.specs.declared.FrameContext.{FrameContext}
 use Rattle.block.specs.Address.{address_to_sample, sample_to_address}

@@ -1,4 +1,4 @@
--- Import: a.dsp file as an image. Definitions only.
+-- Import: a .dsp file as an image. Definitions only.
 use Rattle.std.specs.Prelude.{Bool, not, cond, ◌&&◌, List, ◌++◌, ℕ, ◌+◌, ◌*◌, ◌/◌, ◌%◌, eqb, leb, ltb, length, get_or, take, replicate}
 use Rattle.std.proofs.lemmas.List.Edits.{sets}
 use Rattle.whole.specs.declared.History.{History}

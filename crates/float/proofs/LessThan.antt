@@ -1,4 +1,4 @@
--- What the tests of `is_less` say of `is_less`, and what a test of two flags chooses.
+-- What the tests of `is_less` say of its definition, and what a test of two flags chooses.
 use Rattle.std.proofs.Common.{◌≡◌, ℕ, zero, suc, ◌+◌, ◌*◌, ◌<◌, Bool, true, false, cond, not, ◌&&◌, ◌||◌, eqb, ℤ, pos, sym, refl, ◌∙◌, zero-lt-suc, mul-pos, zero-mul, arith, le-ltb, eq-eqb, eqb-true}
 use mathlib.Core.Bool.{beq}
 use lib.Ieee.{Float, nan, inf, fin, binary64, up, down, below, level, lt, eq, div}

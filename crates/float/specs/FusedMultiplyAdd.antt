@@ -1,4 +1,4 @@
--- IEEE 754's fused_multiply_add: the sum of the exact product and z, rounded once. Definitions only.
+-- IEEE 754's fusedMultiplyAdd: the sum of the exact product and z, rounded once. Definitions only.
 use Rattle.std.specs.Prelude.{◌*◌, cond, ◌+ℤ◌, ◌==◌, Float}
 use Rattle.std.specs.Float.{nan, inf, fin, Format}
 use Rattle.std.specs.Float.Ieee.{unlike, add}

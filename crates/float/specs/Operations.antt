@@ -1,4 +1,4 @@
--- IEEE 754-2019's abs, maximum_number, minimum_number and round_to_integral_ties_to_away, over the logic's floats. Definitions only.
+-- IEEE 754-2019's abs, maximumNumber, minimumNumber and roundToIntegralTiesToAway, over the logic's floats. Definitions only.
 use Rattle.std.specs.Prelude.{◌+◌, ◌*◌, ◌/◌, ◌^◌, Bool, false, cond, not, ◌&&◌, ◌||◌, nat_lt, Float}
 use Rattle.std.specs.Float.{nan, inf, fin, binary64}
 use Rattle.std.specs.Float.Ieee.{up, down, round, lt, eq, ne}

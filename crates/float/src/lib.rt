@@ -31,7 +31,7 @@ fn mul_add_any(a: f64, b: f64, c: f64) -> f64
     if c == 0.0 { a * b } else { c }
 }
 
-// a * b + c, rounded once: IEEE 754-2019's fused_multiply_add, to the nearest, a tie to the even one.
+// a * b + c, rounded once: IEEE 754-2019's fusedMultiplyAdd, to the nearest, a tie to the even one.
 pub fn mul_add(a: f64, b: f64, c: f64) -> f64
     ensures { result ≡ fused_multiply_add binary64 a b c }
 {

@@ -1,5 +1,5 @@
 -- The Rust's own expression for the number that is clamped to a nibble (`try_coefficients` of vgaudio/encode.rs), one operation
--- of lib.Ieee for each of its operations. Definitions only.
+-- of Rattle.std.specs.Float.Ieee for each of its operations. Definitions only.
 --     let scale = (1 << power) * 2048;
 --     let unclamped = if distance > 0 {
 --         ((distance as f32 / scale as f32) as f64 + 0.4999999) as i32

@@ -153,7 +153,7 @@ module _ (g : Start) (F : Fine g) (xs : List ℤ) (rest : List ℕ) (A : Audible
         looped = loop-fits;
       }
 
-  -- ---- its fields, written_again again
+  -- ---- its fields, written again
 
   -- as many loops
   count-is : loop_count (loop_in l) ≡ loop_count g.looped

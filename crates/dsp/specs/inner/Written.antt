@@ -1,4 +1,4 @@
--- An image's fields, written_again again. Definitions only.
+-- An image's fields, written again. Definitions only.
 use Rattle.std.specs.Prelude.{List, ◌++◌, ℕ}
 use Rattle.layout.specs.Fields.{mark}
 use Rattle.layout.specs.Sizes.{block_count}
