@@ -5,32 +5,25 @@ use borrow.Author.Rules.{rules}
 use Rattle.block.proofs.address_to_sample.Statement.{statement}
 use Rattle.block.proofs.address_to_sample.Tie as tie
 
--- src/lib.rt:58:17
 cast-frame : tie.Need-overflow_cast-frame
 cast-frame c = search rules
 
--- src/lib.rt:59:17
 cast-place : tie.Need-overflow_cast-place
 cast-place c = search rules
 
--- src/lib.rt:61:9
 mul-result : tie.Need-overflow_mul-result
 mul-result c = search rules
 
--- src/lib.rt:63:9
 mul-result-2 : tie.Need-overflow_mul-result-else-place-lt2
 mul-result-2 c = search rules
 
--- src/lib.rt:63:9
 add-result : tie.Need-overflow_add-result
 add-result c = search rules
 
--- src/lib.rt:55:1
 returns : tie.Need-returns-then-place-lt2
 unfolding address_to_sample
 returns c = omega arith
 
--- src/lib.rt:55:1
 returns-2 : tie.Need-returns-else-place-lt2
 unfolding address_to_sample
 returns-2 c = omega arith

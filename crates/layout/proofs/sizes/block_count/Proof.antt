@@ -8,27 +8,21 @@ use Rattle.layout.proofs.sizes.block_count.Statement.{statement}
 use Rattle.layout.proofs.sizes.block_count.Tie as tie
 use Rattle.whole.specs.Frames.{frame_count}
 
--- src/sizes.rt:36:10
 frame-count-requires : tie.Need-frame_count-requires
 frame-count-requires c κs = search rules
 
--- src/sizes.rt:36:6
 mul-result : tie.Need-overflow_mul-result
 mul-result c = search rules
 
--- src/sizes.rt:36:6
 add-result : tie.Need-overflow_add-result
 add-result c = search rules
 
--- src/sizes.rt:36:6
 sub-result : tie.Need-overflow_sub-result
 sub-result c = search rules
 
--- src/sizes.rt:36:5
 div-result : tie.Need-nonzero_div-result
 div-result c = search rules
 
--- src/sizes.rt:30:1
 returns : tie.Need-returns
 unfolding block_count frame_count
 returns c = let s = c.before.args.shape in

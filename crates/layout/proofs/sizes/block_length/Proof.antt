@@ -9,59 +9,47 @@ use Rattle.layout.proofs.SizeLaws.{block-first, frames-some}
 use Rattle.layout.proofs.sizes.block_length.Statement.{statement}
 use Rattle.layout.proofs.sizes.block_length.Tie as tie
 
--- src/sizes.rt:87:9
 frame-count-requires : tie.Need-frame_count-f-requires
 frame-count-requires c κs = search rules
 
--- src/sizes.rt:88:17
 mul-first : tie.Need-overflow_mul-first
 mul-first c =
     let k = c.before.before in
     omega (arith, block-first k.args.shape k.args.j k.requires.0 k.requires.1, c.frame_count-f.ensures.0, c.frame_count-f.ensures.1)
 
--- src/sizes.rt:89:8
 add-if1 : tie.Need-overflow_add-first
 add-if1 c =
     let k = c.before.before in
     omega (arith, block-first k.args.shape k.args.j k.requires.0 k.requires.1, c.frame_count-f.ensures.0, c.frame_count-f.ensures.1, c.before.before.requires.0.narrow)
 
--- src/sizes.rt:90:16
 mul-result : tie.Need-overflow_mul-result
 mul-result c = search rules
 
--- src/sizes.rt:90:9
 returns : tie.Need-returns-then-first-per
 unfolding block_length frame_count last_frame_samples
 returns c = let l = lt-ltb _ _ (rw c.before.frame_count-f.ensures.0 at c.if-first-per.true) in
     (simp l, omega (arith, c.before.before.before.requires.0.narrow))
 
--- src/sizes.rt:92:11
 sub-result : tie.Need-overflow_sub-result
 sub-result c = let g = frames-some c.before.before.before.args.shape.total c.before.before.before.requires.0.some in omega (arith, g.0, c.before.frame_count-f.ensures.0)
 
--- src/sizes.rt:92:11
 sub-result-2 : tie.Need-overflow_sub-result-2
 sub-result-2 c =
     let k = c.before.before.before in
     omega (arith, block-first k.args.shape k.args.j k.requires.0 k.requires.1, c.before.frame_count-f.ensures.0)
 
--- src/sizes.rt:92:5
 mul-result-2 : tie.Need-overflow_mul-result-2
 mul-result-2 c = search rules
 
--- src/sizes.rt:92:29
 last-samples-requires : tie.Need-last_samples-requires
 last-samples-requires c κs = search rules
 
--- src/sizes.rt:92:29
 add-result : tie.Need-overflow_add-result
 add-result c = search rules
 
--- src/sizes.rt:92:5
 add-result-2 : tie.Need-overflow_add-result-2
 add-result-2 c = search rules
 
--- src/sizes.rt:80:1
 returns-2 : tie.Need-returns
 unfolding block_length frame_count last_frame_samples
 returns-2 c = let k = c.before.before.before.before in

@@ -7,36 +7,28 @@ use Rattle.whole.specs.Frames.{frame_count}
 use Rattle.layout.proofs.sizes.body_bytes.Statement.{statement}
 use Rattle.layout.proofs.sizes.body_bytes.Tie as tie
 
--- src/sizes.rt:45:10
 frame-count-requires : tie.Need-frame_count-requires
 frame-count-requires c κs = search rules
 
--- src/sizes.rt:45:10
 sub-result : tie.Need-overflow_sub-result
 unfolding frame_count
 sub-result c = omega (arith, c.frame_count.ensures.0)
 
--- src/sizes.rt:45:5
 mul-result : tie.Need-overflow_mul-result
 mul-result c = search rules
 
--- src/sizes.rt:45:5
 add-result : tie.Need-overflow_add-result
 add-result c = search rules
 
--- src/sizes.rt:45:36
 last-samples-requires : tie.Need-last_samples-requires
 last-samples-requires c κs = search rules
 
--- src/sizes.rt:45:36
 add-result-2 : tie.Need-overflow_add-result-2
 add-result-2 c = search rules
 
--- src/sizes.rt:45:5
 add-result-3 : tie.Need-overflow_add-result-3
 add-result-3 c = search rules
 
--- src/sizes.rt:40:1
 returns : tie.Need-returns
 unfolding body_bytes frame_count last_frame_samples
 returns c = let e = c.before.frame_count.ensures.0 in

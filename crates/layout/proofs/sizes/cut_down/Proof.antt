@@ -4,11 +4,9 @@ use Rattle.layout.specs.Sizes.{cut_down}
 use Rattle.layout.proofs.sizes.cut_down.Statement.{statement}
 use Rattle.layout.proofs.sizes.cut_down.Tie as tie
 
--- src/sizes.rt:76:5
 mul-result : tie.Need-overflow_mul-result
 mul-result c = search rules
 
--- src/sizes.rt:73:1
 returns : tie.Need-returns
 unfolding cut_down
 returns c = refl

@@ -5,11 +5,9 @@ use Rattle.whole.specs.Frames.{frame_count}
 use Rattle.layout.proofs.sizes.frame_count.Statement.{statement}
 use Rattle.layout.proofs.sizes.frame_count.Tie as tie
 
--- src/sizes.rt:17:6
 add-result : tie.Need-overflow_add-result
 add-result c = search rules
 
--- src/sizes.rt:12:1
 returns : tie.Need-returns
 unfolding frame_count
 returns c = (refl, omega arith)

@@ -8,20 +8,16 @@ use Rattle.layout.proofs.sizes.image_size.Statement.{statement}
 use Rattle.layout.proofs.sizes.image_size.Tie as tie
 use Rattle.whole.specs.Frames.{frame_count}
 
--- src/sizes.rt:69:5
 bodies-place-requires : tie.Need-bodies_place-requires
 bodies-place-requires c κs = search rules
 
--- src/sizes.rt:69:27
 body-bytes-requires : tie.Need-body_bytes-requires
 body-bytes-requires c κs = search rules
 
--- src/sizes.rt:69:5
 add-result : tie.Need-overflow_add-result
 add-result c = let s = c.before.before.args.shape in
     omega (arith, c.before.bodies_place.ensures, c.body_bytes.ensures.1, blocks-most s c.before.before.requires, c.before.before.requires.further)
 
--- src/sizes.rt:65:1
 returns : tie.Need-returns
 unfolding image_size block_count body_bytes frame_count last_frame_samples
 returns c = ap₂ (λ (p t : ℕ). p + t) c.before.bodies_place.ensures c.body_bytes.ensures.0

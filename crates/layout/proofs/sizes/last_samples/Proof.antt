@@ -7,25 +7,20 @@ use Rattle.whole.specs.Frames.{frame_count}
 use Rattle.layout.proofs.sizes.last_samples.Statement.{statement}
 use Rattle.layout.proofs.sizes.last_samples.Tie as tie
 
--- src/sizes.rt:26:19
 frame-count-requires : tie.Need-frame_count-requires
 frame-count-requires c κs = search rules
 
--- src/sizes.rt:26:19
 sub-result : tie.Need-overflow_sub-result
 unfolding frame_count
 sub-result c = omega (arith, c.frame_count.ensures.0)
 
--- src/sizes.rt:26:13
 mul-result : tie.Need-overflow_mul-result
 mul-result c = search rules
 
--- src/sizes.rt:26:5
 sub-result-2 : tie.Need-overflow_sub-result-2
 unfolding frame_count
 sub-result-2 c = omega (arith, c.frame_count.ensures.0)
 
--- src/sizes.rt:21:1
 returns : tie.Need-returns
 unfolding last_frame_samples frame_count
 returns c = let n = c.before.args.total in
