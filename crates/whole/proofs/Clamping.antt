@@ -5,6 +5,7 @@ use Prim.Native.Nat.{ℕ, suc, ◌+◌, ◌≤◌}
 use native.Mathlib.Omega.{arith}
 use lib.IntN.{ℤ, pos, negsuc, nat_abs, ◌-ℤ◌}
 use lib.Signed.{lt_z}
+use Rattle.std.specs.Int.{int_max, int_min}
 use borrow.Author.Tests.{ltb-false}
 use mir.Syntax.{w16}
 use mir.Val.{SFits}
@@ -81,3 +82,14 @@ clamp-nearer x z n f h = go (lt_z z (negsuc 32767)) refl
         let t = top x f in
         abs_diff (diff-sub (diff-neg (diff-pos 32768)) (diff-of x)) n (omega arith) (omega arith))
     go false e = high (lt_z (pos 32767) z) refl e
+
+-- ---- the library's clamp
+
+with-max : (n m : ℕ) (v : Bool) → cond (lt_z (cond v (pos n) (pos m)) (negsuc n)) (negsuc n) (cond v (pos n) (pos m)) ≡ cond v (pos n) (pos m)
+with-max n m true = refl
+with-max n m false = refl
+
+pub clamp-library : (n : ℕ) (z : ℤ) → int_max (negsuc n) (int_min z (pos n)) ≡ clamp n z
+unfolding clamp
+clamp-library n (pos m) = with-max n m (lt_z (pos n) (pos m))
+clamp-library n (negsuc m) = refl

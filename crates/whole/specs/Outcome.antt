@@ -1,5 +1,5 @@
 -- What a call answers, by the documents' numbers, and what it leaves. Definitions only.
-use Rattle.std.specs.Prelude.{ℕ}
+use Rattle.std.specs.Prelude.{ℕ, Result, Ok, Err}
 
 -- the values of an accepted call; or the number of a refusal, and the block whose entry is bad, 0 where none is named
 pub data Outcome (A : Type 0) : Type 0 where
@@ -9,6 +9,11 @@ pub data Outcome (A : Type 0) : Type 0 where
 -- a refusal that names no block
 abbrev pub refused : {A : Type 0} → ℕ → Outcome A
 refused n = refused_at n 0
+
+-- what an answer says: its values, or its refusal's number and the block that is named, 0 where none is
+abbrev pub answered : {A R : Type 0} → (R → ℕ) → (R → ℕ) → Result A R → Outcome A
+answered number named (Ok v) = accepted v
+answered number named (Err r) = refused_at (number r) (named r)
 
 -- the outcome of a call that has values where it is accepted
 abbrev pub with_values : {A : Type 0} → Outcome Unit → A → Outcome A

@@ -1,7 +1,7 @@
 // What the crates of the codec share: whole-number helpers (clamping to 16 bits, division towards zero, arithmetic shift), two samples of history, what a frame has, and the most samples of a recording.
 #![tactic(auto)]
 
-ghost use Rattle.std.specs.Prelude.{◌≡◌};
+ghost use Rattle.std.specs.Prelude.{◌≡◌, ℕ};
 ghost use Rattle.whole.specs.Whole.{clamp16, towards_zero, floored};
 
 // The samples of a frame.
@@ -15,23 +15,31 @@ pub const MOST_SAMPLES: u32 = 14_680_064;
 
 // The newest sample and the one before it.
 #[repr(C)]
-#[derive(Clone, Copy)]
+#[derive(Clone, Copy, PartialEq, Eq)]
 pub struct History {
     pub newest: i16,
     pub older: i16,
+}
+
+// Why a call is refused: a number of documents 01 and 02, and the block that it names.
+pub trait Reason {
+    ghost number: { Self → ℕ };
+
+    // 0 where no block is named.
+    ghost named: { Self → ℕ };
+
+    fn code(self) -> u32
+        ensures { result ≡ number self };
+
+    fn bad_block(self) -> u32
+        ensures { result ≡ named self };
 }
 
 // x, or the nearer end of -32768..32767.
 pub fn clamp_i16(x: i64) -> i16
     ensures { result ≡ clamp16 x }
 {
-    if x < -32768 {
-        return -32768;
-    }
-    if 32767 < x {
-        return 32767;
-    }
-    x as i16
+    x.clamp(-32768, 32767) as i16
 }
 
 // x / 2048, rounded towards zero.
