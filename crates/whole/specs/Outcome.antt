@@ -15,6 +15,16 @@ abbrev pub answered : {A R : Type 0} → (R → ℕ) → (R → ℕ) → Result 
 answered number named (Ok v) = accepted v
 answered number named (Err r) = refused_at (number r) (named r)
 
+-- what is left of a state: an accepted call returns it anew, a refused one keeps the one given
+abbrev pub or_kept : {A R : Type 0} → Result A R → A → A
+or_kept (Ok v) kept = v
+or_kept (Err r) kept = kept
+
+-- the same outcome, its values left out
+abbrev pub without_values : {A : Type 0} → Outcome A → Outcome Unit
+without_values (accepted v) = accepted tt
+without_values (refused_at n j) = refused_at n j
+
 -- the outcome of a call that has values where it is accepted
 abbrev pub with_values : {A : Type 0} → Outcome Unit → A → Outcome A
 with_values (accepted u) v = accepted v

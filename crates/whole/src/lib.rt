@@ -15,7 +15,7 @@ pub const MOST_SAMPLES: u32 = 14_680_064;
 
 // The newest sample and the one before it.
 #[repr(C)]
-#[derive(Clone, Copy, PartialEq, Eq)]
+#[derive(Clone, Copy, Default, PartialEq, Eq)]
 pub struct History {
     pub newest: i16,
     pub older: i16,
