@@ -6,7 +6,7 @@ use lib.Ieee.{binary64, size, units, unlike, to_bits}
 use lib.Ieee.Nearest.{closest}
 use Rattle.float.specs.inner.Sticky.{Sticky, ExactOrSticky, FarAbove, Aligned}
 use Rattle.float.specs.inner.Rounded.{rounded, signed_sum}
-use Rattle.float.specs.inner.TwoWords.{Merged}
+use Rattle.float.specs.inner.Terms.{Merged}
 use Rattle.float.proofs.Sticky.{sticky-add, sticky-sub}
 use Rattle.float.proofs.RoundingByDigits.{round-cut}
 use Rattle.float.proofs.NearestEven.{near-lt}

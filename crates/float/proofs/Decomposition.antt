@@ -12,9 +12,9 @@ use Rattle.float.specs.FusedMultiplyAdd.{times, fused_multiply_add}
 use Rattle.float.specs.inner.Operands.{is_normal, are_near, Plain, Decomposed}
 use Rattle.float.proofs.Flags.{and_left, and_right}
 use Rattle.float.specs.inner.Sticky.{Aligned}
-use Rattle.float.specs.inner.TwoWords.{LeftJustified}
+use Rattle.float.specs.inner.Terms.{LeftJustified}
 use Rattle.float.specs.inner.Rounded.{signed_sum}
-use Rattle.float.proofs.TwoWordShifts.{zeros-lt, zeros-top}
+use Rattle.float.proofs.Shifts.{zeros-lt, zeros-top}
 use Rattle.float.proofs.Value.{value-scale, value-is, times-value, fma-value}
 
 pub of_bits_is : (b : ℕ) → of_bits binary64 b ≡ of_fields binary64 (leb (2 ^ 63) b) (b % 2 ^ 63 / 2 ^ 52) (b % 2 ^ 52)
@@ -33,7 +33,7 @@ module _ (t : ℕ) (some : 0 < t) (small : t < 2 ^ 52) where
       go l j e h = omega arith
 
   pub zeros-le : count_leading_zeros 64 t - 11 ≤ 52
-  zeros-le = go (count_leading_zeros 64 t) (zeros-lt t some word)
+  zeros-le = go (count_leading_zeros 64 t) (zeros-lt 64 t some word)
     where
       go : (l : ℕ) → l < 64 → l - 11 ≤ 52
       go l h = omega arith
@@ -46,10 +46,10 @@ module _ (t : ℕ) (some : 0 < t) (small : t < 2 ^ 52) where
       go l h = omega arith
 
   pub up_least : 2 ^ 52 ≤ t * 2 ^ (count_leading_zeros 64 t - 11)
-  up_least = le_of_mul-le-mul_right (le_trans (zeros-top t some word).0 (le_of_eq (sym eleven))) (pow_pos 11)
+  up_least = le_of_mul-le-mul_right (le_trans (zeros-top 64 t some word).0 (le_of_eq (sym eleven))) (pow_pos 11)
 
   pub up-most : t * 2 ^ (count_leading_zeros 64 t - 11) < 2 ^ 53
-  up-most = lt_of_mul-lt-mul_right (2 ^ 11) (lt_of_le_of_lt (le_of_eq eleven) (zeros-top t some word).1)
+  up-most = lt_of_mul-lt-mul_right (2 ^ 11) (lt_of_le_of_lt (le_of_eq eleven) (zeros-top 64 t some word).1)
 
   pub up_word : (t * 2 ^ (count_leading_zeros 64 t - 11)) % 2 ^ 64 ≡ t * 2 ^ (count_leading_zeros 64 t - 11)
   up_word = mod-eq_of_lt (lt_of_lt_of_le up-most (lit≤ tt))
@@ -204,6 +204,20 @@ fused-law x y z s t r m e n d o k X Y Z =
 -- what `is_normal` says of the exponent's field
 abbrev pub Normal : ℕ → Type 0
 Normal n = (1 ≤ n % 2 ^ 63 / 2 ^ 52) × (n % 2 ^ 63 / 2 ^ 52 < 2047)
+
+-- the third number's digits, moved up by 9 places and a word, and d places down
+pub moved-up : (o d : ℕ) → o < 2 ^ 53 → d < 64 → (o * 2 ^ (73 - d)) % 2 ^ 128 * 2 ^ d ≡ o * 512 * 2 ^ 64
+moved-up o d h D =
+    ap (λ (z : ℕ). z * 2 ^ d) (mod-eq_of_lt (lt_of_lt_of_le (shl_lt 53 (73 - d) h) (pow_mono (most d))))
+    ∙ mul_assoc o (2 ^ (73 - d)) (2 ^ d)
+    ∙ ap (λ (z : ℕ). o * z) (sym (pow-add 2 (73 - d) d) ∙ ap (λ (z : ℕ). 2 ^ z) (fill d D))
+    ∙ sym (mul_assoc o 512 (2 ^ 64))
+  where
+    most : (d : ℕ) → 53 + (73 - d) ≤ 128
+    most d = omega arith
+
+    fill : (d : ℕ) → d < 64 → 73 - d + d ≡ 73
+    fill d h = omega arith
 
 -- what `are_near` says of the exponents' fields
 pub record Near (x y z : ℕ) : Type 0 where

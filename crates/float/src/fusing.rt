@@ -5,64 +5,62 @@ ghost use Rattle.float.specs.FusedMultiplyAdd.{fused_multiply_add};
 ghost use Rattle.float.specs.inner.Operands.{is_plain, is_normal, are_near, Plain, Decomposed};
 ghost use Rattle.float.specs.inner.Sticky.{Aligned};
 ghost use Rattle.float.specs.inner.Rounded.{signed_sum};
-ghost use Rattle.float.specs.inner.TwoWords.{LeftJustified};
+ghost use Rattle.float.specs.inner.Terms.{LeftJustified};
 
 use crate::packing::normalised;
-use crate::two_words::{merged, shift_right_sticky, shifted_right, wide_is_zero, wide_mul};
+use crate::terms::Term;
 
-// The pattern of ±a / 2^2272 + ±b / 2^2272, rounded once, where the two numbers are a / 2^e and b / 2^e, perhaps one with a sticky bit.
-fn signed_sum(np: bool, ph: u64, pl: u64, nc: bool, ch: u64, cl: u64, e: u64) -> u64
-    requires { (ph < 2 ^ 62) × (ch < 2 ^ 62) × (0 < ph * 2 ^ 64 + pl) × (e < 8000) }
-    ensures { (a b : ℕ) → Aligned a (ph * 2 ^ 64 + pl) b (ch * 2 ^ 64 + cl) (2 ^ e)
-        → result ≡ to_bits binary64 (signed_sum 1198 np a nc b) }
+// The pattern of ±a / 2^2272 + ±b / 2^2272, rounded once, where the two numbers are a / 2^e and b / 2^e, e being the exponent of
+// both, perhaps one with a sticky bit.
+fn signed_sum(p: Term, c: Term) -> u64
+    requires { (p.size < 2 ^ 126) × (c.size < 2 ^ 126) × (0 < p.size) × (p.exponent ≡ c.exponent) × (p.exponent < 8000) }
+    ensures { (a b : ℕ) → Aligned a p.size b c.size (2 ^ p.exponent) → result ≡ to_bits binary64 (signed_sum 1198 p.negative a c.negative b) }
 {
-    let s = merged(np != nc, ph, pl, ch, cl);
-    if wide_is_zero(s.hi, s.lo) {
-        0
+    let sum = p.plus(c);
+    if sum.size == 0 { 0 } else { normalised(sum) }
+}
+
+// The pattern of the sum of two numbers over 2^2272, rounded once: the one with the smaller exponent is shifted down to the
+// other's.
+fn aligned_sum(p: Term, c: Term) -> u64
+    requires { LeftJustified p.size × LeftJustified c.size × (p.exponent < 8000) × (c.exponent < 8000) }
+    ensures { result ≡ to_bits binary64 (signed_sum 1198 p.negative (p.size * 2 ^ p.exponent) c.negative (c.size * 2 ^ c.exponent)) }
+{
+    if c.exponent <= p.exponent {
+        signed_sum(p, c.raised(p.exponent))
     } else {
-        normalised(np != s.under, s.hi, s.lo, e)
+        signed_sum(p.raised(c.exponent), c)
     }
 }
 
-// The pattern of ±p * 2^ep / 2^2272 + ±c * 2^ec / 2^2272, rounded once, where p is ph * 2^64 + pl and c is ch * 2^64:
-// the one with the smaller exponent is shifted down to the other's.
-fn aligned_sum(np: bool, ph: u64, pl: u64, ep: u64, nc: bool, ch: u64, ec: u64) -> u64
-    requires { LeftJustified (ph * 2 ^ 64 + pl) × LeftJustified (ch * 2 ^ 64) × (ep < 8000) × (ec < 8000) }
-    ensures { result ≡ to_bits binary64 (signed_sum 1198 np ((ph * 2 ^ 64 + pl) * 2 ^ ep) nc (ch * 2 ^ 64 * 2 ^ ec)) }
-{
-    if ec <= ep {
-        let w = shift_right_sticky(ch, 0, ep - ec);
-        signed_sum(np, ph, pl, nc, w.hi, w.lo, ep)
-    } else {
-        let w = shift_right_sticky(ph, pl, ec - ep);
-        signed_sum(np, w.hi, w.lo, nc, ch, 0, ec)
-    }
-}
-
-// The digits m of a number and their exponent e.
-#[derive(Drop)]
+// The sign, the digits m of a number and their exponent e.
+#[derive(Clone, Copy)]
 struct Digits {
+    pub negative: bool,
     pub m: u64,
     pub e: u64,
 }
 
-// The 53 digits m and the exponent e of a finite number that is not a zero, by its pattern: it is m * 2^e / 2^1126.
+// The sign, the 53 digits m and the exponent e of a finite number that is not a zero, by its pattern: it is ±m * 2^e / 2^1126.
 fn decomposed(bits: u64) -> Digits
     requires { Plain bits }
-    ensures { Decomposed (from_bits binary64 bits) (nat_le (2 ^ 63) bits) result.m result.e }
+    ensures { Decomposed (from_bits binary64 bits) result.negative result.m result.e }
 {
-    let field = bits % 0x8000_0000_0000_0000 / 0x10_0000_0000_0000;
+    let negative = is_negative(bits);
     let t = bits % 0x10_0000_0000_0000;
-    if field == 0 {
-        let l = u64::leading_zeros(t) as u64 - 11;
+    let exponent = field(bits);
+    if exponent == 0 {
+        let l = u64::from(t.leading_zeros()) - 11;
         Digits {
+            negative,
             m: t << l,
             e: 52 - l,
         }
     } else {
         Digits {
+            negative,
             m: 0x10_0000_0000_0000 + t,
-            e: field + 51,
+            e: exponent + 51,
         }
     }
 }
@@ -75,11 +73,24 @@ pub(crate) fn fused(a: u64, b: u64, c: u64) -> u64
     let x = decomposed(a);
     let y = decomposed(b);
     let z = decomposed(c);
-    let sa = a >= 0x8000_0000_0000_0000;
-    let sb = b >= 0x8000_0000_0000_0000;
-    let sc = c >= 0x8000_0000_0000_0000;
-    let p = wide_mul(x.m * 1024, y.m * 1024);
-    aligned_sum(sa != sb, p.hi, p.lo, x.e + y.e, sc, z.m * 512, z.e + 1073)
+    let product = Term {
+        negative: x.negative != y.negative,
+        size: u128::from(x.m * 1024) * u128::from(y.m * 1024),
+        exponent: x.e + y.e,
+    };
+    let addend = Term {
+        negative: z.negative,
+        size: u128::from(z.m * 512) << 64,
+        exponent: z.e + 1073,
+    };
+    aligned_sum(product, addend)
+}
+
+// Whether a pattern has the sign's bit.
+fn is_negative(n: u64) -> bool
+    ensures { result ≡ nat_le (2 ^ 63) n }
+{
+    n >= 0x8000_0000_0000_0000
 }
 
 // The exponent's field of a pattern.
@@ -100,29 +111,20 @@ fn significand(n: u64) -> u64
 fn is_normal(n: u64) -> bool
     ensures { result ≡ is_normal n }
 {
-    let x = field(n);
-    if x == 0 { false } else { x < 2047 }
+    let exponent = field(n);
+    0 < exponent && exponent < 2047
 }
 
 // Whether three numbers are normal and have all the digits of x * y and z within two words, by their patterns.
 pub(crate) fn are_near(x: u64, y: u64, z: u64) -> bool
     ensures { result ≡ are_near x y z }
 {
-    if !is_normal(x) {
-        return false;
-    }
-    if !is_normal(y) {
-        return false;
-    }
-    if !is_normal(z) {
+    if !(is_normal(x) && is_normal(y) && is_normal(z)) {
         return false;
     }
     let p = field(x) + field(y);
     let q = field(z) + 1002;
-    if p < q {
-        return false;
-    }
-    p - q < 64
+    q <= p && p - q < 64
 }
 
 // The same as `fused` for three numbers that are near: no digit is cut off before the sum is rounded.
@@ -132,22 +134,22 @@ pub(crate) fn fused_near(x: u64, y: u64, z: u64) -> u64
 {
     let e = field(x) + field(y);
     let d = e - (field(z) + 1002);
-    let p = wide_mul(significand(x), significand(y));
-    let w = shifted_right(significand(z) * 512, d);
-    let sx = x >= 0x8000_0000_0000_0000;
-    let sy = y >= 0x8000_0000_0000_0000;
-    let sz = z >= 0x8000_0000_0000_0000;
-    signed_sum(sx != sy, p.hi, p.lo, sz, w.hi, w.lo, e + 122)
+    let product = Term {
+        negative: is_negative(x) != is_negative(y),
+        size: u128::from(significand(x)) * u128::from(significand(y)),
+        exponent: e + 122,
+    };
+    let addend = Term {
+        negative: is_negative(z),
+        size: u128::from(significand(z)) << (73 - d),
+        exponent: e + 122,
+    };
+    signed_sum(product, addend)
 }
 
 // Whether x is finite and not a zero.
 pub(crate) fn is_plain(x: f64) -> bool
     ensures { result ≡ is_plain x }
 {
-    let top: f64 = f64::from_bits(0x7ff0_0000_0000_0000);
-    if x < top {
-        if -top < x { x != 0.0 } else { false }
-    } else {
-        false
-    }
+    x.is_finite() && x != 0.0
 }

@@ -32,21 +32,21 @@ pattern-requires-3 c κs =
 returns : tie.Need-returns-then-tiny
 returns c m j =
     let a = c.before.before in
-    c.pattern.ensures ∙ ap (to_bits binary64) (sym (at_none a.args.neg m a.args.w a.args.x j a.requires.0 a.ranges.w.fits c.before.if-tiny.true))
+    c.pattern.ensures ∙ ap (to_bits binary64) (sym (at_none a.args.negative m a.args.w a.args.x j a.requires.0 a.ranges.w.fits c.before.if-tiny.true))
 
 returns-2 : tie.Need-returns-then-x-lt1251
 returns-2 c m j =
     let a = c.before.before.before.before in
     c.pattern-then-x-lt1251.ensures
-    ∙ ap (λ (z : ℕ). to_bits binary64 (units binary64 a.args.neg z 0)) c.before.nearest_even.ensures
-    ∙ ap (to_bits binary64) (sym (at_low a.args.neg m a.args.w a.args.x j a.requires.0 a.ranges.w.fits c.before.before.if-x-lt1251.true))
+    ∙ ap (λ (z : ℕ). to_bits binary64 (units binary64 a.args.negative z 0)) c.before.nearest_even.ensures
+    ∙ ap (to_bits binary64) (sym (at_low a.args.negative m a.args.w a.args.x j a.requires.0 a.ranges.w.fits c.before.before.if-x-lt1251.true))
 
 returns-3 : tie.Need-returns-else-x-lt1251
 returns-3 c m j =
     let a = c.before.before.before.before in
     c.pattern-else-x-lt1251.ensures
-    ∙ ap (λ (z : ℕ). to_bits binary64 (units binary64 a.args.neg z (a.args.x - 1251))) c.before.nearest_even_53.ensures
-    ∙ ap (to_bits binary64) (sym (at-normal a.args.neg m a.args.w a.args.x j a.requires.0 a.ranges.w.fits c.before.before.if-x-lt1251.false))
+    ∙ ap (λ (z : ℕ). to_bits binary64 (units binary64 a.args.negative z (a.args.x - 1251))) c.before.nearest_even_53.ensures
+    ∙ ap (to_bits binary64) (sym (at-normal a.args.negative m a.args.w a.args.x j a.requires.0 a.ranges.w.fits c.before.before.if-x-lt1251.false))
 
 pub rounded_spec : {M : Type 1} → statement M
 rounded_spec =

@@ -1,10 +1,5 @@
--- Numbers of two words. Definitions only.
-use Rattle.std.specs.Prelude.{◌≡◌, ℕ, ◌+◌, ◌*◌, ◌%◌, ◌^◌, ◌<◌, ◌≤◌, Bool, true, false}
-use Rattle.float.specs.declared.two_words.Wide.{Wide}
-
--- the number that two words are
-abbrev pub wide : Wide → ℕ
-wide w = w.hi * 2 ^ 64 + w.lo
+-- Numbers of up to 128 digits. Definitions only.
+use Rattle.std.specs.Prelude.{◌≡◌, ℕ, ◌+◌, ◌%◌, ◌^◌, ◌<◌, ◌≤◌, Bool, true, false}
 
 -- a number of 125 or 126 digits, of which the lowest 20 are zeros
 pub record LeftJustified (n : ℕ) : Type 0 where
