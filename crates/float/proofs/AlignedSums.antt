@@ -143,7 +143,13 @@ none-bits g =
     twice : (g : ℕ) → 2 ^ suc g ≡ 2 ^ g * 2
     twice g = pow-suc 2 g
 
--- ---- what `merged` gives is what the sum is rounded from
+-- ---- what `plus` gives is what the sum is rounded from
+pub unlike-twice : (s r : Bool) → unlike s (unlike s r) ≡ r
+unlike-twice true true = refl
+unlike-twice true false = refl
+unlike-twice false true = refl
+unlike-twice false false = refl
+
 module _ (a p b c t : ℕ) (T₀ : 0 < t) (F : Aligned a p b c t) (s u : Bool) (w r : ℕ) where
   like-bits : beq s u ≡ true → w ≡ p + c → ((m : ℕ) → ExactOrSticky m w t → r ≡ to_bits binary64 (rounded 1198 s m)) → r ≡ to_bits binary64 (signed_sum 1198 s a u b)
   like-bits e f k = k (a + b) (subst (λ (z : ℕ). ExactOrSticky (a + b) z t) (sym f) (sum-sticky a p b c t T₀ F)) ∙ ap (to_bits binary64) (sym (signed-sum-like 1198 s u a b e))

@@ -46,6 +46,10 @@ module _ (k r t : ℕ) (T₀ : 0 < t) (j : Sticky (k * t) r t) where
           end3 : (k r s : ℕ) → r / 2 ≡ s → r % 2 < 1 → k ≡ 2 * s → r ≡ k
           end3 k r s o g h = omega arith
 
+-- a number that is left-justified is above 0
+pub justified-pos : (n : ℕ) → LeftJustified n → 0 < n
+justified-pos n r = lt_of_lt_of_le (pow_pos 124) r.least
+
 -- ---- how large it can be
 pub sticky-under : (m w t v : ℕ) → Sticky m w t → m < 2 * v * t → w < 2 * v
 sticky-under m w t v j h =

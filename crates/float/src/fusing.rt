@@ -33,57 +33,12 @@ fn aligned_sum(p: Term, c: Term) -> u64
     }
 }
 
-// The sign, the digits m of a number and their exponent e.
+// The sign, the 53 digits and their exponent of a number: it is ±digits * 2^exponent / 2^1126.
 #[derive(Clone, Copy)]
-struct Digits {
+struct Parts {
     pub negative: bool,
-    pub m: u64,
-    pub e: u64,
-}
-
-// The sign, the 53 digits m and the exponent e of a finite number that is not a zero, by its pattern: it is ±m * 2^e / 2^1126.
-fn decomposed(bits: u64) -> Digits
-    requires { Plain bits }
-    ensures { Decomposed (from_bits binary64 bits) result.negative result.m result.e }
-{
-    let negative = is_negative(bits);
-    let t = bits % 0x10_0000_0000_0000;
-    let exponent = field(bits);
-    if exponent == 0 {
-        let l = u64::from(t.leading_zeros()) - 11;
-        Digits {
-            negative,
-            m: t << l,
-            e: 52 - l,
-        }
-    } else {
-        Digits {
-            negative,
-            m: 0x10_0000_0000_0000 + t,
-            e: exponent + 51,
-        }
-    }
-}
-
-// The pattern of the fused multiply-add of three numbers, by their patterns.
-pub(crate) fn fused(a: u64, b: u64, c: u64) -> u64
-    requires { Plain a × Plain b × Plain c }
-    ensures { result ≡ to_bits binary64 (fused_multiply_add binary64 (from_bits binary64 a) (from_bits binary64 b) (from_bits binary64 c)) }
-{
-    let x = decomposed(a);
-    let y = decomposed(b);
-    let z = decomposed(c);
-    let product = Term {
-        negative: x.negative != y.negative,
-        size: u128::from(x.m * 1024) * u128::from(y.m * 1024),
-        exponent: x.e + y.e,
-    };
-    let addend = Term {
-        negative: z.negative,
-        size: u128::from(z.m * 512) << 64,
-        exponent: z.e + 1073,
-    };
-    aligned_sum(product, addend)
+    pub digits: u64,
+    pub exponent: u64,
 }
 
 // Whether a pattern has the sign's bit.
@@ -100,14 +55,8 @@ fn field(n: u64) -> u64
     n % 0x8000_0000_0000_0000 / 0x10_0000_0000_0000
 }
 
-// The 53 digits of a normal number, by its pattern.
-fn significand(n: u64) -> u64
-    ensures { result ≡ 2 ^ 52 + n % 2 ^ 52 }
-{
-    0x10_0000_0000_0000 + n % 0x10_0000_0000_0000
-}
-
 // Whether a pattern is a normal number's.
+#[tactic(auto, unfolding(crate::specs::inner::Operands::is_normal))]
 fn is_normal(n: u64) -> bool
     ensures { result ≡ is_normal n }
 {
@@ -115,7 +64,59 @@ fn is_normal(n: u64) -> bool
     0 < exponent && exponent < 2047
 }
 
-// Whether three numbers are normal and have all the digits of x * y and z within two words, by their patterns.
+// The parts of a normal number, by its pattern.
+fn normal_parts(n: u64) -> Parts
+    requires { is_normal n ≡ true }
+    ensures parts { Decomposed (from_bits binary64 n) result.negative result.digits result.exponent }
+    ensures exponent { result.exponent ≡ n % 2 ^ 63 / 2 ^ 52 + 51 }
+{
+    Parts {
+        negative: is_negative(n),
+        digits: 0x10_0000_0000_0000 + n % 0x10_0000_0000_0000,
+        exponent: field(n) + 51,
+    }
+}
+
+// The parts of a finite number that is not a zero, by its pattern.
+fn decomposed(n: u64) -> Parts
+    requires { Plain n }
+    ensures { Decomposed (from_bits binary64 n) result.negative result.digits result.exponent }
+{
+    if field(n) != 0 {
+        return normal_parts(n);
+    }
+    let fraction = n % 0x10_0000_0000_0000;
+    let up = u64::from(fraction.leading_zeros()) - 11;
+    Parts {
+        negative: is_negative(n),
+        digits: fraction << up,
+        exponent: 52 - up,
+    }
+}
+
+// The pattern of the fused multiply-add of three numbers, by their patterns.
+pub(crate) fn fused(x: u64, y: u64, z: u64) -> u64
+    requires { Plain x × Plain y × Plain z }
+    ensures { result ≡ to_bits binary64 (fused_multiply_add binary64 (from_bits binary64 x) (from_bits binary64 y) (from_bits binary64 z)) }
+{
+    let x = decomposed(x);
+    let y = decomposed(y);
+    let z = decomposed(z);
+    let product = Term {
+        negative: x.negative != y.negative,
+        size: u128::from(x.digits * 1024) * u128::from(y.digits * 1024),
+        exponent: x.exponent + y.exponent,
+    };
+    let addend = Term {
+        negative: z.negative,
+        size: u128::from(z.digits * 512) << 64,
+        exponent: z.exponent + 1073,
+    };
+    aligned_sum(product, addend)
+}
+
+// Whether three numbers are normal and have all the digits of x * y and z within 128, by their patterns.
+#[tactic(auto, unfolding(crate::specs::inner::Operands::are_near))]
 pub(crate) fn are_near(x: u64, y: u64, z: u64) -> bool
     ensures { result ≡ are_near x y z }
 {
@@ -132,17 +133,19 @@ pub(crate) fn fused_near(x: u64, y: u64, z: u64) -> u64
     requires { are_near x y z ≡ true }
     ensures { result ≡ to_bits binary64 (fused_multiply_add binary64 (from_bits binary64 x) (from_bits binary64 y) (from_bits binary64 z)) }
 {
-    let e = field(x) + field(y);
-    let d = e - (field(z) + 1002);
+    let x = normal_parts(x);
+    let y = normal_parts(y);
+    let z = normal_parts(z);
+    let exponent = x.exponent + y.exponent + 20;
     let product = Term {
-        negative: is_negative(x) != is_negative(y),
-        size: u128::from(significand(x)) * u128::from(significand(y)),
-        exponent: e + 122,
+        negative: x.negative != y.negative,
+        size: u128::from(x.digits) * u128::from(y.digits),
+        exponent,
     };
     let addend = Term {
-        negative: is_negative(z),
-        size: u128::from(significand(z)) << (73 - d),
-        exponent: e + 122,
+        negative: z.negative,
+        size: u128::from(z.digits) << (z.exponent + 1146 - exponent),
+        exponent,
     };
     signed_sum(product, addend)
 }

@@ -56,10 +56,16 @@ pub fn abs(x: f64) -> f64
 fn is_less(a: f64, b: f64) -> bool
     ensures { result ≡ Op.is_less a b }
 {
-    a < b || (a == b && a.is_sign_negative() && b.is_sign_positive())
+    // Only zeros can be equal and have different signs.
+    if a == b {
+        a.is_sign_negative() && b.is_sign_positive()
+    } else {
+        a < b
+    }
 }
 
 // The larger of a and b: of a NaN and a number the number, of -0 and +0 the latter.
+#[tactic(auto, unfolding(crate::specs::Operations::maximum_number))]
 pub fn max(a: f64, b: f64) -> f64
     ensures { result ≡ Op.maximum_number a b }
 {
@@ -67,6 +73,7 @@ pub fn max(a: f64, b: f64) -> f64
 }
 
 // The smaller of a and b: of a NaN and a number the number, of -0 and +0 the former.
+#[tactic(auto, unfolding(crate::specs::Operations::minimum_number))]
 pub fn min(a: f64, b: f64) -> f64
     ensures { result ≡ Op.minimum_number a b }
 {
