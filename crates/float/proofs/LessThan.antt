@@ -1,7 +1,7 @@
 -- What the tests of `is_less` say of its definition, and what a test of two flags chooses.
-use Rattle.std.proofs.Common.{◌≡◌, ℕ, ◌+◌, Bool, true, false, cond, not, ◌&&◌, ◌||◌, eqb, T, sym, refl, ◌∙◌, subst, arith, le-ltb, eqb-true}
+use Rattle.std.proofs.Common.{◌≡◌, ℕ, ◌+◌, ◌*◌, Bool, true, false, cond, not, ◌&&◌, ◌||◌, eqb, T, sym, refl, ◌∙◌, subst, arith, le-ltb, eq-eqb, eqb-true}
 use mathlib.Core.Bool.{beq}
-use lib.Ieee.{Float, nan, inf, fin, below, level, lt, eq, is_nan}
+use lib.Ieee.{Float, nan, inf, fin, up, down, below, level, lt, eq, ne, is_nan}
 use Rattle.std.specs.Float.{is_sign_negative}
 use Rattle.float.specs.Operations.{negative, is_less}
 use Rattle.float.proofs.Flags.{never, never', and_left, and_right}
@@ -81,3 +81,15 @@ flag-yes false l t e p = never e
 pub flag-no : (n l r t : Bool) → n ≡ false → r ≡ l → t ≡ r → n || l ≡ t
 flag-no true l r t e p q = never' e
 flag-no false l r t e p q = sym (q ∙ p)
+
+-- ---- a NaN is what differs from itself
+self-level : (s : Bool) (a : ℕ) → level s a s a ≡ true
+self-level true a = rw (eq-eqb a a refl) refl
+self-level false a = rw (eq-eqb a a refl) refl
+
+pub nan-differs : (x : Float) → ne x x ≡ is_nan x
+unfolding ne eq is_nan
+nan-differs nan = refl
+nan-differs (inf true) = refl
+nan-differs (inf false) = refl
+nan-differs (fin s m e) = rw (self-level s (m * up e * down e)) refl

@@ -187,6 +187,10 @@ pub plain-bits : (x : Float) → T (fits binary64 x) → is_plain x ≡ true →
 plain-bits x f h = plain_at (to_bits binary64 x) (ap is_plain (of_bits-to_bits binary64 x f) ∙ h)
 
 -- ---- numbers that are finite
+-- what owning an `f64` tells: the format holds it
+pub held : {b : Bool} → b ≡ true → T b
+held h = subst T (sym h) tt
+
 abbrev pub Finite : Float → Type 0
 Finite nan = ⊥
 Finite (inf s) = ⊥

@@ -95,13 +95,13 @@ fn decomposed(n: u64) -> Parts
 }
 
 // The pattern of the fused multiply-add of three numbers, by their patterns.
-pub(crate) fn fused(x: u64, y: u64, z: u64) -> u64
-    requires { Plain x × Plain y × Plain z }
-    ensures { result ≡ to_bits binary64 (fused_multiply_add binary64 (from_bits binary64 x) (from_bits binary64 y) (from_bits binary64 z)) }
+pub(crate) fn fused(a: u64, b: u64, c: u64) -> u64
+    requires { Plain a × Plain b × Plain c }
+    ensures { result ≡ to_bits binary64 (fused_multiply_add binary64 (from_bits binary64 a) (from_bits binary64 b) (from_bits binary64 c)) }
 {
-    let x = decomposed(x);
-    let y = decomposed(y);
-    let z = decomposed(z);
+    let x = decomposed(a);
+    let y = decomposed(b);
+    let z = decomposed(c);
     let product = Term {
         negative: x.negative != y.negative,
         size: u128::from(x.digits * 1024) * u128::from(y.digits * 1024),

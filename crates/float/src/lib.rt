@@ -17,7 +17,7 @@ fn mul_add_any(a: f64, b: f64, c: f64) -> f64
     ensures { result ≡ fused_multiply_add binary64 a b c }
 {
     // The product of a NaN, an infinity or a zero is exact.
-    if !(is_plain(a) && is_plain(b)) {
+    if !is_plain(a) || !is_plain(b) {
         return a * b + c;
     }
     if is_plain(c) {
@@ -65,7 +65,6 @@ fn is_less(a: f64, b: f64) -> bool
 }
 
 // The larger of a and b: of a NaN and a number the number, of -0 and +0 the latter.
-#[tactic(auto, unfolding(crate::specs::Operations::maximum_number))]
 pub fn max(a: f64, b: f64) -> f64
     ensures { result ≡ Op.maximum_number a b }
 {
@@ -73,7 +72,6 @@ pub fn max(a: f64, b: f64) -> f64
 }
 
 // The smaller of a and b: of a NaN and a number the number, of -0 and +0 the former.
-#[tactic(auto, unfolding(crate::specs::Operations::minimum_number))]
 pub fn min(a: f64, b: f64) -> f64
     ensures { result ≡ Op.minimum_number a b }
 {

@@ -29,5 +29,5 @@ returns c =
     let z = c.decomposed-z in
     rw (c.aligned_sum.ensures, c.from.ensures, c.from-2.ensures, c.from-3.ensures, kept z.result.digits z.ensures.least z.ensures.most)
     (ap (to_bits binary64)
-    (fused-law (of_bits binary64 c.args.x) (of_bits binary64 c.args.y) (of_bits binary64 c.args.z) x.result.negative y.result.negative z.result.negative
+    (fused-law (of_bits binary64 c.args.a) (of_bits binary64 c.args.b) (of_bits binary64 c.args.c) x.result.negative y.result.negative z.result.negative
     x.result.digits x.result.exponent y.result.digits y.result.exponent z.result.digits z.result.exponent x.ensures y.ensures z.ensures))

@@ -38,7 +38,7 @@ signed_sum-requires c =
     rw (c.from.ensures, c.from-2.ensures, c.from-3.ensures) (
       (near-product _ _ _ _ _ _ _ _ _ _ _ _ x.ensures.parts y.ensures.parts z.ensures.parts under above).1,
       rw (near-kept _ _ _ _ _ _ _ _ _ _ _ _ x.ensures.parts y.ensures.parts z.ensures.parts under above)
-      (near-addend _ _ _ _ _ _ _ _ _ _ _ _ x.ensures.parts y.ensures.parts z.ensures.parts under above),
+          (near-addend _ _ _ _ _ _ _ _ _ _ _ _ x.ensures.parts y.ensures.parts z.ensures.parts under above),
       (near-product _ _ _ _ _ _ _ _ _ _ _ _ x.ensures.parts y.ensures.parts z.ensures.parts under above).0,
       refl,
       omega arith,

@@ -7,4 +7,4 @@ pub returns-then-is_finite : goal.returns-then-is_finite
 returns-then-is_finite c = ap (ne c.args.x) zero_is ∙ plain-finite-some c.args.x (sym c.is_finite.ensures.value ∙ c.if-is_finite.true)
 
 pub returns-else-is_finite : goal.returns-else-is_finite
-returns-else-is_finite c = plain-endless c.args.x (sym c.is_finite.ensures.value ∙ c.if-is_finite.false)
+returns-else-is_finite c = c.if-is_finite.false ∙ plain-endless c.args.x (sym c.is_finite.ensures.value ∙ c.if-is_finite.false)
