@@ -6,7 +6,7 @@ use lib.Ieee.{binary64, size, units, unlike, to_bits}
 use lib.Ieee.Nearest.{closest}
 use Rattle.float.specs.inner.Sticky.{Sticky, ExactOrSticky, FarAbove, Aligned}
 use Rattle.float.specs.inner.Rounded.{rounded, signed_sum}
-use Rattle.float.specs.inner.TwoWords.{Merged}
+use Rattle.float.specs.inner.Terms.{Merged}
 use Rattle.float.proofs.Sticky.{sticky-add, sticky-sub}
 use Rattle.float.proofs.RoundingByDigits.{round-cut}
 use Rattle.float.proofs.NearestEven.{near-lt}
@@ -143,7 +143,13 @@ none-bits g =
     twice : (g : ℕ) → 2 ^ suc g ≡ 2 ^ g * 2
     twice g = pow-suc 2 g
 
--- ---- what `merged` gives is what the sum is rounded from
+-- ---- what `plus` gives is what the sum is rounded from
+pub unlike-twice : (s r : Bool) → unlike s (unlike s r) ≡ r
+unlike-twice true true = refl
+unlike-twice true false = refl
+unlike-twice false true = refl
+unlike-twice false false = refl
+
 module _ (a p b c t : ℕ) (T₀ : 0 < t) (F : Aligned a p b c t) (s u : Bool) (w r : ℕ) where
   like-bits : beq s u ≡ true → w ≡ p + c → ((m : ℕ) → ExactOrSticky m w t → r ≡ to_bits binary64 (rounded 1198 s m)) → r ≡ to_bits binary64 (signed_sum 1198 s a u b)
   like-bits e f k = k (a + b) (subst (λ (z : ℕ). ExactOrSticky (a + b) z t) (sym f) (sum-sticky a p b c t T₀ F)) ∙ ap (to_bits binary64) (sym (signed-sum-like 1198 s u a b e))

@@ -2,7 +2,7 @@
 use Rattle.std.proofs.Common.{◌≡◌, ℕ, zero, suc, ◌+◌, ◌-◌, ◌*◌, ◌/◌, ◌%◌, ◌^◌, ◌<◌, ◌≤◌, sym, refl, ap, ◌∙◌, subst, inl, inr, le_trans, le_of_eq, lt_of_lt_of_le, le_of_suc-le-suc, le-add_right, lt_of_le_of_lt, le_of_lt, lt_irrefl, mul-le-mul_right, mul_assoc, lt_of_mul-lt-mul_right, eq-or-lt_of_le, mul-le-mul_left, lt_of_not-le, div-add-mod', not-le_of_lt, arith, pow_pos, pow_mono, pow-add}
 use native.Mathlib.Nat.{eq_of_mul-eq-mul_right}
 use Rattle.float.specs.inner.Sticky.{Sticky, Aligned}
-use Rattle.float.specs.inner.TwoWords.{LeftJustified}
+use Rattle.float.specs.inner.Terms.{LeftJustified}
 use Rattle.float.proofs.Sticky.{sticky-least, sticky-scale, le-or-lt}
 
 -- ---- what stands for a whole number is that number
@@ -45,6 +45,10 @@ module _ (k r t : ℕ) (T₀ : 0 < t) (j : Sticky (k * t) r t) where
 
           end3 : (k r s : ℕ) → r / 2 ≡ s → r % 2 < 1 → k ≡ 2 * s → r ≡ k
           end3 k r s o g h = omega arith
+
+-- a number that is left-justified is above 0
+pub justified-pos : (n : ℕ) → LeftJustified n → 0 < n
+justified-pos n r = lt_of_lt_of_le (pow_pos 124) r.least
 
 -- ---- how large it can be
 pub sticky-under : (m w t v : ℕ) → Sticky m w t → m < 2 * v * t → w < 2 * v
@@ -116,7 +120,3 @@ module _ (x y w d e : ℕ) (X : LeftJustified x) (Y : LeftJustified y) (j : Stic
     | inl h ↦ inl (refl, exact h)
     | inr h ↦ inr (inl (record { half = x / 2 ^ 20 * 2 ^ 19; even = x-even; exact = refl; below = moved; far = far h }))
   ]
-
--- the upper word
-pub word-most : (hi lo : ℕ) → hi * 2 ^ 64 + lo < 2 ^ 126 → hi < 2 ^ 62
-word-most hi lo h = lt_of_mul-lt-mul_right (2 ^ 64) (lt_of_le_of_lt (le-add_right (hi * 2 ^ 64) lo) h)

@@ -1,5 +1,5 @@
 -- A pattern taken apart, and the fused multiply-add of three of them. Assumes nothing.
-use Rattle.std.proofs.Common.{◌≡◌, ℕ, zero, suc, ◌+◌, ◌-◌, ◌*◌, ◌/◌, ◌%◌, ◌^◌, ◌<◌, ◌≤◌, Bool, true, cond, not, ◌&&◌, eqb, ltb, leb, sym, refl, ap, ◌∙◌, subst, inl, le_trans, le_of_eq, lt_of_lt_of_le, le-add_right, lt_of_le_of_lt, le_of_lt, mul-le-mul_right, mod-lt, mod-eq_of_lt, mul_assoc, mul_comm, div-lt_iff_lt-mul, lt_of_mul-lt-mul_right, mul-le-mul_left, mul-lt-mul_of_pos_right, lt_of_not-le, div-add-mod', mul-one, not-le_of_lt, le_of_mul-le-mul_right, mul_left_comm, arith, lit≤, eqb→eq, pow_pos, pow_mono, pow-add, ltb-false, ltb-true}
+use Rattle.std.proofs.Common.{◌≡◌, ℕ, zero, suc, ◌+◌, ◌-◌, ◌*◌, ◌/◌, ◌%◌, ◌^◌, ◌<◌, ◌≤◌, Bool, true, cond, not, ◌&&◌, eqb, ltb, leb, sym, refl, ap, ◌∙◌, subst, inl, le_trans, le_of_eq, lt_of_lt_of_le, le-add_right, lt_of_le_of_lt, le_of_lt, mul-le-mul_right, mod-lt, mod-eq_of_lt, mul_assoc, mul_comm, div-lt_iff_lt-mul, lt_of_mul-lt-mul_right, mul-le-mul_left, mul-lt-mul_of_pos_right, lt_of_not-le, div-add-mod', mul-one, not-le_of_lt, le_of_mul-le-mul_right, mul_left_comm, arith, lit≤, eqb→eq, pow_pos, pow_mono, pow-add, shl_lt, ltb-false, ltb-true, lt-ltb}
 use native.Mathlib.Nat.{mul-mod_left}
 use lib.Dec.{not_T}
 use borrow.Author.Tests.{not-true}
@@ -12,9 +12,9 @@ use Rattle.float.specs.FusedMultiplyAdd.{times, fused_multiply_add}
 use Rattle.float.specs.inner.Operands.{is_normal, are_near, Plain, Decomposed}
 use Rattle.float.proofs.Flags.{and_left, and_right}
 use Rattle.float.specs.inner.Sticky.{Aligned}
-use Rattle.float.specs.inner.TwoWords.{LeftJustified}
+use Rattle.float.specs.inner.Terms.{LeftJustified}
 use Rattle.float.specs.inner.Rounded.{signed_sum}
-use Rattle.float.proofs.TwoWordShifts.{zeros-lt, zeros-top}
+use Rattle.float.proofs.Shifts.{zeros-lt, zeros-top}
 use Rattle.float.proofs.Value.{value-scale, value-is, times-value, fma-value}
 
 pub of_bits_is : (b : ℕ) → of_bits binary64 b ≡ of_fields binary64 (leb (2 ^ 63) b) (b % 2 ^ 63 / 2 ^ 52) (b % 2 ^ 52)
@@ -33,7 +33,7 @@ module _ (t : ℕ) (some : 0 < t) (small : t < 2 ^ 52) where
       go l j e h = omega arith
 
   pub zeros-le : count_leading_zeros 64 t - 11 ≤ 52
-  zeros-le = go (count_leading_zeros 64 t) (zeros-lt t some word)
+  zeros-le = go (count_leading_zeros 64 t) (zeros-lt 64 t some word)
     where
       go : (l : ℕ) → l < 64 → l - 11 ≤ 52
       go l h = omega arith
@@ -46,10 +46,10 @@ module _ (t : ℕ) (some : 0 < t) (small : t < 2 ^ 52) where
       go l h = omega arith
 
   pub up_least : 2 ^ 52 ≤ t * 2 ^ (count_leading_zeros 64 t - 11)
-  up_least = le_of_mul-le-mul_right (le_trans (zeros-top t some word).0 (le_of_eq (sym eleven))) (pow_pos 11)
+  up_least = le_of_mul-le-mul_right (le_trans (zeros-top 64 t some word).0 (le_of_eq (sym eleven))) (pow_pos 11)
 
   pub up-most : t * 2 ^ (count_leading_zeros 64 t - 11) < 2 ^ 53
-  up-most = lt_of_mul-lt-mul_right (2 ^ 11) (lt_of_le_of_lt (le_of_eq eleven) (zeros-top t some word).1)
+  up-most = lt_of_mul-lt-mul_right (2 ^ 11) (lt_of_le_of_lt (le_of_eq eleven) (zeros-top 64 t some word).1)
 
   pub up_word : (t * 2 ^ (count_leading_zeros 64 t - 11)) % 2 ^ 64 ≡ t * 2 ^ (count_leading_zeros 64 t - 11)
   up_word = mod-eq_of_lt (lt_of_lt_of_le up-most (lit≤ tt))
@@ -213,23 +213,38 @@ pub record Near (x y z : ℕ) : Type 0 where
   pub least : z % 2 ^ 63 / 2 ^ 52 + 1002 ≤ x % 2 ^ 63 / 2 ^ 52 + y % 2 ^ 63 / 2 ^ 52
   pub most : x % 2 ^ 63 / 2 ^ 52 + y % 2 ^ 63 / 2 ^ 52 < z % 2 ^ 63 / 2 ^ 52 + 1066
 
-normal-is : (n : ℕ) → is_normal n ≡ true → Normal n
+pub normal-is : (n : ℕ) → is_normal n ≡ true → Normal n
 unfolding is_normal
 normal-is n e = let f = n % 2 ^ 63 / 2 ^ 52 in (ltb-true 0 f (and_left (ltb 0 f) (ltb f 2047) e), ltb-true f 2047 (and_right (ltb 0 f) (ltb f 2047) e))
+
+-- the tests of `are_near`, one by one
+pub near-normals : (x y z : ℕ) → are_near x y z ≡ true → (is_normal x ≡ true) × (is_normal y ≡ true) × (is_normal z ≡ true)
+unfolding are_near
+near-normals x y z e =
+    let b = and_right (is_normal x) _ e in
+    (and_left (is_normal x) _ e, and_left (is_normal y) _ b, and_left (is_normal z) _ (and_right (is_normal y) _ b))
+
+pub plain-normal : (n : ℕ) → Plain n → (n % 2 ^ 63 / 2 ^ 52 ≡ 0 → ⊥) → is_normal n ≡ true
+unfolding is_normal
+plain-normal n p z =
+    let f = n % 2 ^ 63 / 2 ^ 52 in
+    rw (lt-ltb 0 f (some f z), lt-ltb f 2047 (field_lt n p)) refl
+  where
+    some : (f : ℕ) → (f ≡ 0 → ⊥) → 0 < f
+    some f z = omega arith
 
 pub near-is : (x y z : ℕ) → are_near x y z ≡ true → Near x y z
 unfolding are_near
 near-is x y z e =
     let p = x % 2 ^ 63 / 2 ^ 52 + y % 2 ^ 63 / 2 ^ 52 in
     let q = z % 2 ^ 63 / 2 ^ 52 + 1002 in
-    let d = and_right (is_normal x) (is_normal y && (is_normal z && (not (ltb p q) && ltb (p - q) 64))) e in
-    let c = and_right (is_normal y) (is_normal z && (not (ltb p q) && ltb (p - q) 64)) d in
-    let b = and_right (is_normal z) (not (ltb p q) && ltb (p - q) 64) c in
+    let n = near-normals x y z e in
+    let b = and_right (is_normal z) _ (and_right (is_normal y) _ (and_right (is_normal x) _ e)) in
     let l = ltb-false p q (not-true (ltb p q) (and_left (not (ltb p q)) (ltb (p - q) 64) b)) in
     record {
-      first = normal-is x (and_left (is_normal x) (is_normal y && (is_normal z && (not (ltb p q) && ltb (p - q) 64))) e);
-      second = normal-is y (and_left (is_normal y) (is_normal z && (not (ltb p q) && ltb (p - q) 64)) d);
-      third = normal-is z (and_left (is_normal z) (not (ltb p q) && ltb (p - q) 64) c);
+      first = normal-is x n.0;
+      second = normal-is y n.1;
+      third = normal-is z n.2;
       least = l;
       most = within p (z % 2 ^ 63 / 2 ^ 52) l (ltb-true (p - q) 64 (and_right (not (ltb p q)) (ltb (p - q) 64) b));
     }
@@ -252,49 +267,54 @@ normal-decomposed b m x N p q =
     none : (x : ℕ) → 1 ≤ x → x ≡ 0 → ⊥
     none x h e = omega arith
 
-module _ (f g h : Float) (s t u : Bool) (m x n y o z p w : ℕ) (X : Decomposed f s m (x + 51)) (Y : Decomposed g t n (y + 51)) (Z : Decomposed h u o (z + 51)) (E : p ≡ m * n)
-    (F : w * 2 ^ (x + y - (z + 1002)) ≡ o * 512 * 2 ^ 64) where
-  near_p : (0 < p) × (p < 2 ^ 126)
-  near_p = (
-    lt_of_lt_of_le (pow_pos 104) (le_trans (le_trans (mul-le-mul_left (2 ^ 52) Y.least) (mul-le-mul_right n X.least)) (le_of_eq (sym E))),
-    lt_of_le_of_lt (le_of_eq E) (lt_of_le_of_lt (mul-le-mul_left m (le_of_lt Y.most)) (lt_of_lt_of_le (mul-lt-mul_of_pos_right X.most (pow_pos 53)) (lit≤ tt))),
+-- the same of the parts' exponents
+near-between : (x y z e d k : ℕ) → e ≡ x + 51 → d ≡ y + 51 → k ≡ z + 51 → z + 1002 ≤ x + y → x + y < z + 1066 → (e + d + 20 ≤ k + 1146) × (k + 1146 ≤ e + d + 93)
+near-between x y z e d k p q r l m = (omega arith, omega arith)
+
+pub near-under : (x y z : ℕ) {e d k : ℕ} → Near x y z → e ≡ x % 2 ^ 63 / 2 ^ 52 + 51 → d ≡ y % 2 ^ 63 / 2 ^ 52 + 51 → k ≡ z % 2 ^ 63 / 2 ^ 52 + 51 → e + d + 20 ≤ k + 1146
+near-under x y z n p q r = (near-between _ _ _ _ _ _ p q r n.least n.most).0
+
+pub near-above : (x y z : ℕ) {e d k : ℕ} → Near x y z → e ≡ x % 2 ^ 63 / 2 ^ 52 + 51 → d ≡ y % 2 ^ 63 / 2 ^ 52 + 51 → k ≡ z % 2 ^ 63 / 2 ^ 52 + 51 → k + 1146 ≤ e + d + 93
+near-above x y z n p q r = (near-between _ _ _ _ _ _ p q r n.least n.most).1
+
+module _ (f g h : Float) (s t u : Bool) (m e n d o k : ℕ) (X : Decomposed f s m e) (Y : Decomposed g t n d) (Z : Decomposed h u o k)
+    (A : e + d + 20 ≤ k + 1146) (B : k + 1146 ≤ e + d + 93) where
+  pub near-product : (0 < m * n) × (m * n < 2 ^ 126)
+  near-product = (
+    lt_of_lt_of_le (pow_pos 104) (le_trans (mul-le-mul_left (2 ^ 52) Y.least) (mul-le-mul_right n X.least)),
+    lt_of_le_of_lt (mul-le-mul_left m (le_of_lt Y.most)) (lt_of_lt_of_le (mul-lt-mul_of_pos_right X.most (pow_pos 53)) (lit≤ tt)),
   )
 
-  near-w : w < 2 ^ 126
-  near-w = lt_of_le_of_lt (le_trans (le_of_eq (sym (mul-one w))) (le_trans (mul-le-mul_left w (pow_pos (x + y - (z + 1002)))) (le_of_eq F))) (mul-lt-mul_of_pos_right (over o Z.most) (pow_pos 64))
+  -- the third number's digits are moved up to the product's exponent
+  pub near-addend : o * 2 ^ (k + 1146 - (e + d + 20)) < 2 ^ 126
+  near-addend = lt_of_lt_of_le (shl_lt 53 (k + 1146 - (e + d + 20)) Z.most) (pow_mono (most k (e + d) B))
     where
-      over : (m : ℕ) → m < 2 ^ 53 → m * 512 < 2 ^ 62
-      over m h = omega arith
+      most : (k p : ℕ) → k + 1146 ≤ p + 93 → 53 + (k + 1146 - (p + 20)) ≤ 126
+      most k p h = omega arith
+
+  pub near-kept : (o * 2 ^ (k + 1146 - (e + d + 20))) % 2 ^ 128 ≡ o * 2 ^ (k + 1146 - (e + d + 20))
+  near-kept = mod-eq_of_lt (lt_of_lt_of_le near-addend (lit≤ tt))
 
   -- both are exact over 2 ^ 2272
-  p-is : m * 1024 * (n * 1024) * 2 ^ (x + 51 + (y + 51)) ≡ p * 2 ^ (x + y + 122)
-  p-is =
-      sort m n 1024 (2 ^ (x + 51 + (y + 51)))
-      ∙ ap (λ (v : ℕ). m * n * v) (sym (pow-add 2 20 (x + 51 + (y + 51))) ∙ ap (λ (v : ℕ). 2 ^ v) (same x y))
-      ∙ ap (λ (v : ℕ). v * 2 ^ (x + y + 122)) (sym E)
+  p-is : m * 1024 * (n * 1024) * 2 ^ (e + d) ≡ m * n * 2 ^ (e + d + 20)
+  p-is = sort m n 1024 (2 ^ (e + d)) ∙ ap (λ (v : ℕ). m * n * v) (mul_comm (2 ^ 20) (2 ^ (e + d)) ∙ sym (pow-add 2 (e + d) 20))
     where
       sort : (m n k b : ℕ) → m * k * (n * k) * b ≡ m * n * (k * k * b)
       sort m n k b = simp (mul_assoc, mul_comm, mul_left_comm)
 
-      same : (x y : ℕ) → 20 + (x + 51 + (y + 51)) ≡ x + y + 122
-      same x y = omega arith
-
-  w-is : z + 1002 ≤ x + y → o * 512 * 2 ^ 64 * 2 ^ (z + 51 + 1073) ≡ w * 2 ^ (x + y + 122)
-  w-is h =
-      ap (λ (v : ℕ). v * 2 ^ (z + 51 + 1073)) (sym F)
-      ∙ mul_assoc w (2 ^ (x + y - (z + 1002))) (2 ^ (z + 51 + 1073))
-      ∙ ap (λ (v : ℕ). w * v) (sym (pow-add 2 (x + y - (z + 1002)) (z + 51 + 1073)) ∙ ap (λ (v : ℕ). 2 ^ v) (same x y z h))
+  w-is : o * 512 * 2 ^ 64 * 2 ^ (k + 1073) ≡ o * 2 ^ (k + 1146 - (e + d + 20)) * 2 ^ (e + d + 20)
+  w-is =
+      ap (λ (v : ℕ). v * 2 ^ (k + 1073)) (mul_assoc o 512 (2 ^ 64))
+      ∙ mul_assoc o (2 ^ 73) (2 ^ (k + 1073))
+      ∙ ap (λ (v : ℕ). o * v) (sym (pow-add 2 73 (k + 1073)) ∙ ap (λ (v : ℕ). 2 ^ v) (same k (e + d) A) ∙ pow-add 2 (k + 1146 - (e + d + 20)) (e + d + 20))
+      ∙ sym (mul_assoc o (2 ^ (k + 1146 - (e + d + 20))) (2 ^ (e + d + 20)))
     where
-      same : (x y z : ℕ) → z + 1002 ≤ x + y → x + y - (z + 1002) + (z + 51 + 1073) ≡ x + y + 122
-      same x y z h = omega arith
+      same : (k p : ℕ) → p + 20 ≤ k + 1146 → 73 + (k + 1073) ≡ k + 1146 - (p + 20) + (p + 20)
+      same k p h = omega arith
 
-  near-law : (r : ℕ) → z + 1002 ≤ x + y → ((a b : ℕ) → Aligned a p b w (2 ^ (x + y + 122)) → r ≡ to_bits binary64 (signed_sum 1198 (unlike s t) a u b))
+  -- what the rounded sum of both is
+  pub near-law : (r : ℕ) → ((a b : ℕ) → Aligned a (m * n) b (o * 2 ^ (k + 1146 - (e + d + 20))) (2 ^ (e + d + 20)) → r ≡ to_bits binary64 (signed_sum 1198 (unlike s t) a u b))
       → r ≡ to_bits binary64 (fused_multiply_add binary64 f g h)
-  near-law r l k =
-      k (m * 1024 * (n * 1024) * 2 ^ (x + 51 + (y + 51))) (o * 512 * 2 ^ 64 * 2 ^ (z + 51 + 1073)) (inl (p-is, w-is l))
-      ∙ ap (to_bits binary64) (fused-law f g h s t u m (x + 51) n (y + 51) o (z + 51) X Y Z)
-
-  -- the words' sizes, and what the rounded sum of both is
-  pub near-facts : z + 1002 ≤ x + y → (0 < p) × (p < 2 ^ 126) × (w < 2 ^ 126)
-      × ((r : ℕ) → ((a b : ℕ) → Aligned a p b w (2 ^ (x + y + 122)) → r ≡ to_bits binary64 (signed_sum 1198 (unlike s t) a u b)) → r ≡ to_bits binary64 (fused_multiply_add binary64 f g h))
-  near-facts l = (near_p.0, near_p.1, near-w, λ r k. near-law r l k)
+  near-law r l =
+      l (m * 1024 * (n * 1024) * 2 ^ (e + d)) (o * 512 * 2 ^ 64 * 2 ^ (k + 1073)) (inl (p-is, w-is))
+      ∙ ap (to_bits binary64) (fused-law f g h s t u m e n d o k X Y Z)

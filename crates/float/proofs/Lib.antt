@@ -18,7 +18,5 @@ pub mod Sizes
 mod SpecialValues
 mod Sticky
 mod StickyRounding
-mod TwoWordProducts
-mod TwoWordShifts
-mod TwoWordSums
+mod Shifts
 pub mod Value

@@ -6,6 +6,7 @@ use lib.Ieee.{Float, nan, inf, fin, Format, binary64, prec, emax, low, unlike, u
 use lib.Ieee.Fits.{up_pos, down_pos, round_is, add-fits}
 use lib.Ieee.Bits.{of_bits-to_bits, nan_bits_is}
 use lib.Ieee.Exact.{HasValue, round_exact}
+use Rattle.std.specs.Float.{float_is_finite}
 use Rattle.float.specs.FusedMultiplyAdd.{times, fused_multiply_add}
 use Rattle.float.specs.inner.Operands.{is_plain, Plain}
 use Rattle.float.proofs.Value.{value-scale, value-is, times-value, add-value, fma-value, sum_is}
@@ -13,18 +14,6 @@ use Rattle.float.proofs.Flags.{never}
 use Rattle.float.proofs.Decomposition.{Normal, of_bits_is, normal-decomposed}
 
 -- ---- `is_plain`
-pub top-is : of_bits binary64 0x7ff0_0000_0000_0000 ≡ inf false
-unfolding of_bits
-top-is = refl
-
-pub top-plain : T (not (nan_bits binary64 0x7ff0_0000_0000_0000))
-unfolding nan_bits
-top-plain = tt
-
-pub bottom-is : neg (of_bits binary64 0x7ff0_0000_0000_0000) ≡ inf true
-unfolding neg
-bottom-is = ap neg top-is
-
 pub zero_is : of_bits binary64 0 ≡ fin false 0 (pos 0)
 unfolding of_bits
 zero_is = refl
@@ -48,24 +37,17 @@ not-not : (b : Bool) → not (not b) ≡ b
 not-not true = refl
 not-not false = refl
 
-pub plain-yes : (x : Float) → lt x (inf false) ≡ true → lt (inf true) x ≡ true → ne x (fin false 0 (pos 0)) ≡ is_plain x
-unfolding lt ne
-plain-yes nan a b = absurd (never a)
-plain-yes (inf true) a b = absurd (never b)
-plain-yes (inf false) a b = absurd (never a)
-plain-yes (fin s m e) a b = ap not (eq-zero s m e) ∙ not-not (ltb 0 m)
+pub plain-finite-some : (x : Float) → float_is_finite x ≡ true → ne x (fin false 0 (pos 0)) ≡ is_plain x
+unfolding float_is_finite ne
+plain-finite-some nan a = absurd (never a)
+plain-finite-some (inf s) a = absurd (never a)
+plain-finite-some (fin s m e) a = ap not (eq-zero s m e) ∙ not-not (ltb 0 m)
 
-pub plain_over : (x : Float) → lt x (inf false) ≡ false → false ≡ is_plain x
-unfolding lt
-plain_over nan a = refl
-plain_over (inf s) a = refl
-plain_over (fin s m e) a = absurd (true≢false a)
-
-pub plain-under : (x : Float) → lt (inf true) x ≡ false → false ≡ is_plain x
-unfolding lt
-plain-under nan a = refl
-plain-under (inf s) a = refl
-plain-under (fin s m e) a = absurd (true≢false a)
+pub plain-endless : (x : Float) → float_is_finite x ≡ false → false ≡ is_plain x
+unfolding float_is_finite
+plain-endless nan a = refl
+plain-endless (inf s) a = refl
+plain-endless (fin s m e) a = absurd (true≢false a)
 
 -- ---- a product with a NaN, an infinity or a zero is exact
 add_cong : (f : Format) (x y z : Float) (s : Bool) (a c : ℕ) → 0 < c → HasValue x s a c → HasValue y s a c → add f x z ≡ add f y z
@@ -205,11 +187,9 @@ pub plain-bits : (x : Float) → T (fits binary64 x) → is_plain x ≡ true →
 plain-bits x f h = plain_at (to_bits binary64 x) (ap is_plain (of_bits-to_bits binary64 x f) ∙ h)
 
 -- ---- numbers that are finite
-pub not-nan : (x : Float) → ne x x ≡ false → T (not (is_nan x))
-unfolding is_nan ne
-not-nan nan h = absurd (true≢false h)
-not-nan (inf s) h = tt
-not-nan (fin s m e) h = tt
+-- what owning an `f64` tells: the format holds it
+pub held : {b : Bool} → b ≡ true → T b
+held h = subst T (sym h) tt
 
 abbrev pub Finite : Float → Type 0
 Finite nan = ⊥

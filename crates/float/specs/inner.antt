@@ -2,4 +2,4 @@
 pub mod Operands
 pub mod Rounded
 pub mod Sticky
-pub mod TwoWords
+pub mod Terms

@@ -8,7 +8,7 @@ ghost use Rattle.float.specs.Operations as Op;
 
 mod fusing;
 mod packing;
-mod two_words;
+mod terms;
 
 use fusing::{are_near, fused, fused_near, is_plain};
 
@@ -17,14 +17,11 @@ fn mul_add_any(a: f64, b: f64, c: f64) -> f64
     ensures { result ≡ fused_multiply_add binary64 a b c }
 {
     // The product of a NaN, an infinity or a zero is exact.
-    if !is_plain(a) {
-        return a * b + c;
-    }
-    if !is_plain(b) {
+    if !is_plain(a) || !is_plain(b) {
         return a * b + c;
     }
     if is_plain(c) {
-        let r = fused(f64::to_bits(a), f64::to_bits(b), f64::to_bits(c));
+        let r = fused(a.to_bits(), b.to_bits(), c.to_bits());
         return f64::from_bits(r);
     }
     // To a zero the product is added, rounded; an infinity and a NaN stay.
@@ -36,12 +33,12 @@ pub fn mul_add(a: f64, b: f64, c: f64) -> f64
     ensures { result ≡ fused_multiply_add binary64 a b c }
 {
     // A NaN has no pattern.
-    if a != a || b != b || c != c {
+    if a.is_nan() || b.is_nan() || c.is_nan() {
         return mul_add_any(a, b, c);
     }
-    let x = f64::to_bits(a);
-    let y = f64::to_bits(b);
-    let z = f64::to_bits(c);
+    let x = a.to_bits();
+    let y = b.to_bits();
+    let z = c.to_bits();
     if are_near(x, y, z) {
         return f64::from_bits(fused_near(x, y, z));
     }
@@ -52,56 +49,38 @@ pub fn mul_add(a: f64, b: f64, c: f64) -> f64
 pub fn abs(x: f64) -> f64
     ensures { result ≡ Op.abs x }
 {
-    if x == 0.0 {
-        return 0.0;
-    }
-    if x < 0.0 { -x } else { x }
+    x.abs()
 }
 
 // Whether a is less than b, where -0 is less than +0.
 fn is_less(a: f64, b: f64) -> bool
     ensures { result ≡ Op.is_less a b }
 {
+    // Only zeros can be equal and have different signs.
     if a == b {
-        // Only zeros can be equal and have different signs, and these show in their reciprocals.
-        if a == 0.0 {
-            return 1.0 / a < 1.0 / b;
-        }
-        return false;
+        a.is_sign_negative() && b.is_sign_positive()
+    } else {
+        a < b
     }
-    a < b
 }
 
 // The larger of a and b: of a NaN and a number the number, of -0 and +0 the latter.
 pub fn max(a: f64, b: f64) -> f64
     ensures { result ≡ Op.maximum_number a b }
 {
-    let nan = a != a;
-    if nan || is_less(a, b) { b } else { a }
+    if a.is_nan() || is_less(a, b) { b } else { a }
 }
 
 // The smaller of a and b: of a NaN and a number the number, of -0 and +0 the former.
 pub fn min(a: f64, b: f64) -> f64
     ensures { result ≡ Op.minimum_number a b }
 {
-    if a != a || is_less(b, a) { b } else { a }
+    if a.is_nan() || is_less(b, a) { b } else { a }
 }
 
 // x to the nearest whole number, a half away from zero.
 pub fn round(x: f64) -> f64
     ensures { result ≡ Op.round_to_integral_ties_to_away x }
 {
-    if x == 0.0 {
-        return x;
-    }
-    let a = abs(x);
-    if a < 4503599627370496.0 {
-        let n = std::num::truncating_f64_to_u64(a + a);
-        let r = std::num::nearest_u64_to_f64((n + 1) / 2);
-        if x < 0.0 {
-            return -r;
-        }
-        return r;
-    }
-    x
+    x.round()
 }

@@ -1,4 +1,4 @@
-// From a number of two words to the nearest f64's pattern.
+// From a number of up to 128 digits to the nearest f64's pattern.
 ghost use Rattle.std.specs.Prelude.{◌≡◌, ℕ, ◌+◌, ◌*◌, ◌^◌, ◌<◌, ◌≤◌, ◌⊎◌, if◌then◌else◌, nat_lt, to_bits};
 ghost use Rattle.std.specs.Float.{binary64};
 ghost use Rattle.std.specs.Float.Ieee.{units};
@@ -6,7 +6,7 @@ ghost use Rattle.std.specs.Float.Ieee.Nearest.{closest};
 ghost use Rattle.float.specs.inner.Sticky.{Sticky, ExactOrSticky};
 ghost use Rattle.float.specs.inner.Rounded.{rounded};
 
-use crate::two_words::leading;
+use crate::terms::{Term, shift_right_sticky};
 
 // w / 2^d to the nearest, a tie to the even one.
 fn nearest_even(w: u64, d: u64) -> u64
@@ -45,40 +45,44 @@ fn magnitude(q: u64, k: u64) -> u64
 }
 
 // The pattern of q * 2^k units, with its sign. Below 2^52, q is a subnormal's, and k is 0.
-fn pattern(neg: bool, q: u64, k: u64) -> u64
+fn pattern(negative: bool, q: u64, k: u64) -> u64
     requires { (q ≤ 2 ^ 53) × ((k ≡ 0) ⊎ (2 ^ 52 ≤ q)) }
-    ensures { result ≡ to_bits binary64 (units binary64 neg q k) }
+    ensures { result ≡ to_bits binary64 (units binary64 negative q k) }
 {
     let n = magnitude(q, k);
-    if neg { 0x8000_0000_0000_0000 + n } else { n }
+    if negative {
+        0x8000_0000_0000_0000 + n
+    } else {
+        n
+    }
 }
 
 // The pattern of the f64 nearest to ±m / 2^2336, where w, whose highest bit is set, is m / 2^x with a sticky bit.
-fn rounded(neg: bool, w: u64, x: u64) -> u64
+fn rounded(negative: bool, w: u64, x: u64) -> u64
     requires { (2 ^ 63 ≤ w) × (x < 8192) }
-    ensures { (m : ℕ) → Sticky m w (2 ^ x) → result ≡ to_bits binary64 (rounded 1262 neg m) }
+    ensures { (m : ℕ) → Sticky m w (2 ^ x) → result ≡ to_bits binary64 (rounded 1262 negative m) }
 {
     let tiny = x < 1198;
     if tiny {
-        pattern(neg, 0, 0)
+        pattern(negative, 0, 0)
     } else if x < 1251 {
-        pattern(neg, nearest_even(w, 1262 - x), 0)
+        pattern(negative, nearest_even(w, 1262 - x), 0)
     } else {
-        pattern(neg, nearest_even_53(w), x - 1251)
+        pattern(negative, nearest_even_53(w), x - 1251)
     }
 }
 
-// The pattern of the f64 nearest to ±m / 2^2272, where hi * 2^64 + lo is m / 2^e, exactly or with a sticky bit: it is shifted by
+// The pattern of the f64 nearest to ±m / 2^2272, where the number is m / 2^exponent, exactly or with a sticky bit: it is shifted by
 // its leading zeros.
-pub(crate) fn normalised(neg: bool, hi: u64, lo: u64, e: u64) -> u64
-    requires { (0 < hi * 2 ^ 64 + lo) × (e < 8000) }
-    ensures { (m : ℕ) → ExactOrSticky m (hi * 2 ^ 64 + lo) (2 ^ e) → result ≡ to_bits binary64 (rounded 1198 neg m) }
+pub(crate) fn normalised(number: Term) -> u64
+    requires { (0 < number.size) × (number.exponent < 8000) }
+    ensures { (m : ℕ) → ExactOrSticky m number.size (2 ^ number.exponent) → result ≡ to_bits binary64 (rounded 1198 number.negative m) }
 {
-    if hi == 0 {
-        let l = u64::leading_zeros(lo) as u64;
-        rounded(neg, lo << l, e + 64 - l)
-    } else {
-        let l = u64::leading_zeros(hi) as u64;
-        rounded(neg, leading(hi, lo, l), e + 128 - l)
-    }
+    let zeros = number.size.leading_zeros();
+    let top = shift_right_sticky(number.size << zeros, 64) as u64;
+    rounded(
+        number.negative,
+        top,
+        number.exponent + 128 - u64::from(zeros),
+    )
 }
