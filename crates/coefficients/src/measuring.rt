@@ -6,7 +6,7 @@ ghost use Rattle.coefficients.specs.inner.KeptRecord.{KeptPadded};
 ghost use Rattle.coefficients.specs.inner.Measurable.{Measurable};
 
 use crate::framing::process_frame;
-use crate::{Answer, CoefficientCalculator, Refusal};
+use crate::{CoefficientCalculator, Refusal};
 use whole::{MOST_SAMPLES, SAMPLES_PER_FRAME};
 
 // Whether the counts are those of some measured samples.
@@ -28,33 +28,33 @@ fn needed(n: usize) -> usize
 }
 
 // Whether a piece of some length on a store of some size is refused.
-pub(crate) fn process_answer(n: u32, r: u32, len: usize, size: usize) -> Answer
+pub(crate) fn process_answer(n: u32, r: u32, len: usize, size: usize) -> Result<(), Refusal>
     ensures { Measure.outcome result ≡ Measure.process_answer n r len size }
 {
     if !valid(n, r) {
-        return Answer::Refused(Refusal::InvalidState);
+        return Err(Refusal::InvalidState);
     }
     let before = n as usize;
     if len > 14_680_064 - before {
-        return Answer::Refused(Refusal::TooManySamples);
+        return Err(Refusal::TooManySamples);
     }
     if size < needed(before + len) {
-        return Answer::Refused(Refusal::StoreTooShort);
+        return Err(Refusal::StoreTooShort);
     }
-    Answer::Accepted
+    Ok(())
 }
 
 // Whether an asking on a store of some size is refused.
-pub(crate) fn finish_answer(n: u32, r: u32, size: usize) -> Answer
+pub(crate) fn finish_answer(n: u32, r: u32, size: usize) -> Result<(), Refusal>
     ensures { Measure.outcome result ≡ Measure.finish_answer n r size }
 {
     if !valid(n, r) {
-        return Answer::Refused(Refusal::InvalidState);
+        return Err(Refusal::InvalidState);
     }
     if size < needed(n as usize) {
-        return Answer::Refused(Refusal::StoreTooShort);
+        return Err(Refusal::StoreTooShort);
     }
-    Answer::Accepted
+    Ok(())
 }
 
 // The last fourteen samples are copied to the front.
