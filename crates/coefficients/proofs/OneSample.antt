@@ -2,8 +2,8 @@
 use Rattle.std.proofs.Common.{◌≡◌, ℕ, ◌+◌, ◌/◌, ◌%◌, ◌<◌, ◌≤◌, Bool, true, false, cond, eqb, List, [], ◌∷◌, length, get_or, take, set, ℤ, pos, sym, refl, ap, ◌∙◌, add-one, arith, take-suc, eq-eqb, ne_eqb, eqb-true}
 use mathlib.Core.List.{foldl, foldl-append}
 use lib.Ieee.{Float}
-use Rattle.coefficients.specs.declared.framing.Found.{Found}
-use Rattle.coefficients.specs.declared.framing.Found.TheVariants.{Nothing, One}
+use Rattle.std.specs.Prelude.{Option, Some, None}
+use Rattle.coefficients.specs.declared.merging.Record.{Record}
 use Rattle.coefficients.specs.FrameRecord.{analyse, counted}
 use Rattle.coefficients.specs.Measure.{Measuring, calculator, measuring, shift, framed, push}
 use Rattle.coefficients.specs.inner.KeptRecord.{Kept}
@@ -26,10 +26,10 @@ push-part n r h s x y e k = rw (← e, ne_eqb (n % 14) 13 k)
 -- ---- the samples of a piece
 
 -- a frame more has at most one record more
-pub found-le : (r : ℕ) (f : Found) → counted r f ≤ r + 1
+pub found-le : (r : ℕ) (f : Option Record) → counted r f ≤ r + 1
 unfolding counted
-found-le r Nothing = omega arith
-found-le r (One x) = omega arith
+found-le r None = omega arith
+found-le r (Some x) = omega arith
 
 -- a sample more has at most one record for each full frame
 pub push-records : (n r : ℕ) (h : List ℤ) (s : List Float) (x : ℤ) → r ≤ n / 14 → (push (measuring (calculator n r h) s) x).calculator.records ≤ (n + 1) / 14
