@@ -21,7 +21,8 @@ one-more s d x y k l fx fy i =
       to_z-of_z {w = w64} {z = y} (sfits-abs (abs-sfits fy) tt),
       to_z-of_z {w = w64} {z = x *ℤ y} (sfits-abs p tt),
       to_z-of_z {w = w64} {z = s +ℤ x *ℤ y} (sfits-abs {n = 15032385536} (omega arith) tt),
-      ← i.value)
+      ← i.value,
+    )
     (record { value = refl; small = n })
 
 pub loop-k-init : goal.loop-k-init
