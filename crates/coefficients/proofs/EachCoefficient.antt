@@ -12,11 +12,11 @@ use Rattle.coefficients.specs.Finish.{coefficient, pairs, record_coefficients}
 use Rattle.coefficients.proofs.RenewedVectors.{renewed-next}
 use Rattle.coefficients.specs.declared.merging.Vec3.{Vec3}
 use Rattle.coefficients.specs.declared.merging.Record.{Record}
-use Rattle.coefficients.specs.declared.clusters.Tally.{Tally}
+use Rattle.coefficients.specs.declared.clusters.Cluster.{Cluster}
 
 -- ---- lengths
 
-renewed-length : (vs : List Vec3) (t : Tally) (k : ℕ) → length (renewed vs t k) ≡ length vs
+renewed-length : (vs : List Vec3) (t : List Cluster) (k : ℕ) → length (renewed vs t k) ≡ length vs
 unfolding renewed
 renewed-length vs t zero = refl
 renewed-length vs t (suc k) = ap length (renewed-next vs t k) ∙ length-set (renewed vs t k) k (made t k) ∙ renewed-length vs t k
@@ -36,7 +36,7 @@ grown-length vs m rs = round-length (filter_round (doubled vs m m) (m + m) rs) (
 
 -- ---- the vectors
 
-renewed-each : (P : Vec3 → Type 0) (vs : List Vec3) (t : Tally) (k : ℕ) → ((i : ℕ) → i < 8 → P (made t i)) → length vs ≡ 8 → k ≤ 8
+renewed-each : (P : Vec3 → Type 0) (vs : List Vec3) (t : List Cluster) (k : ℕ) → ((i : ℕ) → i < 8 → P (made t i)) → length vs ≡ 8 → k ≤ 8
     → (j : ℕ) → j < k → P (get_or (renewed vs t k) j blank)
 renewed-each P vs t zero h e l j s = absurd (none_below j s)
   where

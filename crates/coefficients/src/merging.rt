@@ -11,7 +11,7 @@ pub(crate) struct Record {
 }
 
 // A vector of three numbers.
-#[derive(Clone, Copy)]
+#[derive(Clone, Copy, Default)]
 pub(crate) struct Vec3 {
     pub x0: f64,
     pub x1: f64,
@@ -19,7 +19,7 @@ pub(crate) struct Vec3 {
 }
 
 // The parts of a contrast that depend on the vector alone: the two that are multiplied stand side by side.
-#[derive(Clone, Copy)]
+#[derive(Clone, Copy, Default)]
 pub(crate) struct VectorTerms {
     pub val2: f64,
     pub val3: f64,
@@ -88,23 +88,6 @@ pub(crate) fn record_terms(b: Record) -> RecordTerms
         d1,
         d2: -b.v2 + float::mul_add(-b.v1, d1, 0.0),
     }
-}
-
-// A record's part in its contrasts.
-pub(crate) fn record_side(b: Record, val: f64) -> Side
-    ensures { result ≡ SharedTerms.record_side b val }
-{
-    Side {
-        twice: 2.0 * val,
-        last: 2.0 * float::mul_add(-b.v1, val, -b.v2),
-    }
-}
-
-// contrast_vectors of the two.
-pub(crate) fn terms_contrast(v: VectorTerms, s: Side) -> f64
-    ensures { result ≡ SharedTerms.terms_contrast v s }
-{
-    float::mul_add(s.last, v.val3, float::mul_add(s.twice, v.val2, v.val1))
 }
 
 // -x / val where val is above 0, and 0 where it is not.
