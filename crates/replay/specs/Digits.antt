@@ -1,8 +1,6 @@
 -- Numbers in hexadecimal digits, the first digit highest. Definitions only.
-use Rattle.std.specs.Prelude.{cond, List, ℕ, ◌+◌, ◌*◌, ◌%◌, ltb, Float, ℤ, get_or, map}
+use Rattle.std.specs.Prelude.{cond, List, ℕ, ◌+◌, ◌*◌, ◌%◌, ltb, ℤ, get_or, map}
 use Rattle.std.specs.List.{range_with_len}
-use Rattle.std.specs.Float.{binary64}
-use Rattle.std.specs.Float.Ieee.{is_nan, to_bits}
 use Rattle.std.specs.Int.{w16}
 use Rattle.std.proofs.Common.{to_z}
 
@@ -33,7 +31,3 @@ sample_at l i = to_z w16 (word l i)
 -- n numbers, of d digits each, from place i on; f tells the number from a place on
 abbrev pub numbers_at : {A : Type 0} → (List ℕ → ℕ → A) → ℕ → List ℕ → ℕ → ℕ → List A
 numbers_at f d l i n = map (λ k. f l (i + d * k)) (range_with_len 0 n)
-
--- the pattern of a float, one and the same for every NaN
-unfoldable pub float_bits : Float → ℕ
-float_bits x = cond (is_nan x) 0x7ff8000000000000 (to_bits binary64 x)

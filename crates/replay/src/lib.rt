@@ -2,7 +2,7 @@
 #![tactic(auto)]
 
 ghost use Rattle.std.specs.Prelude.{◌≡◌, ◌+◌, ◌-◌, ◌*◌, ◌≤◌, ◌<◌, ℕ, ℤ, List, [], ◌++◌, length, take};
-ghost use Rattle.replay.specs.Digits.{digit, byte, word, double_word, quad_word, sample_at, numbers_at, float_bits};
+ghost use Rattle.replay.specs.Digits.{digit, byte, word, double_word, quad_word, sample_at, numbers_at};
 
 use std::fmt::{self, Display, Formatter, Radix};
 use std::io::{self, ErrorKind, Read};
@@ -148,18 +148,6 @@ impl<const N: usize> Piece<N> {
         let all = &mut self.samples[..];
         all[self.count..end].copy_from_slice(&samples[..added]);
         self.count = end;
-    }
-}
-
-// internal: the pattern of a float, one and the same for every NaN.
-#[tactic(auto, unfolding(crate::specs::Digits::float_bits))]
-pub fn float_bits(x: f64) -> u64
-    ensures { result ≡ float_bits x }
-{
-    if x.is_nan() {
-        0x7ff8_0000_0000_0000
-    } else {
-        x.to_bits()
     }
 }
 
