@@ -108,6 +108,7 @@ pub fn numbers<T: Number, const N: usize>(line: &[u8], at: usize) -> [T; N]
 }
 
 // Samples that wait to be taken together, N at the most.
+#[derive(Drop)]
 pub struct Piece<const N: usize> {
     samples: [i16; N],
     count: usize,
@@ -162,6 +163,7 @@ pub fn read_line<const N: usize>(reader: &mut impl Read) -> io::Result<Option<[u
 }
 
 // Numbers as a line has them, with nothing between them.
+#[derive(Drop)]
 pub struct Digits<'a, T>(pub &'a [T]);
 
 impl<T: Number + Radix> Display for Digits<'_, T> {
