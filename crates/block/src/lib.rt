@@ -14,22 +14,22 @@ ghost use Rattle.block.specs.Context.{predictor, scale, push_sample, with_header
 ghost use Rattle.block.specs.Frame.{playing, into};
 ghost use Rattle.block.specs.inner.Frames.{play_frame};
 ghost use Rattle.block.specs.Refusals.{code};
-ghost use Rattle.block.specs.Play.{play_bytes, play_outcome};
+ghost use Rattle.block.specs.Play.{play_bytes, play_outcome, final_context};
 ghost use Rattle.block.specs.Join.{extend_samples, join_outcome};
 ghost use Rattle.whole.specs.Outcome.{effect};
 
-use whole::{History, SAMPLES_PER_FRAME};
+use whole::{History, Reason, SAMPLES_PER_FRAME};
 
 // What playing carries from frame to frame: the header, and the newest sample and the one before it.
 #[repr(C)]
-#[derive(Clone, Copy)]
+#[derive(Clone, Copy, Default, PartialEq, Eq)]
 pub struct FrameContext {
     pub predictor_and_scale: u16,
     pub last_samples: History,
 }
 
 // Why a call is refused.
-#[derive(Drop)]
+#[derive(Clone, Copy, Debug, PartialEq, Eq)]
 pub enum Refusal {
     LengthOutOfRange,
     LowestPair,
@@ -37,25 +37,32 @@ pub enum Refusal {
     CoefficientsDiffer,
 }
 
-// Playing's answer: the sample count, or the refusal.
-#[derive(Drop)]
-pub enum PlayAnswer {
-    Played(u64),
-    Refused(Refusal),
-}
-
-// Joining's answer: the sum of the lengths in nibbles, or the refusal.
-#[derive(Drop)]
-pub enum JoinAnswer {
-    Joined(u64),
-    Refused(Refusal),
-}
-
-// What playing gives: its answer, and the final context or, where it is refused, the one given.
-#[derive(Drop)]
+// What playing gives: the sample count and the final context.
+#[derive(Clone, Copy, PartialEq, Eq)]
 pub struct Playback {
-    pub answer: PlayAnswer,
+    pub samples: u64,
     pub context: FrameContext,
+}
+
+impl Reason for Refusal {
+    ghost number = { code };
+
+    ghost named = { λ r. 0 };
+
+    // Document 01's number of a refusal.
+    fn code(self) -> u32 {
+        match self {
+            Refusal::LengthOutOfRange => 12,
+            Refusal::LowestPair => 13,
+            Refusal::OutputTooShort => 14,
+            Refusal::CoefficientsDiffer => 18,
+        }
+    }
+
+    // A block's bytes alone are lent, so none is named.
+    fn bad_block(self) -> u32 {
+        0
+    }
 }
 
 impl FrameContext {
@@ -166,37 +173,28 @@ pub fn play_bytes(
     coefficients: [i16; 16],
     context: FrameContext,
     out: &mut [i16],
-) -> Playback
-    ensures { effect (play_outcome result.answer) (playing result.context out.new) ≡ play_bytes bytes.now len coefficients context out.old }
+) -> Result<Playback, Refusal>
+    ensures { effect (play_outcome result) (playing (final_context result context) out.new) ≡ play_bytes bytes.now len coefficients context out.old }
 {
     if play::bad_length(len, bytes.len()) {
-        return Playback {
-            answer: PlayAnswer::Refused(Refusal::LengthOutOfRange),
-            context: context,
-        };
+        return Err(Refusal::LengthOutOfRange);
     }
     if coefficients::lowest_pair(coefficients) {
-        return Playback {
-            answer: PlayAnswer::Refused(Refusal::LowestPair),
-            context: context,
-        };
+        return Err(Refusal::LowestPair);
     }
-    let count = address_to_sample(len);
-    let short = (out.len() as u64) < count;
+    let samples = address_to_sample(len);
+    let short = (out.len() as u64) < samples;
     if short {
-        return Playback {
-            answer: PlayAnswer::Refused(Refusal::OutputTooShort),
-            context: context,
-        };
+        return Err(Refusal::OutputTooShort);
     }
     let after = play::play_into(bytes, len as usize, coefficients, context, out);
-    Playback {
-        answer: PlayAnswer::Played(count),
+    Ok(Playback {
+        samples: samples,
         context: after,
-    }
+    })
 }
 
-// Joins two blocks: the first one's bytes and then the second's to the output.
+// Joins two blocks, the first one's bytes and then the second's to the output, and answers the sum of their lengths in nibbles.
 pub fn extend_samples(
     first: &[u8],
     first_len: u32,
@@ -205,28 +203,16 @@ pub fn extend_samples(
     second_len: u32,
     second_coefficients: [i16; 16],
     out: &mut [u8],
-) -> JoinAnswer
+) -> Result<u64, Refusal>
     ensures { effect (join_outcome result) out.new ≡ extend_samples first.now first_len first_coefficients second.now second_len second_coefficients out.old }
 {
     if join::shorter(out.len(), first.len(), second.len()) {
-        return JoinAnswer::Refused(Refusal::OutputTooShort);
+        return Err(Refusal::OutputTooShort);
     }
     if !coefficients::equal_coefficients(first_coefficients, second_coefficients) {
-        return JoinAnswer::Refused(Refusal::CoefficientsDiffer);
+        return Err(Refusal::CoefficientsDiffer);
     }
     join::copy(first, out, 0);
     join::copy(second, out, first.len());
-    JoinAnswer::Joined(first_len as u64 + second_len as u64)
-}
-
-// Document 01's number of a refusal.
-pub fn code(refusal: Refusal) -> u32
-    ensures { result ≡ code refusal }
-{
-    match refusal {
-        Refusal::LengthOutOfRange => 12,
-        Refusal::LowestPair => 13,
-        Refusal::OutputTooShort => 14,
-        Refusal::CoefficientsDiffer => 18,
-    }
+    Ok(u64::from(first_len) + u64::from(second_len))
 }
