@@ -5,7 +5,6 @@ ghost use Rattle.clip.specs.Encoding.{left, finish};
 ghost use Rattle.clip.specs.inner.Asked.{Whole};
 
 use crate::Encoder;
-use crate::checks::encoder_shape;
 use crate::contents::put_end;
 use crate::feeding::{loop_context, store};
 use frame::{encode_frame, history_after};
@@ -32,7 +31,7 @@ pub(crate) fn finish(e: Encoder, image: &mut [u8]) -> Encoder
 {
     let n = e.fed;
     let m = (n % 14) as usize;
-    let shape = encoder_shape(e);
+    let shape = e.shape();
     let looped = e.looped;
     let known = e.context;
     let mut c = e;

@@ -10,9 +10,7 @@ ghost use Rattle.layout.specs.Sizes.{loop_count, block_count, bodies_place, imag
 use crate::starting::Start;
 use block::FrameContext;
 use layout::fields::{bits16, put16, put32, zeros};
-use layout::sizes::{
-    block_count, block_length, bodies_place, body_bytes, entry_place, loop_count, shape_of,
-};
+use layout::sizes::{block_count, block_length, bodies_place, body_bytes, entry_place, loop_count};
 use layout::{ENTRY_BYTES, Loop, MARK, Shape};
 use whole::History;
 
@@ -115,8 +113,7 @@ pub(crate) fn put_fresh(image: &mut [u8], g: Start)
     requires { Limits (start_shape g) × (image_size (start_shape g) ≤ length image.old) }
     ensures { image.new ≡ sets image.old 0 (fresh_bytes g) }
 {
-    let looped = g.looped;
-    let shape = shape_of(g.total, g.block, loop_count(looped));
+    let shape = g.shape();
     let blocks = block_count(shape);
     put_head(image, g, blocks as u32);
     put_table(image, shape);

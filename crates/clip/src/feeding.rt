@@ -5,7 +5,6 @@ ghost use Rattle.clip.specs.Encoding.{left, store, loop_context, feed_all};
 ghost use Rattle.clip.specs.inner.Asked.{Room, Going};
 
 use crate::Encoder;
-use crate::checks::encoder_shape;
 use crate::contents::put_context;
 use block::FrameContext;
 use frame::{EncodedFrame, encode_frame, history_after};
@@ -104,7 +103,7 @@ pub(crate) fn feed_all(e: Encoder, piece: &[i16], image: &mut [u8]) -> Encoder
     requires { Going e 0 (length piece.now) (length image.old) }
     ensures { left result image.new ≡ feed_all (left e image.old) piece.now }
 {
-    let shape = encoder_shape(e);
+    let shape = e.shape();
     let mut n = e.fed;
     let mut history = e.history;
     let mut frame = e.frame;

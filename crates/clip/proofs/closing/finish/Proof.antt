@@ -20,7 +20,7 @@ use Rattle.clip.proofs.closing.finish.Tie as tie
 cast-m : tie.Need-overflow_cast-m
 cast-m c = search rules
 
-encoder-shape-requires : tie.Need-encoder_shape-shape-requires
+encoder-shape-requires : tie.Need-shape-shape-requires
 encoder-shape-requires c κs = search rules
 
 padded-requires : tie.Need-padded-f-requires
@@ -39,7 +39,7 @@ add-store-2 : tie.Need-overflow_add-m-then-m-ne0
 add-store-2 c = search rules
 
 store-requires : tie.Need-store-requires
-store-requires c κs = let s = c.before.before.before.before.before.before.before.before.before.before.before.before.before in rw c.before.before.before.before.before.before.before.before.before.before.before.encoder_shape-shape.ensures (last-room s.args.e _ s.requires c.before.before.before.before.before.before.before.before.if-m-ne0.true)
+store-requires c κs = let s = c.before.before.before.before.before.before.before.before.before.before.before.before.before in rw c.before.before.before.before.before.before.before.before.before.before.before.shape-shape.ensures (last-room s.args.e _ s.requires c.before.before.before.before.before.before.before.before.if-m-ne0.true)
 
 history-after-requires : tie.Need-history_after-after-requires
 history-after-requires c κs = search rules
@@ -62,7 +62,7 @@ end-room e len z l w p h = (rw p w.limits, rw p h, ap (λ (y : Shape). y.extra) 
 put-end-requires : tie.Need-put_end-requires
 put-end-requires c κs = let s = c.before.before.before.before.before.before.before.before.before.before.before.before.before.before.before.before.before.before.before.before.before in
     let e = s.args.e in
-    let z = c.before.before.before.before.before.before.before.before.before.before.before.before.before.before.before.before.before.before.before.encoder_shape-shape in
+    let z = c.before.before.before.before.before.before.before.before.before.before.before.before.before.before.before.before.before.before.before.shape-shape in
     let k = c.before.before.before.before.before.before.before.store in
     let b = take (1 + (e.fed % 14 + 1) / 2) c.before.before.before.before.before.before.before.before.before.before.before.encode_frame-t.result.bytes in
     end-room e _ z.result k.new.image s.requires z.ensures
@@ -75,7 +75,7 @@ same_length c = search rules
 returns : tie.Need-returns-then-m-ne0
 returns c = let s = c.before.before.before.before.before.before.before.before.before.before.before.before.before.before.before.before.before.before.before.before.before.before.before.before in
     let e = s.args.e in
-    let z = c.before.before.before.before.before.before.before.before.before.before.before.before.before.before.before.before.before.before.before.before.before.before.encoder_shape-shape in
+    let z = c.before.before.before.before.before.before.before.before.before.before.before.before.before.before.before.before.before.before.before.before.before.before.shape-shape in
     let t = c.before.before.before.before.before.before.before.before.before.before.before.before.before.before.encode_frame-t in
     let f = c.before.before.before.before.before.before.before.before.before.before.before.before.before.before.before.before.padded-f in
     let k = c.before.before.before.before.before.before.before.before.before.before.store in
@@ -87,7 +87,7 @@ returns c = let s = c.before.before.before.before.before.before.before.before.be
     h.ensures x.ensures (m.ensures ∙ ap (λ (y : Shape). ended y e.looped x.result k.new.image) z.ensures)
 
 put-end-requires-2 : tie.Need-put_end-requires-2
-put-end-requires-2 c κs = let s = c.before.before.before.before.before.before in let z = c.before.before.before.before.encoder_shape-shape in end-room s.args.e _ z.result s.args.image.now s.requires z.ensures s.requires.size
+put-end-requires-2 c κs = let s = c.before.before.before.before.before.before in let z = c.before.before.before.before.shape-shape in end-room s.args.e _ z.result s.args.image.now s.requires z.ensures s.requires.size
 
 same-length-2 : tie.Need-shape_of-image
 same-length-2 c = search rules
@@ -96,7 +96,7 @@ returns-2 : tie.Need-returns
 returns-2 c = let s = c.before.before.before.before.before.before.before.before.before in
     let e = s.args.e in
     let m = c.before.before.put_end-2 in
-    finish-whole e s.args.image.now m.new.image c.before.before.before.before.if-m-ne0.false (m.ensures ∙ ap (λ (y : Shape). ended y e.looped e.context s.args.image.now) c.before.before.before.before.before.before.before.encoder_shape-shape.ensures)
+    finish-whole e s.args.image.now m.new.image c.before.before.before.before.if-m-ne0.false (m.ensures ∙ ap (λ (y : Shape). ended y e.looped e.context s.args.image.now) c.before.before.before.before.before.before.before.shape-shape.ensures)
 
 pub finish_spec : {M : Type 1} → statement M
 finish_spec =

@@ -33,7 +33,7 @@ abbrev decreases-loop : tie.decreases-loop-i
 decreases-loop e piece image₀ shape n₀ history₀ frame₀ passes₀ context₀ i₀ image n history frame passes context i =
     length piece - i
 
-encoder-shape-requires : tie.Need-encoder_shape-shape-requires invariant-loop decreases-loop
+encoder-shape-requires : tie.Need-shape-shape-requires invariant-loop decreases-loop
 encoder-shape-requires c κs = search rules
 
 loop-holds : tie.Need-loop-i-init invariant-loop decreases-loop
@@ -100,7 +100,7 @@ encode-full-requires c κs =
     let l = c.before.before.before.before in
     let r = l.loop-i in
     let room = full-room (state l) r.i _ _ r.invariant.2 c.before.before.before.loop-i-test.true (full c.before) in (
-      subst (λ (k : ℕ). Room l.before.before.before.before.encoder_shape-shape.result (r.n / 14) 8 k) (sym r.invariant.3) (rw l.before.before.before.before.encoder_shape-shape.ensures room),
+      subst (λ (k : ℕ). Room l.before.before.before.before.shape-shape.result (r.n / 14) 8 k) (sym r.invariant.3) (rw l.before.before.before.before.shape-shape.ensures room),
       r.invariant.2.within,
     )
 
@@ -134,7 +134,7 @@ loop-again-2 c =
     (k.ensures.0 ∙ ap (λ (z : ℤ). history_after r.history (frame z).samples 14) e)
     (k.ensures.1.0 ∙ ap (λ (z : ℤ). (frame z).passes) e)
     (k.ensures.1.1.0 ∙ ap (λ (z : ℤ). loop_context a.e.looped (r.n / 14) r.history (frame z) r.context) e)
-    (k.ensures.1.1.1 ∙ ap₂ (λ (s : Shape) (z : ℤ). store s (r.n / 14) (frame z).bytes r.history r.image) l.before.before.before.before.encoder_shape-shape.ensures e))
+    (k.ensures.1.1.1 ∙ ap₂ (λ (s : Shape) (z : ℤ). store s (r.n / 14) (frame z).bytes r.history r.image) l.before.before.before.before.shape-shape.ensures e))
 
 same_length : tie.Need-shape_of-image invariant-loop decreases-loop
 same_length c = c.before.loop-i.invariant.3
