@@ -19,7 +19,7 @@ mod seen;
 use choice::choose;
 use nibbles::pack_frame;
 use quantise::magnitudes;
-use whole::History;
+use whole::{History, Reason};
 
 // A frame's eight bytes, the passes over all eight candidates, and the samples that the bytes play.
 #[derive(Clone, Copy)]
@@ -30,22 +30,31 @@ pub struct EncodedFrame {
 }
 
 // Why a frame is refused.
-#[derive(Drop)]
+#[derive(Clone, Copy, Debug, PartialEq, Eq)]
 pub enum Refusal {
     CoefficientOutside,
 }
 
-// Whether a frame was encoded.
-#[derive(Drop)]
-pub enum Verdict {
-    Encoded,
-    Refused(Refusal),
+// Document 01's number of a refusal.
+impl Reason for Refusal {
+    ghost number = { code };
+
+    ghost named = { λ r. 0 };
+
+    fn code(self) -> u32 {
+        match self {
+            Refusal::CoefficientOutside => 7,
+        }
+    }
+
+    fn bad_block(self) -> u32 {
+        0
+    }
 }
 
-// The one-frame call's answer.
-#[derive(Drop)]
+// A frame's eight bytes, the passes over all eight candidates, and the history after it.
+#[derive(Clone, Copy)]
 pub struct OneFrame {
-    pub verdict: Verdict,
     pub bytes: [u8; 8],
     pub passes: u32,
     pub history: History,
@@ -116,33 +125,24 @@ pub fn history_after(history: History, samples: [i16; 14], m: usize) -> History
 }
 
 // Encodes one frame, or refuses its coefficients.
-pub fn encode_one_frame(history: History, samples: [i16; 14], coefficients: [i16; 16]) -> OneFrame
-    ensures { frame_effect result ≡ encode_one_frame history samples coefficients }
+pub fn encode_one_frame(
+    history: History,
+    samples: [i16; 14],
+    coefficients: [i16; 16],
+) -> Result<OneFrame, Refusal>
+    ensures { frame_effect history result ≡ encode_one_frame history samples coefficients }
 {
     if !coefficients_ok(coefficients) {
-        return OneFrame {
-            verdict: Verdict::Refused(Refusal::CoefficientOutside),
-            bytes: [0u8; 8],
-            passes: 0,
-            history: history,
-        };
+        return Err(Refusal::CoefficientOutside);
     }
-    let frame = encode_frame(history, samples, coefficients);
-    let bytes = frame.bytes;
-    let kept = frame.samples;
-    OneFrame {
-        verdict: Verdict::Encoded,
-        bytes: bytes,
-        passes: frame.passes,
+    let EncodedFrame {
+        bytes,
+        passes,
+        samples: kept,
+    } = encode_frame(history, samples, coefficients);
+    Ok(OneFrame {
+        bytes,
+        passes,
         history: history_after(history, kept, 14),
-    }
-}
-
-// Document 01's number of a refusal.
-pub fn code(refusal: Refusal) -> u32
-    ensures { result ≡ code refusal }
-{
-    match refusal {
-        Refusal::CoefficientOutside => 7,
-    }
+    })
 }
