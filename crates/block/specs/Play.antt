@@ -1,8 +1,8 @@
 -- Playing a block. Definitions only.
-use Rattle.std.specs.Prelude.{cond, List, [], ℕ, zero, suc, ◌+◌, ◌-◌, ◌/◌, ◌%◌, eqb, ltb, ℤ, length, get_or}
+use Rattle.std.specs.Prelude.{cond, List, [], ℕ, zero, suc, ◌+◌, ◌-◌, ◌/◌, ◌%◌, eqb, ltb, ℤ, length, get_or, Result, Ok, Err}
 use Rattle.block.specs.declared.FrameContext.{FrameContext}
-use Rattle.block.specs.declared.PlayAnswer.{PlayAnswer}
-use Rattle.block.specs.declared.PlayAnswer.TheVariants as Answers
+use Rattle.block.specs.declared.Playback.{Playback}
+use Rattle.block.specs.declared.Refusal.{Refusal}
 use Rattle.block.specs.Address.{address_to_sample}
 use Rattle.block.specs.Context.{with_header}
 use Rattle.block.specs.Frame.{Playing, playing, nibble_at, take_nibble, into}
@@ -29,9 +29,14 @@ unfoldable pub play_into : List ℕ → List ℤ → ℕ → FrameContext → Li
 play_into bytes cs len c out = into out 0 (play bytes cs len c)
 
 -- the sample count, or the refusal's number
-abbrev pub play_outcome : PlayAnswer → Outcome ℕ
-play_outcome (Answers.Played n) = accepted n
-play_outcome (Answers.Refused r) = refused (code r)
+abbrev pub play_outcome : Result Playback Refusal → Outcome ℕ
+play_outcome (Ok p) = accepted p.samples
+play_outcome (Err r) = refused (code r)
+
+-- the final context or, where playing is refused, the one given
+abbrev pub final_context : {R : Type 0} → Result Playback R → FrameContext → FrameContext
+final_context (Ok p) c = p.context
+final_context (Err r) c = c
 
 -- playing bytes: refusals 12, 13, 14 in that sequence, with the context given and the output unaltered; else the sample count, the final context and the samples
 unfoldable pub play_bytes : List ℕ → ℕ → List ℤ → FrameContext → List ℤ → Effect (Outcome ℕ) Playing

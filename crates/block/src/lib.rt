@@ -14,22 +14,23 @@ ghost use Rattle.block.specs.Context.{predictor, scale, push_sample, with_header
 ghost use Rattle.block.specs.Frame.{playing, into};
 ghost use Rattle.block.specs.inner.Frames.{play_frame};
 ghost use Rattle.block.specs.Refusals.{code};
-ghost use Rattle.block.specs.Play.{play_bytes, play_outcome};
+ghost use Rattle.block.specs.Play.{play_bytes, play_outcome, final_context};
 ghost use Rattle.block.specs.Join.{extend_samples, join_outcome};
 ghost use Rattle.whole.specs.Outcome.{effect};
 
-use whole::{History, SAMPLES_PER_FRAME};
+use crate::sample::Filter;
+use whole::{History, Reason, SAMPLES_PER_FRAME};
 
 // What playing carries from frame to frame: the header, and the newest sample and the one before it.
 #[repr(C)]
-#[derive(Clone, Copy)]
+#[derive(Clone, Copy, Default, PartialEq, Eq)]
 pub struct FrameContext {
     pub predictor_and_scale: u16,
     pub last_samples: History,
 }
 
 // Why a call is refused.
-#[derive(Drop)]
+#[derive(Clone, Copy, Debug, PartialEq, Eq)]
 pub enum Refusal {
     LengthOutOfRange,
     LowestPair,
@@ -37,25 +38,32 @@ pub enum Refusal {
     CoefficientsDiffer,
 }
 
-// Playing's answer: the sample count, or the refusal.
-#[derive(Drop)]
-pub enum PlayAnswer {
-    Played(u64),
-    Refused(Refusal),
-}
-
-// Joining's answer: the sum of the lengths in nibbles, or the refusal.
-#[derive(Drop)]
-pub enum JoinAnswer {
-    Joined(u64),
-    Refused(Refusal),
-}
-
-// What playing gives: its answer, and the final context or, where it is refused, the one given.
-#[derive(Drop)]
+// What playing gives: the sample count and the final context.
+#[derive(Clone, Copy, PartialEq, Eq)]
 pub struct Playback {
-    pub answer: PlayAnswer,
+    pub samples: u64,
     pub context: FrameContext,
+}
+
+impl Reason for Refusal {
+    ghost number = { code };
+
+    ghost named = { λ r. 0 };
+
+    // Document 01's number of a refusal.
+    fn code(self) -> u32 {
+        match self {
+            Refusal::LengthOutOfRange => 12,
+            Refusal::LowestPair => 13,
+            Refusal::OutputTooShort => 14,
+            Refusal::CoefficientsDiffer => 18,
+        }
+    }
+
+    // A block's bytes alone are lent, so none is named.
+    fn bad_block(self) -> u32 {
+        0
+    }
 }
 
 impl FrameContext {
@@ -63,23 +71,19 @@ impl FrameContext {
     pub fn new() -> FrameContext
         ensures { result ≡ new_context }
     {
-        FrameContext {
-            predictor_and_scale: 0,
-            last_samples: History {
-                newest: 0,
-                older: 0,
-            },
-        }
+        FrameContext::default()
     }
 
     // The index of the coefficients' pair.
+    #[tactic(auto, unfolding(crate::specs::Context::predictor))]
     pub fn predictor(self) -> usize
         ensures { result ≡ predictor self.predictor_and_scale }
     {
-        (self.predictor_and_scale / 16 % 8) as usize
+        usize::from(self.predictor_and_scale / 16 % 8)
     }
 
     // What a nibble is multiplied by.
+    #[tactic(auto, using(crate::proofs::LawsContext::scale_word))]
     pub fn scale(self) -> u32
         ensures { result ≡ scale self.predictor_and_scale }
     {
@@ -87,51 +91,48 @@ impl FrameContext {
     }
 
     // The context under another header.
+    #[tactic(auto, unfolding(crate::specs::Context::with_header))]
     pub fn with_header(self, header: u8) -> FrameContext
         ensures { result ≡ with_header self header }
     {
-        let last_samples = self.last_samples;
         FrameContext {
-            predictor_and_scale: header as u16,
-            last_samples: last_samples,
+            predictor_and_scale: u16::from(header),
+            ..self
         }
     }
 
     // The context with one sample more in its history.
+    #[tactic(auto, unfolding(crate::specs::Context::push_sample))]
     pub fn push_sample(self, sample: i16) -> FrameContext
         ensures { result ≡ push_sample self sample }
     {
-        let before = self.last_samples;
         FrameContext {
-            predictor_and_scale: self.predictor_and_scale,
             last_samples: History {
                 newest: sample,
-                older: before.newest,
+                older: self.last_samples.newest,
             },
+            ..self
         }
     }
 }
 
 // The samples before an address.
+#[tactic(auto, unfolding(crate::specs::Address::address_to_sample))]
 pub fn address_to_sample(address: u32) -> u64
     ensures { result ≡ address_to_sample address }
 {
-    let frame = (address / 16) as u64;
-    let place = (address % 16) as u64;
-    if place < 2 {
-        SAMPLES_PER_FRAME as u64 * frame
-    } else {
-        SAMPLES_PER_FRAME as u64 * frame + (place - 2)
-    }
+    let beyond_header = (address % 16).saturating_sub(2);
+    SAMPLES_PER_FRAME as u64 * u64::from(address / 16) + u64::from(beyond_header)
 }
 
 // The address of a sample.
+#[tactic(auto, unfolding(crate::specs::Address::sample_to_address))]
 pub fn sample_to_address(sample: u32) -> u64
     ensures { result ≡ sample_to_address sample }
 {
-    let s = sample as u64;
-    let frames = s / SAMPLES_PER_FRAME as u64 + 1;
-    s + frames * 2
+    let sample = u64::from(sample);
+    let headers = sample / SAMPLES_PER_FRAME as u64 + 1;
+    sample + 2 * headers
 }
 
 // The step: `count` samples of the frame at byte `at`, under the context's header, written to the output from `to` on.
@@ -148,14 +149,15 @@ pub fn play_frame(
     requires { (2 * at + 2 + count ≤ 2 * length bytes.now) × (to + count ≤ length out.old) }
     ensures { playing result out.new ≡ into out.old to (play_frame bytes.now at count coefficients (playing context [])) }
 {
-    let index = 2 * context.predictor();
-    let c0 = coefficients[index];
-    let c1 = coefficients[index + 1];
-    let scale = context.scale();
-    let history = context.last_samples;
+    let filter = Filter::new(coefficients, context);
     FrameContext {
-        predictor_and_scale: context.predictor_and_scale,
-        last_samples: frame::play_nibbles(bytes, at + 1, count, c0, c1, scale, history, out, to),
+        last_samples: filter.play(
+            bytes,
+            2 * at + 2,
+            context.last_samples,
+            &mut out[to..to + count],
+        ),
+        ..context
     }
 }
 
@@ -166,37 +168,28 @@ pub fn play_bytes(
     coefficients: [i16; 16],
     context: FrameContext,
     out: &mut [i16],
-) -> Playback
-    ensures { effect (play_outcome result.answer) (playing result.context out.new) ≡ play_bytes bytes.now len coefficients context out.old }
+) -> Result<Playback, Refusal>
+    ensures { effect (play_outcome result) (playing (final_context result context) out.new) ≡ play_bytes bytes.now len coefficients context out.old }
 {
     if play::bad_length(len, bytes.len()) {
-        return Playback {
-            answer: PlayAnswer::Refused(Refusal::LengthOutOfRange),
-            context: context,
-        };
+        return Err(Refusal::LengthOutOfRange);
     }
     if coefficients::lowest_pair(coefficients) {
-        return Playback {
-            answer: PlayAnswer::Refused(Refusal::LowestPair),
-            context: context,
-        };
+        return Err(Refusal::LowestPair);
     }
     let count = address_to_sample(len);
     let short = (out.len() as u64) < count;
     if short {
-        return Playback {
-            answer: PlayAnswer::Refused(Refusal::OutputTooShort),
-            context: context,
-        };
+        return Err(Refusal::OutputTooShort);
     }
     let after = play::play_into(bytes, len as usize, coefficients, context, out);
-    Playback {
-        answer: PlayAnswer::Played(count),
+    Ok(Playback {
+        samples: count,
         context: after,
-    }
+    })
 }
 
-// Joins two blocks: the first one's bytes and then the second's to the output.
+// Joins two blocks, the first one's bytes and then the second's to the output, and answers the sum of their lengths in nibbles.
 pub fn extend_samples(
     first: &[u8],
     first_len: u32,
@@ -205,28 +198,16 @@ pub fn extend_samples(
     second_len: u32,
     second_coefficients: [i16; 16],
     out: &mut [u8],
-) -> JoinAnswer
+) -> Result<u64, Refusal>
     ensures { effect (join_outcome result) out.new ≡ extend_samples first.now first_len first_coefficients second.now second_len second_coefficients out.old }
 {
     if join::shorter(out.len(), first.len(), second.len()) {
-        return JoinAnswer::Refused(Refusal::OutputTooShort);
+        return Err(Refusal::OutputTooShort);
     }
     if !coefficients::equal_coefficients(first_coefficients, second_coefficients) {
-        return JoinAnswer::Refused(Refusal::CoefficientsDiffer);
+        return Err(Refusal::CoefficientsDiffer);
     }
     join::copy(first, out, 0);
     join::copy(second, out, first.len());
-    JoinAnswer::Joined(first_len as u64 + second_len as u64)
-}
-
-// Document 01's number of a refusal.
-pub fn code(refusal: Refusal) -> u32
-    ensures { result ≡ code refusal }
-{
-    match refusal {
-        Refusal::LengthOutOfRange => 12,
-        Refusal::LowestPair => 13,
-        Refusal::OutputTooShort => 14,
-        Refusal::CoefficientsDiffer => 18,
-    }
+    Ok(u64::from(first_len) + u64::from(second_len))
 }

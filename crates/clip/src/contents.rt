@@ -4,15 +4,12 @@ ghost use Rattle.std.proofs.lemmas.List.Edits.{sets};
 ghost use Rattle.layout.specs.Limits.{Limits};
 ghost use Rattle.layout.specs.Fields.{be16, be32, mark, no_mark};
 ghost use Rattle.clip.specs.Image.{no_context, context_bytes, coefficient_bytes, start_shape, head_bytes, table_bytes, loop_bytes, fresh_bytes};
-ghost use Rattle.clip.specs.Encoding.{ended};
 ghost use Rattle.layout.specs.Sizes.{loop_count, block_count, bodies_place, image_size};
 
 use crate::starting::Start;
 use block::FrameContext;
 use layout::fields::{bits16, put16, put32, zeros};
-use layout::sizes::{
-    block_count, block_length, bodies_place, body_bytes, entry_place, loop_count, shape_of,
-};
+use layout::sizes::{block_count, block_length, bodies_place, body_bytes, entry_place, loop_count};
 use layout::{ENTRY_BYTES, Loop, MARK, Shape};
 use whole::History;
 
@@ -115,8 +112,7 @@ pub(crate) fn put_fresh(image: &mut [u8], g: Start)
     requires { Limits (start_shape g) × (image_size (start_shape g) ≤ length image.old) }
     ensures { image.new ≡ sets image.old 0 (fresh_bytes g) }
 {
-    let looped = g.looped;
-    let shape = shape_of(g.total, g.block, loop_count(looped));
+    let shape = g.shape();
     let blocks = block_count(shape);
     put_head(image, g, blocks as u32);
     put_table(image, shape);
@@ -140,13 +136,4 @@ pub fn put_loop(image: &mut [u8], at: usize, looped: Loop, context: FrameContext
         put_context(image, at + 8, context.predictor_and_scale, history);
         zeros(image, at + 14, 2);
     }
-}
-
-// What closing writes after the last frame: the entry that a loop adds, and the mark.
-pub(crate) fn put_end(image: &mut [u8], shape: Shape, looped: Loop, context: FrameContext)
-    requires { Limits shape × (image_size shape ≤ length image.old) × (shape.extra ≡ loop_count looped) }
-    ensures { image.new ≡ ended shape looped context image.old }
-{
-    put_loop(image, entry_place(block_count(shape)), looped, context);
-    put_mark(image);
 }

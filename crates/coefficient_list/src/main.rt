@@ -5,186 +5,128 @@
 // each record's two patterns, one and the same for every NaN; the sixteen coefficients' patterns. A refusal writes its number.
 #![tactic(auto)]
 
-ghost use Rattle.std.specs.Prelude.{◌≤◌};
+use coefficients::{CoefficientCalculator, Refusal};
+use replay::{Digits, Piece, digit, numbers, read_line};
+use std::io::{self, BufReader, BufWriter, Write};
+use std::num::f64_to_bits_with_nan;
+use whole::Reason;
 
-use coefficients::{Answer, CoefficientCalculator, Refusal};
-use replay::{
-    add_samples, digit, float_bits, least, print_hex, print_samples, print_space, read_line,
-};
-use std::io::{self, BufReader, BufWriter, Read, Write};
+// A number that no record has.
+const NO_RECORD: f64 = 1.0e300;
 
-// The measuring state, the samples of the piece that is to come, and whether the list goes on.
+// What a line asks for.
+enum Step {
+    Start,
+    Add,
+    Measure,
+    Ask,
+}
+
+impl From<u8> for Step {
+    fn from(letter: u8) -> Step {
+        match letter {
+            b'n' => Step::Start,
+            b'm' => Step::Measure,
+            b'a' => Step::Ask,
+            _ => Step::Add,
+        }
+    }
+}
+
+// The measuring state, its store, and the samples of the piece that is to come.
 #[derive(Drop)]
 struct State {
     calculator: CoefficientCalculator,
-    pending: usize,
-    more: bool,
-}
-
-// The count of a line.
-fn count(line: &[u8; 60]) -> usize
-    ensures { result ≤ 14 }
-{
-    least((digit(line[1]) * 10 + digit(line[2])) as usize, 14)
-}
-
-// Adds the samples of a line to the piece, and answers its length.
-fn add(line: &[u8; 60], piece: &mut [i16; 1024], pending: usize) -> usize {
-    add_samples(line, 3, count(line), piece, pending)
+    store: [f64; 128],
+    piece: Piece<1024>,
 }
 
 // Writes the number of a refusal.
 fn write_refusal(writer: &mut impl Write, why: Refusal) -> io::Result<()> {
-    let number = coefficients::code(why);
-    writeln!(writer, "refused {number}")
+    writeln!(writer, "refused {}", why.code())
 }
 
 // Writes the first records of the store.
 fn write_records(writer: &mut impl Write, store: &[f64; 128], n: usize) -> io::Result<()> {
-    let end = least(n, 64);
-    for k in 0..end {
-        print_space(writer)?;
-        print_hex(writer, float_bits(store[2 * k]), 16)?;
-        print_hex(writer, float_bits(store[2 * k + 1]), 16)?;
+    for k in 0..n.min(64) {
+        let first = f64_to_bits_with_nan(store[2 * k]);
+        let second = f64_to_bits_with_nan(store[2 * k + 1]);
+        write!(writer, " {first:016x}{second:016x}")?;
     }
     Ok(())
 }
 
-// Writes the line of an answer.
-fn write_answer(
-    writer: &mut impl Write,
-    store: &[f64; 128],
-    n: usize,
-    coefficients: &[i16; 16],
-) -> io::Result<()> {
-    write!(writer, "{n}")?;
-    write_records(writer, store, n)?;
-    print_space(writer)?;
-    print_samples(writer, coefficients)?;
-    writer.write_all(b"\n")
-}
-
-// A number that no record has goes to record r's place.
-fn mark(store: &mut [f64; 128], r: usize) {
-    if r < 64 {
-        store[2 * r] = 1.0e300;
+impl State {
+    // A new clip.
+    fn start(&mut self) {
+        self.calculator = CoefficientCalculator::new();
+        self.piece = Piece::new();
     }
-}
 
-// The number of records, with record r if its place is written.
-fn counted(store: &[f64; 128], r: usize) -> usize {
-    if r < 64 {
-        if store[2 * r] != 1.0e300 {
-            return r + 1;
+    // Adds the samples of a line to the piece.
+    fn add(&mut self, line: &[u8; 60]) {
+        let count = usize::from(digit(line[1]) * 10 + digit(line[2])).min(14);
+        let samples: [i16; 14] = numbers(line, 3);
+        self.piece.add(&samples[..count]);
+    }
+
+    // Measures the piece, after which the next one is empty.
+    fn measure(&mut self, writer: &mut impl Write) -> io::Result<()> {
+        match self.calculator.process(self.piece.as_slice(), &mut self.store) {
+            Ok(next) => self.calculator = next,
+            Err(why) => write_refusal(writer, why)?,
+        }
+        self.piece = Piece::new();
+        Ok(())
+    }
+
+    // Asks for the coefficients and writes them, after the records, with that of the frame that is filled up if its place is written.
+    fn ask(&mut self, writer: &mut impl Write) -> io::Result<()> {
+        let measured = self.calculator.records as usize;
+        if let Some(place) = self.store.get_mut(2 * measured) {
+            *place = NO_RECORD;
+        }
+        match self.calculator.finish(&mut self.store) {
+            Ok(coefficients) => {
+                let filled = self.store.get(2 * measured).is_some_and(|x| *x != NO_RECORD);
+                let n = measured + usize::from(filled);
+                write!(writer, "{n}")?;
+                write_records(writer, &self.store, n)?;
+                writeln!(writer, " {}", Digits(&coefficients))
+            }
+            Err(why) => write_refusal(writer, why),
         }
     }
-    r
-}
 
-// A new clip.
-fn start() -> State {
-    State {
-        calculator: CoefficientCalculator::new(),
-        pending: 0,
-        more: true,
+    // Replays one line.
+    fn replay(&mut self, writer: &mut impl Write, line: &[u8; 60]) -> io::Result<()> {
+        match Step::from(line[0]) {
+            Step::Start => self.start(),
+            Step::Add => self.add(line),
+            Step::Measure => {
+                self.add(line);
+                self.measure(writer)?;
+            }
+            Step::Ask => self.ask(writer)?,
+        }
+        Ok(())
     }
-}
-
-// Measures the piece, after which the next one is empty.
-fn measure(
-    writer: &mut impl Write,
-    calculator: CoefficientCalculator,
-    piece: &[i16],
-    pending: usize,
-    store: &mut [f64; 128],
-) -> io::Result<State> {
-    let n = least(pending, piece.len());
-    let done = calculator.process(&piece[..n], store);
-    let answer = done.answer;
-    let next = done.calculator;
-    match answer {
-        Answer::Accepted => {}
-        Answer::Refused(why) => write_refusal(writer, why)?,
-    }
-    Ok(State {
-        calculator: next,
-        pending: 0,
-        more: true,
-    })
-}
-
-// Asks for the coefficients and writes them.
-fn ask(
-    writer: &mut impl Write,
-    calculator: CoefficientCalculator,
-    pending: usize,
-    store: &mut [f64; 128],
-) -> io::Result<State> {
-    let r = calculator.records as usize;
-    mark(store, r);
-    let done = calculator.finish(store);
-    let answer = done.answer;
-    let coefficients = done.coefficients;
-    let next = done.calculator;
-    match answer {
-        Answer::Accepted => write_answer(writer, store, counted(store, r), &coefficients)?,
-        Answer::Refused(why) => write_refusal(writer, why)?,
-    }
-    Ok(State {
-        calculator: next,
-        pending,
-        more: true,
-    })
-}
-
-// Replays one line.
-fn replay(
-    reader: &mut impl Read,
-    writer: &mut impl Write,
-    state: State,
-    piece: &mut [i16; 1024],
-    store: &mut [f64; 128],
-) -> io::Result<State> {
-    let calculator = state.calculator;
-    let pending = state.pending;
-    let mut line = [0u8; 60];
-    if !read_line(reader, &mut line)? {
-        return Ok(State {
-            calculator,
-            pending,
-            more: false,
-        });
-    }
-    let letter = line[0];
-    if letter == b'n' {
-        return Ok(start());
-    }
-    if letter == b'a' {
-        return ask(writer, calculator, pending, store);
-    }
-    let length = add(&line, piece, pending);
-    if letter == b'm' {
-        return measure(writer, calculator, piece, length, store);
-    }
-    Ok(State {
-        calculator,
-        pending: length,
-        more: true,
-    })
 }
 
 // Replays every line of the list.
 fn main(rt: HostRuntime) -> io::Result<()> {
     let mut reader = BufReader::new(rt.alloc(), rt.reader())?;
     let mut writer = BufWriter::new(rt.alloc(), io::writer(&rt))?;
-    let mut piece = [0i16; 1024];
-    let mut store = [0.0f64; 128];
-    let mut state = start();
+    let mut state = State {
+        calculator: CoefficientCalculator::new(),
+        store: [0.0; 128],
+        piece: Piece::new(),
+    };
     for _ in 0..4_000_000_000u32 {
-        if !state.more {
+        let Some(line) = read_line(&mut reader)? else {
             break;
-        }
-        state = replay(&mut reader, &mut writer, state, &mut piece, &mut store)?;
+        };
+        state.replay(&mut writer, &line)?;
     }
     writer.flush()
 }

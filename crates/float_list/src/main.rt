@@ -3,46 +3,51 @@
 // output is the answer's pattern, one and the same for every NaN.
 #![tactic(auto)]
 
-use replay::{float_bits, print_hex, quad_word, read_line};
-use std::io::{self, BufReader, BufWriter, Read, Write};
+use replay::{Number, read_line};
+use std::io::{self, BufReader, BufWriter, Write};
+use std::num::{f64_from_bits_with_nan, f64_to_bits_with_nan};
 
-// The float of a pattern.
-fn float_of(bits: u64) -> f64 {
-    if bits % 0x8000_0000_0000_0000 > 0x7ff0_0000_0000_0000 {
-        return 0.0 / 0.0;
-    }
-    f64::from_bits(bits)
+// A function of the list.
+enum Function {
+    MulAdd,
+    Abs,
+    Max,
+    Min,
+    Round,
 }
 
-// The answer of the function that the letter names.
-fn answer(letter: u8, a: f64, b: f64, c: f64) -> f64 {
-    if letter == b'm' {
-        return float::mul_add(a, b, c);
+impl From<u8> for Function {
+    fn from(letter: u8) -> Function {
+        match letter {
+            b'm' => Function::MulAdd,
+            b'a' => Function::Abs,
+            b'x' => Function::Max,
+            b'n' => Function::Min,
+            _ => Function::Round,
+        }
     }
-    if letter == b'a' {
-        return float::abs(a);
-    }
-    if letter == b'x' {
-        return float::max(a, b);
-    }
-    if letter == b'n' {
-        return float::min(a, b);
-    }
-    float::round(a)
 }
 
-// Replays one line, and answers whether there was one.
-fn replay(reader: &mut impl Read, writer: &mut impl Write) -> io::Result<bool> {
-    let mut line = [0u8; 53];
-    if !read_line(reader, &mut line)? {
-        return Ok(false);
+impl Function {
+    // Its answer.
+    fn answer(self, a: f64, b: f64, c: f64) -> f64 {
+        match self {
+            Function::MulAdd => float::mul_add(a, b, c),
+            Function::Abs => float::abs(a),
+            Function::Max => float::max(a, b),
+            Function::Min => float::min(a, b),
+            Function::Round => float::round(a),
+        }
     }
-    let a = float_of(quad_word(&line, 2));
-    let b = float_of(quad_word(&line, 19));
-    let c = float_of(quad_word(&line, 36));
-    print_hex(writer, float_bits(answer(line[0], a, b, c)), 16)?;
-    writer.write_all(b"\n")?;
-    Ok(true)
+}
+
+// Replays one line.
+fn replay(writer: &mut impl Write, line: &[u8; 53]) -> io::Result<()> {
+    let a = f64_from_bits_with_nan(u64::read(line, 2));
+    let b = f64_from_bits_with_nan(u64::read(line, 19));
+    let c = f64_from_bits_with_nan(u64::read(line, 36));
+    let answer = Function::from(line[0]).answer(a, b, c);
+    writeln!(writer, "{:016x}", f64_to_bits_with_nan(answer))
 }
 
 // Replays every line of the input.
@@ -50,9 +55,10 @@ fn main(rt: HostRuntime) -> io::Result<()> {
     let mut reader = BufReader::new(rt.alloc(), rt.reader())?;
     let mut writer = BufWriter::new(rt.alloc(), io::writer(&rt))?;
     for _ in 0..1_000_000u32 {
-        if !replay(&mut reader, &mut writer)? {
+        let Some(line) = read_line(&mut reader)? else {
             break;
-        }
+        };
+        replay(&mut writer, &line)?;
     }
     writer.flush()
 }

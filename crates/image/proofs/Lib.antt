@@ -34,3 +34,4 @@ pub mod BadEntries
 pub mod WhereSixteenStood
 mod LawsTurn
 mod EntriesInTurn
+mod EntryTests

@@ -1,6 +1,6 @@
 -- Opening: its tests and what it answers. Definitions only.
-use Rattle.std.specs.Prelude.{Bool, true, not, cond, ◌&&◌, List, [], ◌∷◌, ◌≡◌, ℕ, zero, suc, ◌/◌, ◌≤◌, ◌<◌, eqb, leb, pos, length, get_or, replicate}
-use Rattle.whole.specs.Outcome.{Outcome, accepted, refused_at, refused, if_accepted, Effect, effect}
+use Rattle.std.specs.Prelude.{Bool, true, not, cond, ◌&&◌, List, [], ◌∷◌, ◌≡◌, ℕ, zero, suc, ◌/◌, ◌≤◌, ◌<◌, eqb, leb, pos, length, get_or, replicate, Result, Ok, Err}
+use Rattle.whole.specs.Outcome.{Outcome, accepted, refused_at, refused, answered, if_accepted, Effect, effect}
 use Rattle.block.specs.declared.FrameContext.{FrameContext}
 use Rattle.block.specs.Context.{new_context}
 use Rattle.layout.specs.declared.Loop.{Loop}
@@ -8,9 +8,8 @@ use Rattle.layout.specs.declared.Shape.{Shape}
 use Rattle.layout.specs.Fields.{mark}
 use Rattle.layout.specs.Limits.{numbers_ok, loop_ok}
 use Rattle.layout.specs.Sizes.{shape, no_loop, block_count, image_size, block_offset, block_length, frame_place}
-use Rattle.image.specs.declared.Answer.{Answer}
-use Rattle.image.specs.declared.Answer.TheVariants.{Accepted, Refused}
 use Rattle.image.specs.declared.Head.{Head}
+use Rattle.image.specs.declared.Opening as Declared
 use Rattle.image.specs.declared.Refusal.{Refusal}
 use Rattle.image.specs.declared.Refusal.TheVariants.{LowestPair, OutputTooShort, BadHead, NoSuchBlock, NoSuchSample, BadOffset, BadLength, BadHeader, BadLoop}
 use Rattle.image.specs.Reading.{total_in, rate_in, block_in, loops_in, blocks_in, shape_in, head_in, offset_in, length_in, header_in, entry_zero_in, loop_in, loop_context_in}
@@ -45,10 +44,9 @@ bad_block BadLoop = 0
 abbrev pub refusal : {A : Type 0} → Refusal → Outcome A
 refusal r = refused_at (code r) (bad_block r)
 
--- what an answer says: accepted, with no values, or the refusal
-abbrev pub outcome : Answer → Outcome Unit
-outcome Accepted = accepted tt
-outcome (Refused r) = refusal r
+-- what an answer says: accepted, with its values, or the refusal
+abbrev pub outcome : {A : Type 0} → Result A Refusal → Outcome A
+outcome = answered code bad_block
 
 -- a refusal, or else what the next tests say
 abbrev pub and_then : Outcome Unit → Outcome Unit → Outcome Unit
@@ -137,6 +135,11 @@ told h p c = record { head = h; looped = p; context = c }
 -- what a refused opening gives: all zeros
 abbrev pub no_head : Head
 no_head = record { total = 0; rate = 0; block = 0; gain = 0; coefficients = replicate 16 (pos 0); blocks = 0 }
+
+-- what opening gives, told; refused, all zeros
+abbrev pub told_by : Result Declared.Opening Refusal → Told
+told_by (Ok o) = told o.head o.looped o.context
+told_by (Err r) = told no_head no_loop new_context
 
 -- an image is opened: the outcome, and what it tells
 unfoldable pub open_image : List ℕ → Effect (Outcome Unit) Told

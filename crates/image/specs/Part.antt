@@ -1,9 +1,9 @@
 -- Playing from a sample on. Definitions only.
-use Rattle.std.specs.Prelude.{Bool, cond, ◌&&◌, List, ℕ, zero, suc, ◌+◌, ◌-◌, ◌*◌, ◌/◌, min, leb, ltb, ℤ, length, take, drop}
+use Rattle.std.specs.Prelude.{Bool, cond, ◌&&◌, List, ℕ, zero, suc, ◌+◌, ◌-◌, ◌*◌, ◌/◌, min, leb, ltb, ℤ, length, take, drop, Result, Ok, Err}
 use Rattle.std.proofs.lemmas.List.Edits.{sets}
 use Rattle.whole.specs.Outcome.{Outcome, accepted, refused, with_values, value_or, if_accepted, Effect, effect}
-use Rattle.image.specs.declared.PartAnswer.{PartAnswer}
-use Rattle.image.specs.declared.PartAnswer.TheVariants.{Played, Refused}
+use Rattle.image.specs.declared.Part as Declared
+use Rattle.image.specs.declared.Refusal.{Refusal}
 use Rattle.image.specs.Reading.{total_in, block_in, blocks_in}
 use Rattle.image.specs.Opening.{refusal, and_then}
 use Rattle.image.specs.Sameness.{samples_in, compare_answer}
@@ -36,10 +36,14 @@ unfoldable pub touched : ℕ → ℕ → ℕ → ℕ → ℕ
 touched p first n zero = 0
 touched p first n (suc k) = touched p first n k + cond (overlaps p first n k) 1 0
 
+-- how many samples and how many blocks
+abbrev pub part_counts : Declared.Part → ℕ × ℕ
+part_counts p = (p.samples, p.blocks)
+
 -- what an answer of playing from a sample says: how many samples and how many blocks, or the refusal
-abbrev pub part_outcome : PartAnswer → Outcome (ℕ × ℕ)
-part_outcome (Played n blocks) = accepted (n, blocks)
-part_outcome (Refused r) = refusal r
+abbrev pub part_outcome : Result Declared.Part Refusal → Outcome (ℕ × ℕ)
+part_outcome (Ok p) = accepted (part_counts p)
+part_outcome (Err r) = refusal r
 
 -- the samples and the blocks of what is answered, 0 where it is a refusal
 abbrev pub samples_of : Outcome (ℕ × ℕ) → ℕ

@@ -1,14 +1,14 @@
 -- Playing a block of an image. Definitions only.
-use Rattle.std.specs.Prelude.{cond, List, ℕ, ltb, ℤ, length}
+use Rattle.std.specs.Prelude.{cond, List, ℕ, ltb, ℤ, length, Result, Ok, Err}
 use Rattle.whole.specs.Outcome.{Outcome, accepted, refused, with_values, if_accepted, Effect, effect}
+use Rattle.block.specs.declared.Playback.{Playback}
 use Rattle.block.specs.Address.{address_to_sample}
 use Rattle.block.specs.Context.{new_context}
 use Rattle.block.specs.Frame.{Playing, playing}
 use Rattle.block.specs.Play.{play_into}
 use Rattle.block.specs.Refusals.{lowest_pair}
 use Rattle.image.specs.declared.bodies.Entry.{Entry}
-use Rattle.image.specs.declared.PlayAnswer.{PlayAnswer}
-use Rattle.image.specs.declared.PlayAnswer.TheVariants.{Played, Refused}
+use Rattle.image.specs.declared.Refusal.{Refusal}
 use Rattle.image.specs.Reading.{coefficients_in, offset_in, length_in, context_in}
 use Rattle.image.specs.Opening.{refusal, and_then}
 use Rattle.image.specs.Bodies.{block_answer, body_in}
@@ -26,9 +26,9 @@ unfoldable pub play_answer : List ℕ → ℕ → ℕ → Outcome Unit
 play_answer l k room = and_then (block_answer l k) (room_answer (coefficients_in l) (address_to_sample (length_in l k)) room)
 
 -- what an answer of playing says: the sample count, or the refusal
-abbrev pub play_outcome : PlayAnswer → Outcome ℕ
-play_outcome (Played n) = accepted n
-play_outcome (Refused r) = refusal r
+abbrev pub play_outcome : Result Playback Refusal → Outcome ℕ
+play_outcome (Ok p) = accepted p.samples
+play_outcome (Err r) = refusal r
 
 -- n samples as they are left in the output; refused, no context and the output unaltered
 abbrev pub played : Outcome Unit → ℕ → Playing → List ℤ → Effect (Outcome ℕ) Playing

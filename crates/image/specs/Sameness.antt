@@ -5,10 +5,8 @@ use Rattle.block.specs.declared.FrameContext.{FrameContext}
 use Rattle.block.specs.Play as Block
 use Rattle.block.specs.Refusals as Tests
 use Rattle.image.specs.declared.Head.{Head}
-use Rattle.image.specs.declared.SameAnswer.{SameAnswer}
-use Rattle.image.specs.declared.SameAnswer.TheVariants.{Same, Different, Refused}
 use Rattle.image.specs.Reading.{total_in, loops_in, blocks_in, coefficients_in, head_in, length_in, context_in, loop_in, loop_context_in}
-use Rattle.image.specs.Opening.{refusal, and_then, open_answer}
+use Rattle.image.specs.Opening.{and_then, open_answer}
 use Rattle.image.specs.Bodies.{body_in}
 
 -- block k's samples, played from its entry
@@ -75,12 +73,6 @@ compare_answer l = and_then (open_answer l) (cond (Tests.lowest_pair (coefficien
 -- "of two images the first is tested through 13 before the second"
 unfoldable pub both_answer : List ℕ → List ℕ → Outcome Unit
 both_answer a b = and_then (compare_answer a) (compare_answer b)
-
--- what an answer of comparing says: whether they are the same, or the refusal
-abbrev pub same_outcome : SameAnswer → Outcome Bool
-same_outcome Same = accepted true
-same_outcome Different = accepted false
-same_outcome (Refused r) = refusal r
 
 -- "Two images count as the same exactly when" they agree
 unfoldable pub same : List ℕ → List ℕ → Outcome Bool

@@ -4,20 +4,13 @@ ghost use Rattle.layout.specs.Limits.{Limits};
 ghost use Rattle.layout.specs.Sizes.{block_count, bodies_place, image_size};
 ghost use Rattle.image.specs.Opening.{outcome, entry_answer, entries_answer};
 
-use crate::{Answer, Refusal};
+use crate::Refusal;
 use layout::Shape;
 use layout::fields::{get16, get32};
 use layout::sizes::{block_count, block_length, bodies_place, entry_place};
 
-// The number that a byte is. It is internal: crate dsp calls it.
-pub fn byte(x: u8) -> u32
-    ensures { result ≡ x }
-{
-    x as u32
-}
-
 // Codes 20, 21 and 22 of block j's entry: its offset; its length and zero bytes; its predictor-and-scale.
-fn entry_answer(image: &[u8], shape: Shape, bodies: usize, j: usize) -> Answer
+fn entry_answer(image: &[u8], shape: Shape, bodies: usize, j: usize) -> Result<(), Refusal>
     requires { Limits shape × (bodies ≡ bodies_place shape) × (j < block_count shape) × (image_size shape ≤ length image.now) }
     ensures { outcome result ≡ entry_answer image.now shape j }
 {
@@ -25,40 +18,31 @@ fn entry_answer(image: &[u8], shape: Shape, bodies: usize, j: usize) -> Answer
     let offset = bodies + j * shape.block;
     let block = j as u32;
     if get32(image, at) as usize != offset {
-        return Answer::Refused(Refusal::BadOffset(block));
+        return Err(Refusal::BadOffset(block));
     }
     if get32(image, at + 4) as usize != block_length(shape, j) {
-        return Answer::Refused(Refusal::BadLength(block));
+        return Err(Refusal::BadLength(block));
     }
     if get16(image, at + 14) != 0 {
-        return Answer::Refused(Refusal::BadLength(block));
+        return Err(Refusal::BadLength(block));
     }
     let told = get16(image, at + 8);
-    let header = byte(image[offset]);
+    let header = u32::from(image[offset]);
     if told != header {
-        return Answer::Refused(Refusal::BadHeader(block));
+        return Err(Refusal::BadHeader(block));
     }
-    Answer::Accepted
+    Ok(())
 }
 
 // Codes 20, 21 and 22 of the first entry that has one.
-pub(crate) fn entries_answer(image: &[u8], shape: Shape) -> Answer
+pub(crate) fn entries_answer(image: &[u8], shape: Shape) -> Result<(), Refusal>
     requires { Limits shape × (image_size shape ≤ length image.now) }
     ensures { outcome result ≡ entries_answer image.now shape 0 (block_count shape) }
 {
     let blocks = block_count(shape);
     let bodies = bodies_place(shape);
-    let mut j: usize = 0;
-    while j < blocks {
-        let answer = entry_answer(image, shape, bodies, j);
-        match answer {
-            Answer::Accepted => {
-                j += 1;
-            }
-            Answer::Refused(why) => {
-                return Answer::Refused(why);
-            }
-        }
+    for j in 0..blocks {
+        entry_answer(image, shape, bodies, j)?;
     }
-    Answer::Accepted
+    Ok(())
 }

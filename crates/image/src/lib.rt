@@ -2,14 +2,16 @@
 #![tactic(auto)]
 
 ghost use Rattle.std.specs.Prelude.{◌≡◌};
+ghost use Rattle.block.specs.Context.{new_context};
 ghost use Rattle.block.specs.Frame.{playing};
-ghost use Rattle.image.specs.Opening.{code, bad_block, outcome, told, no_head, open_image};
-ghost use Rattle.whole.specs.Outcome.{effect};
+ghost use Rattle.block.specs.Play.{final_context};
+ghost use Rattle.image.specs.Opening.{code, bad_block, outcome, told_by, open_image};
+ghost use Rattle.whole.specs.Outcome.{effect, without_values};
 ghost use Rattle.image.specs.Bodies.{block_answer, block_part};
 ghost use Rattle.image.specs.Looping.{play_loop};
 ghost use Rattle.image.specs.Part.{part_outcome, play_from};
 ghost use Rattle.image.specs.Playing.{play_outcome, play};
-ghost use Rattle.image.specs.Sameness.{same_outcome, same, sounds_same};
+ghost use Rattle.image.specs.Sameness.{same, sounds_same};
 ghost use Rattle.image.specs.WholeImage.{play_all};
 
 mod agreeing;
@@ -23,19 +25,20 @@ mod playing;
 mod running;
 
 use agreeing::agree;
-use block::FrameContext;
+use block::{FrameContext, Playback};
 use bodies::{find_body, read_entry};
 use checks::{both_answer, from_answer, open_answer};
 use comparing::same_sound;
 use heading::read_head;
 use layout::Loop;
 use layout::fields::get32;
-use loops::{loop_context, no_loop, play_loop_opened, read_loop};
-use playing::{play_found, play_opened, refused_playback};
+use loops::{loop_context, play_loop_opened, read_loop};
+use playing::{play_found, play_opened};
 use running::play_part;
+use whole::Reason;
 
 // Why a call is refused; three of them name the block whose entry is bad.
-#[derive(Clone, Copy)]
+#[derive(Clone, Copy, Debug, PartialEq, Eq)]
 pub enum Refusal {
     LowestPair,
     OutputTooShort,
@@ -46,12 +49,6 @@ pub enum Refusal {
     BadLength(u32),
     BadHeader(u32),
     BadLoop,
-}
-
-#[derive(Clone, Copy)]
-pub enum Answer {
-    Accepted,
-    Refused(Refusal),
 }
 
 // What the head of an image says: N, rate, B, gain, coefficients and K.
@@ -66,225 +63,133 @@ pub struct Head {
     pub blocks: u32,
 }
 
-// What opening answers, the head's values, and the loop with the context at its start, zeros where there is none; refused, all zeros.
+// What opening tells: the head's values, and the loop with the context at its start, zeros where there is none.
 #[derive(Drop)]
 pub struct Opening {
-    pub answer: Answer,
     pub head: Head,
     pub looped: Loop,
     pub context: FrameContext,
 }
 
-// Playing's answer: the sample count, or the refusal.
+// What playing from a sample on gives: how many samples were played and how many blocks touched.
 #[derive(Drop)]
-pub enum PlayAnswer {
-    Played(u64),
-    Refused(Refusal),
+pub struct Part {
+    pub samples: u64,
+    pub blocks: u32,
 }
 
-// What playing gives: its answer, and the final context or, where it is refused, zeros.
-#[derive(Drop)]
-pub struct Playback {
-    pub answer: PlayAnswer,
-    pub context: FrameContext,
-}
+impl Reason for Refusal {
+    ghost number = { code };
 
-// The answer of playing from a sample on: how many samples were played and how many blocks touched, or the refusal.
-#[derive(Drop)]
-pub enum PartAnswer {
-    Played(u64, u32),
-    Refused(Refusal),
-}
+    ghost named = { bad_block };
 
-// Comparing's answer.
-#[derive(Drop)]
-pub enum SameAnswer {
-    Same,
-    Different,
-    Refused(Refusal),
-}
-
-// The number of a refusal in documents 01 and 02.
-pub fn code(refusal: Refusal) -> u32
-    ensures { result ≡ code refusal }
-{
-    match refusal {
-        Refusal::LowestPair => 13,
-        Refusal::OutputTooShort => 14,
-        Refusal::BadHead => 15,
-        Refusal::NoSuchBlock => 17,
-        Refusal::NoSuchSample => 19,
-        Refusal::BadOffset(_) => 20,
-        Refusal::BadLength(_) => 21,
-        Refusal::BadHeader(_) => 22,
-        Refusal::BadLoop => 24,
+    // The number of a refusal in documents 01 and 02.
+    fn code(self) -> u32 {
+        match self {
+            Refusal::LowestPair => 13,
+            Refusal::OutputTooShort => 14,
+            Refusal::BadHead => 15,
+            Refusal::NoSuchBlock => 17,
+            Refusal::NoSuchSample => 19,
+            Refusal::BadOffset(_) => 20,
+            Refusal::BadLength(_) => 21,
+            Refusal::BadHeader(_) => 22,
+            Refusal::BadLoop => 24,
+        }
     }
-}
 
-// The block whose entry is bad, or 0 where the refusal names none.
-pub fn bad_block(refusal: Refusal) -> u32
-    ensures { result ≡ bad_block refusal }
-{
-    match refusal {
-        Refusal::LowestPair => 0,
-        Refusal::OutputTooShort => 0,
-        Refusal::BadHead => 0,
-        Refusal::NoSuchBlock => 0,
-        Refusal::NoSuchSample => 0,
-        Refusal::BadOffset(j) => j,
-        Refusal::BadLength(j) => j,
-        Refusal::BadHeader(j) => j,
-        Refusal::BadLoop => 0,
-    }
-}
-
-// The head of no image: all zeros.
-fn no_head() -> Head
-    ensures { result ≡ no_head }
-{
-    Head {
-        total: 0,
-        rate: 0,
-        block: 0,
-        gain: 0,
-        coefficients: [0i16; 16],
-        blocks: 0,
+    // The block whose entry is bad, or 0 where the refusal names none.
+    fn bad_block(self) -> u32 {
+        match self {
+            Refusal::BadOffset(j) | Refusal::BadLength(j) | Refusal::BadHeader(j) => j,
+            _ => 0,
+        }
     }
 }
 
 // Opens an image: checks its head, its entries and its loop, and tells the head's values, the loop and the context at its start.
-pub fn open(image: &[u8]) -> Opening
-    ensures { effect (outcome result.answer) (told result.head result.looped result.context) ≡ open_image image.now }
+pub fn open(image: &[u8]) -> Result<Opening, Refusal>
+    ensures { effect (without_values (outcome result)) (told_by result) ≡ open_image image.now }
 {
-    let answer = open_answer(image);
-    match answer {
-        Answer::Accepted => {
-            let head = read_head(image);
-            let looped = read_loop(image);
-            let context = loop_context(image, looped);
-            Opening {
-                answer: Answer::Accepted,
-                head: head,
-                looped: looped,
-                context: context,
-            }
-        }
-        Answer::Refused(why) => {
-            let head = no_head();
-            let looped = no_loop();
-            let context = FrameContext::new();
-            Opening {
-                answer: Answer::Refused(why),
-                head: head,
-                looped: looped,
-                context: context,
-            }
-        }
-    }
+    open_answer(image)?;
+    let head = read_head(image);
+    let looped = read_loop(image);
+    let context = loop_context(image, looped);
+    Ok(Opening {
+        head,
+        looped,
+        context,
+    })
 }
 
 // Whether there is a block k, by codes 15, 20, 21, 22, 24 and 17: what `block_body` and `play` ask first.
-pub fn block_answer(image: &[u8], k: u32) -> Answer
+pub fn block_answer(image: &[u8], k: u32) -> Result<(), Refusal>
     ensures { outcome result ≡ block_answer image.now k }
 {
-    let answer = open_answer(image);
-    match answer {
-        Answer::Accepted => {
-            if k >= get32(image, 52) {
-                return Answer::Refused(Refusal::NoSuchBlock);
-            }
-            Answer::Accepted
-        }
-        Answer::Refused(why) => Answer::Refused(why),
+    open_answer(image)?;
+    if k >= get32(image, 52) {
+        return Err(Refusal::NoSuchBlock);
     }
+    Ok(())
 }
 
 // Block k's body, as that part of the image; where `block_answer` refuses, no bytes.
 pub fn block_body<'a>(image: &'a [u8], k: u32) -> &'a [u8]
     ensures { effect result.ref_ptr result.now ≡ block_part image.entry.ref_ptr image.now k }
 {
-    let answer = block_answer(image, k);
-    match answer {
-        Answer::Accepted => {
+    match block_answer(image, k) {
+        Ok(()) => {
             let entry = read_entry(image, k as usize);
             find_body(image, entry.offset as usize, entry.nibbles as usize)
         }
-        Answer::Refused(_) => &image[..0],
+        Err(_) => &image[..0],
     }
 }
 
 // Plays block k of an image to the output.
-pub fn play(image: &[u8], k: u32, out: &mut [i16]) -> Playback
-    ensures { effect (play_outcome result.answer) (playing result.context out.new) ≡ play image.now k out.old }
+pub fn play(image: &[u8], k: u32, out: &mut [i16]) -> Result<Playback, Refusal>
+    ensures { effect (play_outcome result) (playing (final_context result new_context) out.new) ≡ play image.now k out.old }
 {
-    let answer = block_answer(image, k);
-    match answer {
-        Answer::Accepted => play_found(image, k as usize, out),
-        Answer::Refused(why) => refused_playback(why),
-    }
+    block_answer(image, k)?;
+    play_found(image, k as usize, out)
 }
 
 // Plays a whole image to the output: blocks 0 to K-1 in turn, joined. The table is tested once.
-pub fn play_all(image: &[u8], out: &mut [i16]) -> Playback
-    ensures { effect (play_outcome result.answer) (playing result.context out.new) ≡ play_all image.now out.old }
+pub fn play_all(image: &[u8], out: &mut [i16]) -> Result<Playback, Refusal>
+    ensures { effect (play_outcome result) (playing (final_context result new_context) out.new) ≡ play_all image.now out.old }
 {
-    let answer = open_answer(image);
-    match answer {
-        Answer::Accepted => play_opened(image, out),
-        Answer::Refused(why) => refused_playback(why),
-    }
+    open_answer(image)?;
+    play_opened(image, out)
 }
 
 // Plays an image from sample `first` on, until the output is full or the clip ends; across blocks, each from its own entry.
-pub fn play_from(image: &[u8], first: u32, out: &mut [i16]) -> PartAnswer
+pub fn play_from(image: &[u8], first: u32, out: &mut [i16]) -> Result<Part, Refusal>
     ensures { effect (part_outcome result) out.new ≡ play_from image.now first out.old }
 {
-    let answer = from_answer(image, first);
-    match answer {
-        Answer::Accepted => play_part(image, first as usize, out),
-        Answer::Refused(why) => PartAnswer::Refused(why),
-    }
+    from_answer(image, first)?;
+    Ok(play_part(image, first as usize, out))
 }
 
 // Plays the loop of an image so many times over to the output, each time from the stored context; without a loop, no samples.
-pub fn play_loop(image: &[u8], times: u32, out: &mut [i16]) -> PlayAnswer
-    ensures { effect (play_outcome result) out.new ≡ play_loop image.now times out.old }
+pub fn play_loop(image: &[u8], times: u32, out: &mut [i16]) -> Result<u64, Refusal>
+    ensures { effect (outcome result) out.new ≡ play_loop image.now times out.old }
 {
-    let answer = open_answer(image);
-    match answer {
-        Answer::Accepted => play_loop_opened(image, times, out),
-        Answer::Refused(why) => PlayAnswer::Refused(why),
-    }
+    open_answer(image)?;
+    play_loop_opened(image, times, out)
 }
 
 // Whether two images are the same: N, rate, gain, B, coefficients, every context, the loop and the played samples agree.
-pub fn same(a: &[u8], b: &[u8]) -> SameAnswer
-    ensures { same_outcome result ≡ same a.now b.now }
+pub fn same(a: &[u8], b: &[u8]) -> Result<bool, Refusal>
+    ensures { outcome result ≡ same a.now b.now }
 {
-    let answer = both_answer(a, b);
-    match answer {
-        Answer::Accepted => {
-            if agree(a, b) {
-                return SameAnswer::Same;
-            }
-            SameAnswer::Different
-        }
-        Answer::Refused(why) => SameAnswer::Refused(why),
-    }
+    both_answer(a, b)?;
+    Ok(agree(a, b))
 }
 
 // Whether two images sound the same: N is equal and the played samples are equal, whatever else differs.
-pub fn sounds_same(a: &[u8], b: &[u8]) -> SameAnswer
-    ensures { same_outcome result ≡ sounds_same a.now b.now }
+pub fn sounds_same(a: &[u8], b: &[u8]) -> Result<bool, Refusal>
+    ensures { outcome result ≡ sounds_same a.now b.now }
 {
-    let answer = both_answer(a, b);
-    match answer {
-        Answer::Accepted => {
-            if same_sound(a, b) {
-                return SameAnswer::Same;
-            }
-            SameAnswer::Different
-        }
-        Answer::Refused(why) => SameAnswer::Refused(why),
-    }
+    both_answer(a, b)?;
+    Ok(same_sound(a, b))
 }

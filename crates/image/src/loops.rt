@@ -6,16 +6,15 @@ ghost use Rattle.layout.specs.Sizes.{no_loop};
 ghost use Rattle.image.specs.inner.Asked.{Headed, Opens, Turns};
 ghost use Rattle.image.specs.inner.Played.{play_loop_by};
 ghost use Rattle.image.specs.Reading.{coefficients_in, loop_in, loop_context_in};
-ghost use Rattle.image.specs.Opening.{loop_fits};
-ghost use Rattle.image.specs.Playing.{room_answer, play_outcome};
+ghost use Rattle.image.specs.Opening.{outcome, loop_fits};
+ghost use Rattle.image.specs.Playing.{room_answer};
 ghost use Rattle.image.specs.Looping.{loop_length, loop_once, repeated};
 
+use crate::Refusal;
 use crate::bodies::read_context;
 use crate::checks::room_answer;
-use crate::entries::byte;
 use crate::heading::{read_coefficients, read_shape};
 use crate::running::play_run;
-use crate::{Answer, PlayAnswer};
 use block::FrameContext;
 use layout::Loop;
 use layout::fields::{get16, get32};
@@ -91,7 +90,7 @@ pub(crate) fn loop_fits(image: &[u8]) -> bool
         + BYTES_PER_FRAME * (start as usize / SAMPLES_PER_FRAME);
     entry_told(
         get16(image, at + 8),
-        byte(image[frame]),
+        u32::from(image[frame]),
         get16(image, at + 14),
     )
 }
@@ -120,23 +119,18 @@ fn play_turns(
 }
 
 // Plays the loop of an image that opens.
-pub(crate) fn play_loop_opened(image: &[u8], times: u32, out: &mut [i16]) -> PlayAnswer
+pub(crate) fn play_loop_opened(image: &[u8], times: u32, out: &mut [i16]) -> Result<u64, Refusal>
     requires { Opens image.now }
-    ensures { effect (play_outcome result) out.new ≡ play_loop_by (room_answer (coefficients_in image.now) (times * loop_length image.now) (length out.old)) image.now times out.old }
+    ensures { effect (outcome result) out.new ≡ play_loop_by (room_answer (coefficients_in image.now) (times * loop_length image.now) (length out.old)) image.now times out.old }
 {
     let coefficients = read_coefficients(image);
     let looped = read_loop(image);
     let present = looped.present;
     let samples = times as u64 * (looped.end - looped.start) as u64;
-    let answer = room_answer(coefficients, samples, out.len());
-    match answer {
-        Answer::Accepted => {
-            if present {
-                let context = loop_context(image, looped);
-                play_turns(image, looped, times, context, coefficients, out);
-            }
-            PlayAnswer::Played(samples)
-        }
-        Answer::Refused(why) => PlayAnswer::Refused(why),
+    room_answer(coefficients, samples, out.len())?;
+    if present {
+        let context = loop_context(image, looped);
+        play_turns(image, looped, times, context, coefficients, out);
     }
+    Ok(samples)
 }

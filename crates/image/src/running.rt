@@ -4,13 +4,13 @@ ghost use Rattle.std.proofs.lemmas.List.Edits.{sets};
 ghost use Rattle.image.specs.inner.Asked.{Opens, Found, SomeOf, Later, Run};
 ghost use Rattle.image.specs.inner.Runs.{context_at_sample, part_of};
 ghost use Rattle.image.specs.Looping.{rest_in, samples_on};
-ghost use Rattle.image.specs.Part.{per_block, touched, part_outcome};
+ghost use Rattle.image.specs.Part.{per_block, touched, part_counts};
 ghost use Rattle.image.specs.Reading.{total_in, blocks_in, coefficients_in};
 ghost use Rattle.image.specs.Bodies.{body_in};
 ghost use Rattle.image.specs.Sameness.{block_samples, samples_from};
-ghost use Rattle.whole.specs.Outcome.{effect};
+ghost use Rattle.whole.specs.Outcome.{accepted, effect};
 
-use crate::PartAnswer;
+use crate::Part;
 use crate::bodies::{find_body, read_context, read_entry};
 use crate::heading::read_coefficients;
 use block::part::{context_after, play_on};
@@ -129,17 +129,23 @@ pub(crate) fn play_run(
 }
 
 // Plays on from sample `first`, which the image has; the image opens.
-pub(crate) fn play_part(image: &[u8], first: usize, out: &mut [i16]) -> PartAnswer
+pub(crate) fn play_part(image: &[u8], first: usize, out: &mut [i16]) -> Part
     requires { Opens image.now × (first < total_in image.now) }
-    ensures { effect (part_outcome result) out.new ≡ part_of image.now first out.old }
+    ensures { effect (accepted (part_counts result)) out.new ≡ part_of image.now first out.old }
 {
     let left = get32(image, 4) as usize - first;
     let count = least(out.len(), left);
     if count == 0 {
-        return PartAnswer::Played(0, 0);
+        return Part {
+            samples: 0,
+            blocks: 0,
+        };
     }
     let coefficients = read_coefficients(image);
     let context = context_at_sample(image, first, coefficients);
     let blocks = play_run(image, first, count, context, coefficients, out);
-    PartAnswer::Played(count as u64, blocks as u32)
+    Part {
+        samples: count as u64,
+        blocks: blocks as u32,
+    }
 }

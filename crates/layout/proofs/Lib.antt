@@ -1,4 +1,4 @@
 -- Laws of sizes and limits.
-mod SignedBits
+pub mod Stored
 pub mod SizeLaws
 pub mod LimitLaws

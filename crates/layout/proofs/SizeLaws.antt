@@ -1,12 +1,22 @@
 -- Laws of the sizes of a clip.
 use mathlib.Core.Path.{◌≡◌, sym, ap, ◌∙◌}
-use Prim.Native.Nat.{ℕ, suc, ◌+◌, ◌-◌, ◌*◌, ◌/◌, ◌%◌, ◌≤◌, ◌<◌}
+use Prim.Native.Nat.{ℕ, suc, ◌+◌, ◌-◌, ◌*◌, ◌/◌, ◌%◌, ◌≤◌, ◌<◌, min}
 use native.Mathlib.Nat.{mul-le-mul, le_refl, div-lt_iff_lt-mul, le-div_iff_mul-le, suc-mul, mul_assoc, mul_comm, div-add-mod'}
 use native.Mathlib.Omega.{arith}
+use Rattle.std.proofs.lemmas.Grind.{div_ceil_times}
 use Rattle.layout.specs.declared.Shape.{Shape}
 use Rattle.layout.specs.Sizes.{block_count}
 use Rattle.whole.specs.Frames.{most, frame_count}
 use Rattle.layout.specs.Limits.{Limits}
+
+-- a quotient rounded up
+pub rounded_up : (a b : ℕ) → 0 < b → a / b + min 1 (a % b) ≡ (a + b - 1) / b
+rounded_up a b p =
+    let c = a / b + min 1 (a % b) in
+    let t = div_ceil_times a b p in
+    let l : c ≤ (a + b - 1) / b = (le-div_iff_mul-le {x = c} {y = a + b - 1} p).1 (omega (arith, t.1)) in
+    let h : (a + b - 1) / b < suc c = (div-lt_iff_lt-mul p).1 (omega (arith, t.0, suc-mul c b)) in
+    omega arith
 
 -- there are at most as many blocks as frames
 pub blocks-le : (f b : ℕ) → 8 ≤ b → (8 * f + b - 1) / b ≤ f
@@ -72,3 +82,6 @@ blocks-all s L =
     let kk = (8 * frame_count s.total + s.block - 1) / s.block in
     let h : 8 * frame_count s.total + s.block - 1 < suc kk * s.block = (div-lt_iff_lt-mul {x = 8 * frame_count s.total + s.block - 1} {y = suc kk} z).0 (omega arith) in
     omega (arith, suc-mul kk s.block, block-place s.block kk L.eights)
+
+-- what the code's sums and differences need of a clip's sizes
+pub ruleset fitting = (frames-some, blocks-most, block-first)

@@ -1,23 +1,25 @@
 // Big-endian fields of an image.
-ghost use Rattle.std.specs.Prelude.{◌≡◌, ◌+◌, ◌≤◌, ◌<◌, length, take, replicate};
+ghost use Rattle.std.specs.Prelude.{◌≡◌, ◌+◌, ◌≤◌, ◌<◌, length, take, drop, replicate};
 ghost use Rattle.std.proofs.lemmas.List.Edits.{sets};
 ghost use Rattle.std.proofs.Common.{of_z, to_z};
 ghost use Rattle.std.specs.Int.{w16};
 ghost use Rattle.layout.specs.Fields.{be16, be32, at16, at32};
 
-fn wide(x: u8) -> u32
-    ensures { (result ≡ x) × (result < 256) }
+// Bytes go to a place.
+fn put(buf: &mut [u8], at: usize, bytes: &[u8])
+    requires { at + length bytes.now ≤ length buf.old }
+    ensures { buf.new ≡ sets buf.old at bytes.now }
 {
-    x as u32
+    buf[at..at + bytes.len()].copy_from_slice(bytes);
 }
 
+// Stays: the functions of two widths, here and below, are a line each over the library's bytes of a number; a trait for the two is longer.
 // internal: two bytes of a number, the high one first.
 pub fn put16(buf: &mut [u8], at: usize, v: u16)
     requires { at + 2 ≤ length buf.old }
     ensures { buf.new ≡ sets buf.old at (be16 v) }
 {
-    buf[at] = (v / 256) as u8;
-    buf[at + 1] = (v % 256) as u8;
+    put(buf, at, &v.to_be_bytes());
 }
 
 // internal: four bytes of a number, the highest first.
@@ -25,32 +27,21 @@ pub fn put32(buf: &mut [u8], at: usize, v: u32)
     requires { at + 4 ≤ length buf.old }
     ensures { buf.new ≡ sets buf.old at (be32 v) }
 {
-    buf[at] = (v / 16777216) as u8;
-    buf[at + 1] = (v / 65536 % 256) as u8;
-    buf[at + 2] = (v / 256 % 256) as u8;
-    buf[at + 3] = (v % 256) as u8;
+    put(buf, at, &v.to_be_bytes());
 }
 
 // internal: the bits of a signed number.
 pub fn bits16(x: i16) -> u16
     ensures { result ≡ of_z w16 x }
 {
-    if x < 0 {
-        (x as i32 + 65536) as u16
-    } else {
-        x as u16
-    }
+    x.cast_unsigned()
 }
 
 // The signed number of 16 bits. It is internal: crate image calls it.
 pub fn signed16(v: u16) -> i16
     ensures { result ≡ to_z w16 v }
 {
-    if v < 32768 {
-        v as i16
-    } else {
-        (v as i32 - 65536) as i16
-    }
+    v.cast_signed()
 }
 
 // The number that two bytes are. It is internal: crate image calls it.
@@ -58,7 +49,7 @@ pub fn get16(buf: &[u8], at: usize) -> u32
     requires { at + 2 ≤ length buf.now }
     ensures { result ≡ at16 buf.now at }
 {
-    wide(buf[at]) * 256 + wide(buf[at + 1])
+    u16::from_be_bytes([buf[at], buf[at + 1]]).into()
 }
 
 // The number that four bytes are. It is internal: crate image calls it.
@@ -66,10 +57,7 @@ pub fn get32(buf: &[u8], at: usize) -> u32
     requires { at + 4 ≤ length buf.now }
     ensures { result ≡ at32 buf.now at }
 {
-    wide(buf[at]) * 16777216
-        + wide(buf[at + 1]) * 65536
-        + wide(buf[at + 2]) * 256
-        + wide(buf[at + 3])
+    u32::from_be_bytes([buf[at], buf[at + 1], buf[at + 2], buf[at + 3]])
 }
 
 // internal: the first n of eight bytes.
@@ -77,11 +65,7 @@ pub fn put_part(buf: &mut [u8], at: usize, b: [u8; 8], n: usize)
     requires { (at + n ≤ length buf.old) × (n ≤ 8) }
     ensures { buf.new ≡ sets buf.old at (take n b) }
 {
-    let mut j: usize = 0;
-    while j < n {
-        buf[at + j] = b[j];
-        j += 1;
-    }
+    put(buf, at, &b[..n]);
 }
 
 // internal: zeros from a place on, n of them.
@@ -89,9 +73,5 @@ pub fn zeros(buf: &mut [u8], at: usize, n: usize)
     requires { at + n ≤ length buf.old }
     ensures { buf.new ≡ sets buf.old at (replicate n 0) }
 {
-    let mut j: usize = 0;
-    while j < n {
-        buf[at + j] = 0;
-        j += 1;
-    }
+    buf[at..at + n].fill(0);
 }

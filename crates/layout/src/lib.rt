@@ -15,7 +15,7 @@ pub const ENTRY_BYTES: usize = 16;
 
 // A loop: the sample that it starts at, and the one after its last; or none.
 #[repr(C)]
-#[derive(Clone, Copy)]
+#[derive(Clone, Copy, Default, PartialEq, Eq)]
 pub struct Loop {
     pub start: u32,
     pub end: u32,
@@ -23,7 +23,8 @@ pub struct Loop {
 }
 
 // What fixes the sizes and places of a clip: N, B, and how many entries follow those of its K blocks.
-#[derive(Clone, Copy)]
+// Stays: its limits are asked by Limits and no invariant, since the definition `shape`, on which the theorems stand, makes one of any numbers.
+#[derive(Clone, Copy, Default, PartialEq, Eq)]
 pub struct Shape {
     pub total: usize,
     pub block: usize,

@@ -22,14 +22,10 @@ pub fn shape_of(total: u32, block: u32, extra: u32) -> Shape
 pub fn told_loop(looped: Loop) -> Loop
     ensures { result ≡ told_loop looped }
 {
-    let present = looped.present;
-    if present {
-        return looped;
-    }
-    Loop {
-        start: 0,
-        end: 0,
-        present: false,
+    if looped.present {
+        looped
+    } else {
+        Loop::default()
     }
 }
 
@@ -37,20 +33,21 @@ pub fn told_loop(looped: Loop) -> Loop
 pub fn loop_count(looped: Loop) -> u32
     ensures { result ≡ loop_count looped }
 {
-    let present = looped.present;
-    if present { 1 } else { 0 }
+    u32::from(looped.present)
 }
 
 // Frames of n samples, the last one filled. It is internal: clip and image call it.
+#[tactic(auto, unfolding(whole::specs::Frames::frame_count))]
 pub fn frame_count(n: usize) -> usize
     requires { n ≤ 14680064 }
     ensures same { result ≡ frame_count n }
     ensures most { result ≤ 1048576 }
 {
-    (n + 13) / SAMPLES_PER_FRAME
+    n.div_ceil(SAMPLES_PER_FRAME)
 }
 
 // Samples in the last frame. It is internal: image calls it.
+#[tactic(auto, unfolding(whole::specs::Frames::frame_count, crate::specs::Sizes::last_frame_samples))]
 pub fn last_samples(total: usize) -> usize
     requires { (1 ≤ total) × (total ≤ 14680064) }
     ensures same { result ≡ last_frame_samples total }
@@ -60,22 +57,23 @@ pub fn last_samples(total: usize) -> usize
 }
 
 // Blocks of a clip. It is internal: clip and image call it.
+#[tactic(auto, using(crate::proofs::SizeLaws::rounded_up), unfolding(crate::specs::Sizes::block_count))]
 pub fn block_count(shape: Shape) -> usize
     requires { Limits shape }
     ensures same { result ≡ block_count shape }
     ensures most { result ≤ 1048576 }
 {
-    let block = shape.block;
-    (BYTES_PER_FRAME * frame_count(shape.total) + block - 1) / block
+    (BYTES_PER_FRAME * frame_count(shape.total)).div_ceil(shape.block)
 }
 
 // Bytes of a clip's bodies. It is internal: clip calls it.
+#[tactic(auto, unfolding(whole::specs::Frames::frame_count, crate::specs::Sizes::body_bytes, crate::specs::Sizes::last_frame_samples))]
 pub fn body_bytes(total: usize) -> usize
     requires { (1 ≤ total) × (total ≤ 14680064) }
     ensures same { result ≡ body_bytes total }
     ensures most { result ≤ 8388608 }
 {
-    BYTES_PER_FRAME * (frame_count(total) - 1) + 1 + (last_samples(total) + 1) / 2
+    BYTES_PER_FRAME * (frame_count(total) - 1) + 1 + last_samples(total).div_ceil(2)
 }
 
 // Where block j's entry stands. It is internal: clip, image and doilycairn call it.
@@ -95,6 +93,7 @@ pub fn bodies_place(shape: Shape) -> usize
 }
 
 // Bytes of a clip's image. It is internal: clip and image call it.
+#[tactic(auto, using(crate::proofs::SizeLaws::fitting), unfolding(crate::specs::Sizes::image_size))]
 pub fn image_size(shape: Shape) -> usize
     requires { Limits shape }
     ensures { result ≡ image_size shape }
@@ -103,6 +102,7 @@ pub fn image_size(shape: Shape) -> usize
 }
 
 // A block size cut down to a multiple of 8. It is internal: clip and doilycairn call it.
+#[tactic(auto, unfolding(crate::specs::Sizes::cut_down))]
 pub fn cut_down(size: u32) -> u32
     ensures { result ≡ cut_down size }
 {
@@ -110,17 +110,18 @@ pub fn cut_down(size: u32) -> u32
 }
 
 // The nibbles of block j. It is internal: clip and image call it.
+#[tactic(auto, using(crate::proofs::SizeLaws::fitting, std::proofs::lemmas::Bool::Decides::nat_tests), unfolding(crate::specs::Sizes::block_length))]
 pub fn block_length(shape: Shape, j: usize) -> usize
     requires { Limits shape × (j < block_count shape) }
     ensures same { result ≡ block_length shape j }
     ensures most { result < 4294967296 }
 {
     let per = shape.block / BYTES_PER_FRAME;
-    let total = shape.total;
-    let f = frame_count(total);
+    let frames = frame_count(shape.total);
     let first = j * per;
-    if first + per < f {
-        return 16 * per;
+    if first + per < frames {
+        16 * per
+    } else {
+        16 * (frames - 1 - first) + (last_samples(shape.total) + 2)
     }
-    16 * (f - 1 - first) + (last_samples(total) + 2)
 }

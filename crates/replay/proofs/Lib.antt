@@ -1,2 +1,3 @@
 -- What the proofs share.
-pub mod Samples
+pub mod Places
+pub mod Pieces

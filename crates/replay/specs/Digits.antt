@@ -1,7 +1,6 @@
 -- Numbers in hexadecimal digits, the first digit highest. Definitions only.
-use Rattle.std.specs.Prelude.{cond, List, [], ◌∷◌, ◌++◌, ℕ, zero, suc, ◌+◌, ◌-◌, ◌*◌, ◌%◌, ltb, Float, ℤ, get_or}
-use Rattle.std.specs.Float.{binary64}
-use Rattle.std.specs.Float.Ieee.{is_nan, to_bits}
+use Rattle.std.specs.Prelude.{cond, List, ℕ, ◌+◌, ◌*◌, ◌%◌, ltb, ℤ, get_or, map}
+use Rattle.std.specs.List.{range_with_len}
 use Rattle.std.specs.Int.{w16}
 use Rattle.std.proofs.Common.{to_z}
 
@@ -29,23 +28,6 @@ quad_word l i = double_word l i * 4294967296 + double_word l (i + 8)
 abbrev pub sample_at : List ℕ → ℕ → ℤ
 sample_at l i = to_z w16 (word l i)
 
--- n samples, of four digits each, from place i on
-unfoldable pub samples_at : List ℕ → ℕ → ℕ → List ℤ
-samples_at l i zero = []
-samples_at l i (suc n) = samples_at l i n ++ (sample_at l (i + 4 * n) ∷ [])
-
--- the smaller of two numbers
-unfoldable pub least : ℕ → ℕ → ℕ
-least a b = cond (ltb a b) a b
-
--- where n samples more begin in a piece with room for m of which p are there
-unfoldable pub beginning : ℕ → ℕ → ℕ
-beginning m p = least p m
-
--- where they end: those for which there is no room are left out
-unfoldable pub ending : ℕ → ℕ → ℕ → ℕ
-ending m p n = beginning m p + least n (m - beginning m p)
-
--- the pattern of a float, one and the same for every NaN
-unfoldable pub float_bits : Float → ℕ
-float_bits x = cond (is_nan x) 0x7ff8000000000000 (to_bits binary64 x)
+-- n numbers, of d digits each, from place i on; f tells the number from a place on
+abbrev pub numbers_at : {A : Type 0} → (List ℕ → ℕ → A) → ℕ → List ℕ → ℕ → ℕ → List A
+numbers_at f d l i n = map (λ k. f l (i + d * k)) (range_with_len 0 n)

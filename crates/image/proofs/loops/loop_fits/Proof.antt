@@ -54,9 +54,9 @@ header : (c : tie.After-get16) → let l = c.before.before.before.before.before.
 unfolding header_in
 header c = c.get16.ensures ∙ ap (λ (p : ℕ). at16 c.before.before.before.before.before.before.before.before.before.before.before.args.image.now (p + 8)) (place c.before.before.before)
 
-first : (c : tie.After-byte) → let l = c.before.before.before.before.before.before.before.before.before.before.before.before.before.args.image.now in
-    c.byte.result ≡ get_or l (frame_place (shape_in l) ((loop_in l).start / 14)) 0
-first c = c.byte.ensures
+first : (c : tie.After-from) → let l = c.before.before.before.before.before.before.before.before.before.before.before.before.before.args.image.now in
+    c.from.result ≡ get_or l (frame_place (shape_in l) ((loop_in l).start / 14)) 0
+first c = c.from.ensures
     ∙ ap (λ (p : ℕ). get_or c.before.before.before.before.before.before.before.before.before.before.before.before.before.args.image.now p 0) (frame c.before.before.before)
 
 zeros : (c : tie.After-get16-2) → let l = c.before.before.before.before.before.before.before.before.before.before.before.before.before.before.args.image.now in
@@ -115,7 +115,7 @@ get16-requires c κs = let e = entry c.before.before in omega (arith, e)
 shared-slice-read-byte : tie.Need-bounds-image-frame
 shared-slice-read-byte c = inside c.before.before
 
-byte-requires : tie.Need-byte-requires
+byte-requires : tie.Need-from-requires
 byte-requires c κs = search rules
 
 add-get16-2 : tie.Need-overflow_add-at-2
