@@ -4,7 +4,6 @@ ghost use Rattle.std.proofs.lemmas.List.Edits.{sets};
 ghost use Rattle.layout.specs.Limits.{Limits};
 ghost use Rattle.layout.specs.Fields.{be16, be32, mark, no_mark};
 ghost use Rattle.clip.specs.Image.{no_context, context_bytes, coefficient_bytes, start_shape, head_bytes, table_bytes, loop_bytes, fresh_bytes};
-ghost use Rattle.clip.specs.Encoding.{ended};
 ghost use Rattle.layout.specs.Sizes.{loop_count, block_count, bodies_place, image_size};
 
 use crate::starting::Start;
@@ -137,13 +136,4 @@ pub fn put_loop(image: &mut [u8], at: usize, looped: Loop, context: FrameContext
         put_context(image, at + 8, context.predictor_and_scale, history);
         zeros(image, at + 14, 2);
     }
-}
-
-// What closing writes after the last frame: the entry that a loop adds, and the mark.
-pub(crate) fn put_end(image: &mut [u8], shape: Shape, looped: Loop, context: FrameContext)
-    requires { Limits shape × (image_size shape ≤ length image.old) × (shape.extra ≡ loop_count looped) }
-    ensures { image.new ≡ ended shape looped context image.old }
-{
-    put_loop(image, entry_place(block_count(shape)), looped, context);
-    put_mark(image);
 }
