@@ -2,7 +2,6 @@
 ghost use Rattle.std.specs.Prelude.{◌≡◌, ◌-◌, eqb};
 ghost use Rattle.std.specs.List.{list_all};
 ghost use Rattle.whole.specs.Outcome.{with_values};
-ghost use Rattle.image.specs.inner.Asked.{Opens};
 ghost use Rattle.image.specs.Reading.{blocks_in};
 ghost use Rattle.dsp.specs.Answers.{outcome};
 ghost use Rattle.dsp.specs.Export.{histories_answer, export_answer};
@@ -11,11 +10,11 @@ ghost use Rattle.dsp.specs.Import.{needed, long_enough, of_sample, loop_fields_o
 
 use crate::Refusal;
 use crate::fields::{File, HEADER_BYTES, file_bytes, nibble_count};
+use crate::opened::Opened;
 use block::address_to_sample;
 use block::coefficients::lowest_pair;
 use block::part::context_after;
 use image::bodies::{find_body, read_context, read_entry};
-use image::checks::compare_answer;
 use image::heading::read_coefficients;
 use layout::fields::{get16, get32};
 use whole::{BYTES_PER_FRAME, MOST_SAMPLES};
@@ -139,36 +138,35 @@ pub(crate) fn accept(bytes: &[u8], size: u32) -> Result<File, Refusal>
 
 // ---- export
 
-// Code 35: of the first block after the first whose history is not what the block before leaves.
-fn histories_answer(image: &[u8]) -> Result<(), Refusal>
-    requires { Opens image.now }
-    ensures { outcome result ≡ histories_answer image.now 0 (blocks_in image.now - 1) }
-{
-    let coefficients = read_coefficients(image);
-    for j in 0..get32(image, 52) as usize - 1 {
-        let entry = read_entry(image, j);
-        let nibbles = entry.nibbles as usize;
-        let body = find_body(image, entry.offset as usize, nibbles);
-        let after = context_after(body, nibbles, coefficients, entry.context);
-        let next = read_context(image, j + 1);
-        if after.last_samples != next.last_samples {
-            return Err(Refusal::OtherHistory((j + 1) as u32));
+impl<'a> Opened<'a> {
+    // Code 35: of the first block after the first whose history is not what the block before leaves.
+    fn histories_answer(&self) -> Result<(), Refusal>
+        ensures { outcome result ≡ histories_answer self.now 0 (blocks_in self.now - 1) }
+    {
+        let image = self.bytes;
+        let coefficients = read_coefficients(image);
+        for j in 0..get32(image, 52) as usize - 1 {
+            let entry = read_entry(image, j);
+            let nibbles = entry.nibbles as usize;
+            let body = find_body(image, entry.offset as usize, nibbles);
+            let after = context_after(body, nibbles, coefficients, entry.context);
+            let next = read_context(image, j + 1);
+            if after.last_samples != next.last_samples {
+                return Err(Refusal::OtherHistory((j + 1) as u32));
+            }
         }
+        Ok(())
     }
-    Ok(())
 }
 
-// Codes 15, 20, 21, 22, 24, 13, 35 and 14.
-pub(crate) fn export_answer(image: &[u8], room: usize) -> Result<(), Refusal>
-    ensures { outcome result ≡ export_answer image.now room }
+// The image that export takes, by codes 15, 20, 21, 22, 24, 13, 35 and 14.
+pub(crate) fn exportable(bytes: &[u8], room: usize) -> Result<Opened, Refusal>
+    ensures { outcome result ≡ with_values (export_answer bytes.now room) bytes.now }
 {
-    match compare_answer(image) {
-        image::Answer::Accepted => {}
-        image::Answer::Refused(why) => return Err(Refusal::from(why)),
-    }
-    histories_answer(image)?;
-    if (room as u64) < file_bytes(get32(image, 4)) {
+    let image = Opened::read(bytes)?;
+    image.histories_answer()?;
+    if (room as u64) < file_bytes(image.total()) {
         return Err(Refusal::OutputTooShort);
     }
-    Ok(())
+    Ok(image)
 }

@@ -2,13 +2,13 @@
 ghost use Rattle.std.specs.Prelude.{◌≡◌, ◌++◌, ◌+◌, ◌≤◌, length, replicate};
 ghost use Rattle.std.proofs.lemmas.List.Edits.{sets};
 ghost use Rattle.layout.specs.Fields.{be16, be32};
-ghost use Rattle.image.specs.inner.Asked.{Opens};
 ghost use Rattle.image.specs.Reading.{total_in};
 ghost use Rattle.dsp.specs.inner.Asked.{Looping};
 ghost use Rattle.dsp.specs.File.{nibble_count, file_bytes};
 ghost use Rattle.dsp.specs.Export.{address_bytes, context_fields, header_bytes, exported};
 
 use crate::fields::{HEADER_BYTES, nibble_count};
+use crate::opened::Opened;
 use block::join::copy;
 use block::{FrameContext, sample_to_address};
 use clip::contents::{put_coefficients, put_context};
@@ -34,12 +34,9 @@ fn put_addresses(out: &mut [u8], looped: Loop)
     requires { Looping looped × (96 ≤ length out.old) }
     ensures { out.new ≡ sets out.old 16 (address_bytes looped) }
 {
-    let present = looped.present;
-    if present {
-        let start = sample_to_address(looped.start) as u32;
-        let last = sample_to_address(looped.end - 1) as u32;
-        put32(out, 16, start);
-        put32(out, 20, last);
+    if looped.present {
+        put32(out, 16, sample_to_address(looped.start) as u32);
+        put32(out, 20, sample_to_address(looped.end - 1) as u32);
     } else {
         zeros(out, 16, 8);
     }
@@ -61,8 +58,7 @@ fn put_context_fields(out: &mut [u8], at: usize, context: FrameContext)
     requires { at + 6 ≤ length out.old }
     ensures { out.new ≡ sets out.old at (context_fields context) }
 {
-    let history = context.last_samples;
-    put_context(out, at, context.predictor_and_scale, history);
+    put_context(out, at, context.predictor_and_scale, context.last_samples);
 }
 
 // Gain, both contexts and zeros: bytes 60 to 95.
@@ -76,29 +72,30 @@ fn put_contexts(out: &mut [u8], gain: u16, first: FrameContext, looped: FrameCon
     zeros(out, 74, 22);
 }
 
-// The header of the file of an image that opens.
-fn put_header(image: &[u8], out: &mut [u8])
-    requires { Opens image.now × (96 ≤ length out.old) }
-    ensures { out.new ≡ sets out.old 0 (header_bytes image.now) }
-{
-    let looped = read_loop(image);
-    let context = loop_context(image, looped);
-    let first = read_context(image, 0);
-    let coefficients = read_coefficients(image);
-    put_counts(out, get32(image, 4), get32(image, 8));
-    put_looped(out, word_at(image, 50), looped);
-    put_coefficients(out, 28, coefficients);
-    put_contexts(out, word_at(image, 48), first, context);
-}
+impl<'a> Opened<'a> {
+    // The header of its file.
+    fn put_header(&self, out: &mut [u8])
+        requires { 96 ≤ length out.old }
+        ensures { out.new ≡ sets out.old 0 (header_bytes self.now) }
+    {
+        let image = self.bytes;
+        let looped = read_loop(image);
+        let context = loop_context(image, looped);
+        put_counts(out, self.total(), get32(image, 8));
+        put_looped(out, word_at(image, 50), looped);
+        put_coefficients(out, 28, read_coefficients(image));
+        put_contexts(out, word_at(image, 48), read_context(image, 0), context);
+    }
 
-// The file of an image that opens: its header, and the bodies.
-pub(crate) fn put_file(image: &[u8], out: &mut [u8])
-    requires { Opens image.now × (file_bytes (total_in image.now) ≤ length out.old) }
-    ensures { out.new ≡ sets out.old 0 (exported image.now) }
-{
-    let shape = read_shape(image);
-    let bodies = bodies_place(shape);
-    let end = bodies + body_bytes(shape.total);
-    put_header(image, out);
-    copy(&image[bodies..end], out, HEADER_BYTES);
+    // Its file: the header, and the bodies.
+    pub(crate) fn put_file(&self, out: &mut [u8])
+        requires { file_bytes (total_in self.now) ≤ length out.old }
+        ensures { out.new ≡ sets out.old 0 (exported self.now) }
+    {
+        let shape = read_shape(self.bytes);
+        let bodies = bodies_place(shape);
+        let end = bodies + body_bytes(shape.total);
+        self.put_header(out);
+        copy(&self.bytes[bodies..end], out, HEADER_BYTES);
+    }
 }

@@ -12,12 +12,11 @@ mod checks;
 mod exporting;
 mod fields;
 mod importing;
+mod opened;
 
-use checks::{accept, export_answer};
-use exporting::put_file;
+use checks::{accept, exportable};
 use fields::{file_bytes, image_bytes};
 use importing::put_image;
-use layout::fields::get32;
 use whole::Reason;
 
 // Why a call is refused; one of them names the block that another history stands before, and an image's may name the block whose entry is bad.
@@ -76,9 +75,9 @@ impl Reason for Refusal {
 pub fn export(image: &[u8], out: &mut [u8]) -> Result<u64, Refusal>
     ensures { effect (written result) out.new ≡ export_image image.now out.old }
 {
-    export_answer(image, out.len())?;
-    put_file(image, out);
-    Ok(file_bytes(get32(image, 4)))
+    let taken = exportable(image, out.len())?;
+    taken.put_file(out);
+    Ok(file_bytes(taken.total()))
 }
 
 // How much room import needs for the image of a file, or its refusal before the room is asked for.

@@ -1,0 +1,49 @@
+// An image that export takes, as far as its own bytes say.
+ghost use Rattle.std.specs.Prelude.{◌≡◌};
+ghost use Rattle.whole.specs.Outcome.{with_values};
+ghost use Rattle.image.specs.Reading.{total_in};
+ghost use Rattle.image.specs.Sameness.{compare_answer};
+ghost use Rattle.dsp.specs.Answers.{outcome};
+
+use crate::Refusal;
+use image::checks::compare_answer;
+use layout::fields::get32;
+use std::marker::Model;
+
+// An image that opens. A clause sees its bytes.
+#[derive(Drop)]
+pub(crate) struct Opened<'a> {
+    pub(crate) bytes: &'a [u8],
+}
+
+impl<'a> Model for Opened<'a> {
+    ghost use Rattle.std.specs.Prelude.{ℕ, List};
+
+    ghost Value = { List ℕ };
+
+    ghost view = { λ image. image.bytes.now };
+
+    ghost use Rattle.image.specs.inner.Asked.{Opens};
+
+    ghost invariant = { λ image. Opens image.bytes.now };
+}
+
+impl<'a> Opened<'a> {
+    // The image, by codes 15, 20, 21, 22, 24 and 13.
+    pub(crate) fn read(bytes: &'a [u8]) -> Result<Opened<'a>, Refusal>
+        ensures { outcome result ≡ with_values (compare_answer bytes.now) bytes.now }
+    {
+        match compare_answer(bytes) {
+            image::Answer::Accepted => {}
+            image::Answer::Refused(why) => return Err(Refusal::from(why)),
+        }
+        Ok(Opened { bytes })
+    }
+
+    // The sample count.
+    pub(crate) fn total(&self) -> u32
+        ensures { result ≡ total_in self.now }
+    {
+        get32(self.bytes, 4)
+    }
+}
