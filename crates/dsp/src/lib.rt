@@ -20,7 +20,7 @@ use importing::put_image;
 use whole::Reason;
 
 // Why a call is refused; one of them names the block that another history stands before, and an image's may name the block whose entry is bad.
-#[derive(Clone, Copy)]
+#[derive(Clone, Copy, Debug, PartialEq, Eq)]
 pub enum Refusal {
     BadSampleCount,
     RateZero,
@@ -58,14 +58,14 @@ impl Reason for Refusal {
             Refusal::FileTooShort => 25,
             Refusal::BadField => 26,
             Refusal::OtherHistory(_) => 35,
-            Refusal::OfImage(why) => image::code(why),
+            Refusal::OfImage(why) => why.code(),
         }
     }
 
     fn bad_block(self) -> u32 {
         match self {
             Refusal::OtherHistory(j) => j,
-            Refusal::OfImage(why) => image::bad_block(why),
+            Refusal::OfImage(why) => why.bad_block(),
             _ => 0,
         }
     }

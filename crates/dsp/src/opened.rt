@@ -33,10 +33,7 @@ impl<'a> Opened<'a> {
     pub(crate) fn read(bytes: &'a [u8]) -> Result<Opened<'a>, Refusal>
         ensures { outcome result ≡ with_values (compare_answer bytes.now) bytes.now }
     {
-        match compare_answer(bytes) {
-            image::Answer::Accepted => {}
-            image::Answer::Refused(why) => return Err(Refusal::from(why)),
-        }
+        compare_answer(bytes)?;
         Ok(Opened { bytes })
     }
 
