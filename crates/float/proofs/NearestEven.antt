@@ -115,21 +115,3 @@ half d h = sym (ap (λ (z : ℕ). 2 ^ z) (go d h) ∙ pow-suc 2 (d - 1))
 -- the multiple of h in w does not wrap
 pub unshifted : (w h : ℕ) → w < 2 ^ 64 → (w / h * h) % 2 ^ 64 ≡ w / h * h
 unshifted w h l = mod-eq_of_lt (lt_of_le_of_lt (div-mul-le_self w h) l)
-
-pub bound : (w h : ℕ) → 0 < h → w < 2 ^ 64 → w / h / 2 < 2 ^ 63
-bound w h H l = go (w / h) (lt_of_le_of_lt (native-le w h H) l)
-  where
-    go : (q : ℕ) → q < 2 ^ 64 → q / 2 < 2 ^ 63
-    go q h = omega arith
-
-    native-le : (w h : ℕ) → 0 < h → w / h ≤ w
-    native-le w h H = div-le_self w h
-
--- ---- w over 2048: what is left rounds up where it is more than a half, or a half beside an odd quotient
-pub near-53 : (w : ℕ) → w / 2048 + (w % 2048 + w / 2048 % 2 + 1023) / 2048 ≡ closest w 2048
-near-53 w = go (w / 2048) (w % 2048) (compare (w % 2048 * 2) 2048) (cmp (w % 2048 * 2) 2048) (mod-lt w (pow_pos 11))
-  where
-    go : (q r : ℕ) (o : Ordering) → Cmp o (r * 2) 2048 → r < 2048 → q + (r + q % 2 + 1023) / 2048 ≡ nearest q o
-    go q r Ordering.lt h k = omega arith
-    go q r Ordering.eq h k = omega arith
-    go q r Ordering.gt h k = omega arith

@@ -128,20 +128,7 @@ module _ (f : Format) (s : Bool) (q k : ℕ) where
       bound : (p e k : ℕ) → 2 ≤ p → 2 * e ≤ k → e + p - 2 + suc e ≤ p - 1 + k
       bound p e k a b = omega arith
 
--- ---- at an f64, as `magnitude` and `pattern` write it
-pub magnitude-under : (k q : ℕ) → k < 2046 → k * 2 ^ 52 + q ≡ cond (ltb k 2046) (k * 2 ^ 52 + q) (2047 * 2 ^ 52)
-magnitude-under k q h = sym (ap (λ (b : Bool). cond b (k * 2 ^ 52 + q) (2047 * 2 ^ 52)) (lt-ltb k 2046 h))
-
-pub magnitude-over : (k q : ℕ) → 2046 ≤ k → 2047 * 2 ^ 52 ≡ cond (ltb k 2046) (k * 2 ^ 52 + q) (2047 * 2 ^ 52)
-magnitude-over k q h = sym (ap (λ (b : Bool). cond b (k * 2 ^ 52 + q) (2047 * 2 ^ 52)) (le-ltb k 2046 h))
-
-pub magnitude-lt : (k q n : ℕ) → q ≤ 2 ^ 53 → n ≡ cond (ltb k 2046) (k * 2 ^ 52 + q) (2047 * 2 ^ 52) → n < 2 ^ 63
-magnitude-lt k q n l e = go (ltb k 2046) (ltb→lt k 2046) e
-  where
-    go : (b : Bool) → (T b → k < 2046) → n ≡ cond b (k * 2 ^ 52 + q) (2047 * 2 ^ 52) → n < 2 ^ 63
-    go true h e = let g = h tt in omega arith
-    go false h e = omega arith
-
+-- ---- at an f64, as `pattern` writes it
 pub pattern-law : (s : Bool) (q k n : ℕ) → q ≤ 2 ^ 53 → (k ≡ 0) ⊎ (2 ^ 52 ≤ q) → n ≡ cond (ltb k 2046) (k * 2 ^ 52 + q) (2047 * 2 ^ 52) → cond s (2 ^ 63) 0 + n ≡ to_bits binary64 (units binary64 s q k)
 pattern-law s q k n l d e = go (ltb k 2046) (ltb→lt k 2046) (nltb→le k 2046) e
   where

@@ -16,9 +16,6 @@ closest-le w d h l = le_trans (nearest-le (w / 2 ^ d) (compare (w % 2 ^ d * 2) (
     go : (d : ℕ) → 11 ≤ d → 64 ≤ 53 + d
     go d h = omega arith
 
-pub closest-ge : (w : ℕ) → 2 ^ 63 ≤ w → 2 ^ 52 ≤ closest w (2 ^ 11)
-closest-ge w h = le_trans ((le-div_iff_mul-le (pow_pos 11)).1 h) (nearest-ge (w / 2 ^ 11) (compare (w % 2 ^ 11 * 2) (2 ^ 11)))
-
 closest-none : (w i : ℕ) → w < 2 ^ suc i → closest w (2 ^ suc (suc i)) ≡ 0
 closest-none w i h =
     ap (closest w) (pow-suc 2 (suc i))

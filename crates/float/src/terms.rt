@@ -45,21 +45,15 @@ impl Term {
         ensures size { Merged (unlike self.negative other.negative) self.size other.size (unlike self.negative result.negative) result.size }
         ensures exponent { result.exponent ≡ self.exponent }
     {
-        if self.negative == other.negative {
-            Term {
-                size: self.size + other.size,
-                ..self
-            }
-        } else if other.size < self.size {
-            Term {
-                size: self.size - other.size,
-                ..self
-            }
-        } else {
-            Term {
-                size: other.size - self.size,
-                ..other
-            }
+        let apart = self.negative != other.negative;
+        let under = apart && self.size <= other.size;
+        // Both, so that nothing branches on a sign.
+        let sum = self.size + other.size;
+        let difference = self.size.abs_diff(other.size);
+        Term {
+            negative: self.negative != under,
+            size: if apart { difference } else { sum },
+            ..self
         }
     }
 }

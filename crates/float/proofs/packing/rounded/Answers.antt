@@ -1,6 +1,6 @@
 use Rattle.std.proofs.Common.{ℕ, ◌-◌, ◌^◌, ◌≤◌, sym, refl, ap, ◌∙◌, subst, inl, inr, arith}
 use lib.Ieee.{binary64, units, to_bits}
-use Rattle.float.proofs.RoundedByExponent.{closest-le, closest-ge, at-normal, at_low, at_none}
+use Rattle.float.proofs.RoundedByExponent.{closest-le, at-normal, at_low, at_none}
 use Rattle.float.proofs.packing.rounded.Goals as goal
 
 pub pattern-requires-then-x-lt1251 : goal.pattern-requires-then-x-lt1251
