@@ -57,6 +57,7 @@ pub struct CoefficientCalculator {
 
 impl CoefficientCalculator {
     // A fresh state.
+    #[tactic(auto, unfolding(crate::specs::Measure::fresh))]
     pub fn new() -> CoefficientCalculator
         ensures { result ≡ Measure.fresh }
     {
