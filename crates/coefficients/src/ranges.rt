@@ -88,6 +88,7 @@ fn exchanged(m: Mat2) -> Mat2
 }
 
 // Rows 1 and i change places. Row 0 holds zeros.
+// Stays: one function for this and the next would be told row 0's numbers and where they go, and be longer than the two.
 #[tactic(auto, unfolding(crate::specs::Analysis::exchange1))]
 fn exchange1(i: Row, m: Mat2) -> Mat2
     ensures { result ≡ Analysis.exchange1 i m }
@@ -171,6 +172,7 @@ pub(crate) fn analyze_ranges(m: Mat2) -> Option<Ranges>
 }
 
 // The vector's number at place i.
+// Stays: this reads a number and the next changes one; a borrowed number would do for both, but which one it is comes of a match, and a `&mut` that two paths lend has no proof.
 #[tactic(auto, unfolding(crate::specs::Analysis::at))]
 fn at(v: Vec3, i: Row) -> f64
     ensures { result ≡ Analysis.at v i }
