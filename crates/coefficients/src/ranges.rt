@@ -64,8 +64,10 @@ fn pivot(a: f64, b: f64) -> Row
 {
     if a >= 0.0 {
         if b >= a { Row::Two } else { Row::One }
+    } else if b >= 0.0 {
+        Row::Two
     } else {
-        if b >= 0.0 { Row::Two } else { Row::Zero }
+        Row::Zero
     }
 }
 
