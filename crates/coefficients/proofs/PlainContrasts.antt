@@ -1,7 +1,6 @@
 -- Plain contrasts that leave no doubt choose the vector that exact ones choose.
-use Rattle.std.proofs.Common.{◌≡◌, ℕ, zero, suc, ◌+◌, ◌*◌, ◌^◌, ◌<◌, ◌≤◌, Bool, true, false, not, T, List, get_or, pos, sym, refl, subst, mul-le-mul_right, arith, lit<, lit≤}
+use Rattle.std.proofs.Common.{◌≡◌, ℕ, zero, suc, ◌+◌, ◌*◌, ◌^◌, ◌<◌, ◌≤◌, true, List, get_or, pos, sym, refl, mul-le-mul_right, arith, lit<, lit≤}
 use native.Mathlib.Decide.{ℕ_discrete}
-use lib.Arith.{lt_of_le-ne}
 use lib.Ieee.{Float, binary64, of_bits, neg, lt, fits}
 use Rattle.float.specs.Operations.{negative}
 use Rattle.float.proofs.InUnits.{AtMost, InUnits, over, under, mag, at-most-sides, at-most-between, at-most-literal, neg-at-most, lt-true, true-lt}
@@ -14,18 +13,6 @@ use Rattle.coefficients.specs.Constants.{f2, f_e30, ◌*f◌, ◌+f◌, fma}
 use Rattle.coefficients.specs.inner.SharedTerms.{record_side, terms_contrast, least_by_terms, gone_through, blank_terms}
 use Rattle.coefficients.proofs.LeastAndNext.{Below, Finds, Leads, finds-first, finds-next, leads-first, leads-next}
 use Rattle.coefficients.specs.inner.PlainContrasts.{f16, Small, Smalls, SmallTerms, AllSmall, plain_side, plain_contrast, leading}
-
-pub never : {P : Type 0} → false ≡ true → P
-never e = absurd (subst (λ (b : Bool). T (not b)) e tt)
-
-pub unless : (b : Bool) → not b ≡ false → b ≡ true
-unless true e = refl
-unless false e = never (sym e)
-
--- ---- one vector more
-
-pub small-more : (ts : List VectorTerms) (k : ℕ) → AllSmall ts k → SmallTerms (get_or ts k blank_terms) → AllSmall ts (k + 1)
-small-more ts k h s i l = elim (ℕ_discrete i k) [ yes p ↦ rw p s | no q ↦ h i (lt_of_le-ne (omega arith) q) ]
 
 -- ---- the numbers that the code names
 

@@ -26,12 +26,12 @@ doubled_more vs m k = rw add-one
 
 -- ---- the front of some vectors
 
-renewed-length : (vs : List Vec3) (cs : List Cluster) (k : ℕ) → length (renewed vs cs k) ≡ length vs
+pub renewed-length : (vs : List Vec3) (cs : List Cluster) (k : ℕ) → length (renewed vs cs k) ≡ length vs
 unfolding renewed
 renewed-length vs cs zero = refl
 renewed-length vs cs (suc k) = length-set (renewed vs cs k) k (made cs k) ∙ renewed-length vs cs k
 
-doubled-length : (vs : List Vec3) (m k : ℕ) → length (doubled vs m k) ≡ length vs
+pub doubled-length : (vs : List Vec3) (m k : ℕ) → length (doubled vs m k) ≡ length vs
 unfolding doubled
 doubled-length vs m zero = refl
 doubled-length vs m (suc k) = length-set (doubled vs m k) (m + k) (beside (get_or (doubled vs m k) k blank)) ∙ doubled-length vs m k
@@ -67,7 +67,7 @@ module _ (front rest : List Vec3) where
       (λ cs r. ap (λ (b : Best). set cs b.index (joined (get_or cs b.index blank_cluster) r)) (least-front r n h)))
       ∙ renewed-front (gather front n rs) n h
 
-round-length : (vs : List Vec3) (n : ℕ) (rs : List Record) → length (filter_round vs n rs) ≡ length vs
+pub round-length : (vs : List Vec3) (n : ℕ) (rs : List Record) → length (filter_round vs n rs) ≡ length vs
 unfolding filter_round
 round-length vs n rs = renewed-length vs (gather vs n rs) n
 
@@ -88,7 +88,7 @@ grown-part vs ys k m rs e h p =
     ∙ sym (grown-front (take k vs) (drop k vs) m rs (omega (arith, length-take-le k vs h)))
     ∙ ap (λ (l : List Vec3). grown l m rs) (take-append-drop k vs)
 
-grown-length : (vs : List Vec3) (m : ℕ) (rs : List Record) → length (grown vs m rs) ≡ length vs
+pub grown-length : (vs : List Vec3) (m : ℕ) (rs : List Record) → length (grown vs m rs) ≡ length vs
 unfolding grown
 grown-length vs m rs = round-length (filter_round (doubled vs m m) (m + m) rs) (m + m) rs ∙ round-length (doubled vs m m) (m + m) rs ∙ doubled-length vs m m
 
