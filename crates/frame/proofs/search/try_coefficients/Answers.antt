@@ -1,5 +1,5 @@
 -- `try_coefficients` meets its contract.
-use Rattle.std.proofs.Common.{◌≡◌, ℕ, ◌+◌, ◌≤◌, sym, ap, ◌∙◌, subst, arith}
+use Rattle.std.proofs.Common.{ℕ, ◌+◌, sym, ap, ◌∙◌, subst, arith}
 use lib.IntN.{pos}
 use lib.ListN.{get_or}
 use lib.Seq.{get_or-take}
