@@ -37,7 +37,7 @@ pub enum Refusal {
 
 // The encoding state: what the clip was started with, the samples fed so far, the history, the unfinished frame, the passes made, the loop, and the context at its start once that is known.
 #[repr(C)]
-#[derive(Clone, Copy)]
+#[derive(Clone, Copy, Default, PartialEq, Eq)]
 pub struct Encoder {
     pub total: u32,
     pub rate: u32,

@@ -1,16 +1,15 @@
 // What a clip is started with, and the state before its first sample.
 ghost use Rattle.std.specs.Prelude.{◌≡◌};
-ghost use Rattle.clip.specs.Encoding.{begun, no_encoder};
+ghost use Rattle.clip.specs.Encoding.{begun};
 ghost use Rattle.clip.specs.Image.{cut, start_shape};
 
 use crate::Encoder;
-use block::FrameContext;
 use layout::sizes::{cut_down, loop_count, shape_of, told_loop};
 use layout::{Loop, Shape};
 use whole::History;
 
 // What a clip is started with: N, the rate, the block size, the gain, the coefficients, the history before its first sample, and its loop.
-#[derive(Clone, Copy)]
+#[derive(Clone, Copy, Default, PartialEq, Eq)]
 pub struct Start {
     pub total: u32,
     pub rate: u32,
@@ -61,33 +60,7 @@ impl Start {
             coefficients,
             history,
             looped,
-            fed: 0,
-            frame: [0; 14],
-            passes: 0,
-            closed: false,
-            context: FrameContext::new(),
+            ..Encoder::default()
         }
-    }
-}
-
-// The state of no clip: all zeros, which every call refuses.
-impl Default for Encoder {
-    ghost is_default = { λ e. e ≡ no_encoder };
-
-    fn default() -> Encoder {
-        let none = Start {
-            total: 0,
-            rate: 0,
-            block: 0,
-            gain: 0,
-            coefficients: [0; 16],
-            history: History::default(),
-            looped: Loop {
-                start: 0,
-                end: 0,
-                present: false,
-            },
-        };
-        none.begun()
     }
 }
