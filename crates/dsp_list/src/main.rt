@@ -80,9 +80,10 @@ impl Buffers {
             Step::Put => buffers::put::<12>(line, &mut self.source),
             Step::Swap => mem::swap(&mut self.source, &mut self.out),
             Step::Make(call) => {
-                buffers::fill(&mut self.out);
                 let source = &self.source[..usize::from(u16::read(line, 1)).min(1024)];
-                let out = &mut self.out[..usize::from(u16::read(line, 5)).min(1024)];
+                let all = &mut self.out[..];
+                buffers::fill(all);
+                let out = &mut all[..usize::from(u16::read(line, 5)).min(1024)];
                 let done = call.make(source, u32::read(line, 9), out);
                 write_answer(writer, done, out, u8::read(line, 17) != 0)?;
             }
