@@ -15,7 +15,7 @@ mod importing;
 mod opened;
 
 use checks::{accept, exportable};
-use fields::{file_bytes, image_bytes};
+use fields::image_bytes;
 use importing::put_image;
 use whole::Reason;
 
@@ -77,7 +77,7 @@ pub fn export(image: &[u8], out: &mut [u8]) -> Result<u64, Refusal>
 {
     let taken = exportable(image, out.len())?;
     taken.put_file(out);
-    Ok(file_bytes(taken.total()))
+    Ok(taken.file_bytes() as u64)
 }
 
 // How much room import needs for the image of a file, or its refusal before the room is asked for.

@@ -7,150 +7,104 @@
 // lent output, and its bytes where the line asks for them.
 #![tactic(auto)]
 
-mod text;
+use dsp::Refusal;
+use replay::{Digits, Number, buffers, read_line, told};
+use std::io::{self, BufReader, BufWriter, Write};
+use std::mem;
 
-use dsp::Written;
-use replay::{byte, double_word, least, print_bytes, print_space, read_line, word};
-use std::io::{self, BufReader, BufWriter, Read, Write};
-use text::{print_digest, print_written};
-
-// Which buffer is the source, and whether the list goes on.
-#[derive(Drop)]
-struct State {
-    swapped: bool,
-    more: bool,
+// A call on the source and the output.
+enum Call {
+    Export,
+    Import,
+    RoomFor,
 }
 
-// Fills a buffer.
-fn fill(out: &mut [u8; 1024]) {
-    for i in 0..1024 {
-        out[i] = (i % 251) as u8;
+// What a line asks for: bytes in the source, the buffers the other way round, or a call.
+enum Step {
+    Put,
+    Swap,
+    Make(Call),
+}
+
+impl From<u8> for Step {
+    fn from(letter: u8) -> Step {
+        match letter {
+            b'p' => Step::Put,
+            b's' => Step::Swap,
+            b'e' => Step::Make(Call::Export),
+            b'i' => Step::Make(Call::Import),
+            _ => Step::Make(Call::RoomFor),
+        }
     }
 }
 
-// Makes the call of a letter.
-fn made(letter: u8, source: &[u8], size: u32, out: &mut [u8]) -> Written {
-    if letter == b'e' {
-        return dsp::export(source, out);
+impl Call {
+    // Makes the call.
+    fn make(self, source: &[u8], size: u32, out: &mut [u8]) -> Result<u64, Refusal> {
+        match self {
+            Call::Export => dsp::export(source, out),
+            Call::Import => dsp::import(source, size, out),
+            Call::RoomFor => dsp::room_for(source, size),
+        }
     }
-    if letter == b'i' {
-        return dsp::import(source, size, out);
-    }
-    dsp::room_for(source, size)
 }
 
-// Makes a call and writes what it answers and leaves.
-fn call(
+// Writes what a call answers and leaves, with the output's bytes where they are asked for.
+fn write_answer(
     writer: &mut impl Write,
-    letter: u8,
-    source: &[u8],
-    size: u32,
+    done: Result<u64, Refusal>,
+    out: &[u8],
     shown: bool,
-    out: &mut [u8],
 ) -> io::Result<()> {
-    let answer = made(letter, source, size, out);
-    print_written(writer, answer)?;
-    print_digest(writer, out)?;
+    let (code, block) = told(&done);
+    let count = done.unwrap_or(0);
+    let digest = buffers::digest(out);
+    write!(writer, "{code:02x} {block:08x} {count:08x} {digest:010x}")?;
     if shown {
-        print_space(writer)?;
-        print_bytes(writer, out)?;
+        write!(writer, " {}", Digits(out))?;
     }
-    writer.write_all(b"\n")
+    writeln!(writer)
 }
 
-// Makes the call of a line on the first bytes of the buffers.
-fn lend(
-    writer: &mut impl Write,
-    letter: u8,
-    line: &[u8; 32],
-    source: &[u8],
-    out: &mut [u8],
-) -> io::Result<()> {
-    let n = least(word(line, 1) as usize, source.len());
-    let m = least(word(line, 5) as usize, out.len());
-    let size = double_word(line, 9);
-    let shown = byte(line, 17) != 0;
-    call(writer, letter, &source[..n], size, shown, &mut out[..m])
+// The source and the output.
+#[derive(Drop)]
+struct Buffers {
+    source: [u8; 1024],
+    out: [u8; 1024],
 }
 
-// Puts the bytes of a line at their place in the source.
-fn put(line: &[u8; 32], source: &mut [u8; 1024]) {
-    let start = least(word(line, 1) as usize, 1012);
-    let k = least(byte(line, 5) as usize, 12);
-    for i in 0..k {
-        source[start + i] = byte(line, 7 + 2 * i);
+impl Buffers {
+    // Replays a line; a call is made on the first bytes of the buffers.
+    fn replay(&mut self, writer: &mut impl Write, line: &[u8; 32]) -> io::Result<()> {
+        match Step::from(line[0]) {
+            Step::Put => buffers::put::<12>(line, &mut self.source),
+            Step::Swap => mem::swap(&mut self.source, &mut self.out),
+            Step::Make(call) => {
+                let source = &self.source[..usize::from(u16::read(line, 1)).min(1024)];
+                let all = &mut self.out[..];
+                buffers::fill(all);
+                let out = &mut all[..usize::from(u16::read(line, 5)).min(1024)];
+                let done = call.make(source, u32::read(line, 9), out);
+                write_answer(writer, done, out, u8::read(line, 17) != 0)?;
+            }
+        }
+        Ok(())
     }
-}
-
-// Replays a line that puts bytes or is a call.
-fn turn(
-    writer: &mut impl Write,
-    letter: u8,
-    line: &[u8; 32],
-    source: &mut [u8; 1024],
-    out: &mut [u8; 1024],
-) -> io::Result<()> {
-    if letter == b'p' {
-        put(line, source);
-        return Ok(());
-    }
-    fill(out);
-    lend(writer, letter, line, source, out)
-}
-
-// Reads a line and replays it.
-fn replay(
-    reader: &mut impl Read,
-    writer: &mut impl Write,
-    swapped: bool,
-    first: &mut [u8; 1024],
-    second: &mut [u8; 1024],
-) -> io::Result<State> {
-    let mut line = [0u8; 32];
-    if !read_line(reader, &mut line)? {
-        return Ok(State {
-            swapped,
-            more: false,
-        });
-    }
-    if line[0] == b's' {
-        return Ok(State {
-            swapped: !swapped,
-            more: true,
-        });
-    }
-    if swapped {
-        turn(writer, line[0], &line, second, first)?;
-    } else {
-        turn(writer, line[0], &line, first, second)?;
-    }
-    Ok(State {
-        swapped,
-        more: true,
-    })
 }
 
 // Replays every line of the list.
 fn main(rt: HostRuntime) -> io::Result<()> {
     let mut reader = BufReader::new(rt.alloc(), rt.reader())?;
     let mut writer = BufWriter::new(rt.alloc(), io::writer(&rt))?;
-    let mut first = [0u8; 1024];
-    let mut second = [0u8; 1024];
-    let mut state = State {
-        swapped: false,
-        more: true,
+    let mut buffers = Buffers {
+        source: [0; 1024],
+        out: [0; 1024],
     };
     for _ in 0..4_000_000_000u32 {
-        if !state.more {
+        let Some(line) = read_line(&mut reader)? else {
             break;
-        }
-        state = replay(
-            &mut reader,
-            &mut writer,
-            state.swapped,
-            &mut first,
-            &mut second,
-        )?;
+        };
+        buffers.replay(&mut writer, &line)?;
     }
     writer.flush()
 }

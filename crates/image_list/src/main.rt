@@ -10,257 +10,123 @@
 
 mod text;
 
-ghost use Rattle.std.specs.Prelude.{◌≡◌, length};
+use replay::{Number, buffers, read_line};
+use std::io::{self, BufReader, BufWriter, Write};
+use text::{write_body, write_opening, write_part, write_played, write_same, write_turns};
 
-use image::{Answer, PartAnswer, PlayAnswer, Playback, Refusal, SameAnswer};
-use replay::{
-    byte, double_word, least, print_bytes, print_field, print_samples, print_space, read_line, word,
-};
-use std::io::{self, BufReader, BufWriter, Read, Write};
-use text::{print_accepted, print_context, print_head, print_refusal};
-
-// Writes 0, or the refusal.
-fn print_answer(writer: &mut impl Write, answer: Answer) -> io::Result<()> {
-    match answer {
-        Answer::Accepted => print_accepted(writer),
-        Answer::Refused(why) => print_refusal(writer, why),
-    }
+// A call on the two images.
+enum Call {
+    Open,
+    Body,
+    Play,
+    PlayAll,
+    PlayFrom,
+    PlayLoop,
+    Same,
+    SameTurned,
+    Sounds,
+    SoundsTurned,
 }
 
-// Opens an image and writes its head, and its loop.
-fn open(writer: &mut impl Write, image: &[u8]) -> io::Result<()> {
-    let done = image::open(image);
-    let answer = done.answer;
-    let head = done.head;
-    let looped = done.looped;
-    let context = done.context;
-    print_answer(writer, answer)?;
-    print_head(writer, head)?;
-    if looped.present {
-        print_field(writer, looped.start as u64, 8)?;
-        print_field(writer, looped.end as u64, 8)?;
-        print_context(writer, context)?;
-    }
-    Ok(())
+// What a line asks for: bytes in one image or both, or a call.
+enum Step {
+    PutBoth,
+    PutFirst,
+    PutSecond,
+    Make(Call),
 }
 
-// Finds a block's body and writes it.
-fn body(writer: &mut impl Write, image: &[u8], k: u32) -> io::Result<()> {
-    let answer = image::block_answer(image, k);
-    print_answer(writer, answer)?;
-    print_space(writer)?;
-    print_bytes(writer, image::block_body(image, k))
-}
-
-// An output before a call.
-fn fresh_samples() -> [i16; 512]
-    ensures { 512 ≡ length result }
-{
-    [23130; 512]
-}
-
-// Writes 0 and a value.
-fn print_value(writer: &mut impl Write, value: u64) -> io::Result<()> {
-    print_accepted(writer)?;
-    print_field(writer, value, 8)
-}
-
-// Writes the refusal, and 0 for the value.
-fn print_no_value(writer: &mut impl Write, why: Refusal) -> io::Result<()> {
-    print_refusal(writer, why)?;
-    print_field(writer, 0, 8)
-}
-
-// Plays a block, or all.
-fn played(letter: u8, image: &[u8], k: u32, out: &mut [i16]) -> Playback {
-    if letter == b'p' {
-        return image::play(image, k, out);
-    }
-    image::play_all(image, out)
-}
-
-// Plays to an output and writes what that leaves.
-fn play_to(
-    writer: &mut impl Write,
-    letter: u8,
-    image: &[u8],
-    k: u32,
-    out: &mut [i16],
-) -> io::Result<()> {
-    let done = played(letter, image, k, out);
-    let answer = done.answer;
-    let context = done.context;
-    match answer {
-        PlayAnswer::Played(count) => print_value(writer, count)?,
-        PlayAnswer::Refused(why) => print_no_value(writer, why)?,
-    }
-    print_context(writer, context)?;
-    print_space(writer)?;
-    print_samples(writer, out)
-}
-
-// Plays to the first samples of an output.
-fn play(writer: &mut impl Write, letter: u8, image: &[u8], k: u32, room: usize) -> io::Result<()> {
-    let n = least(room, 512);
-    let mut out = fresh_samples();
-    play_to(writer, letter, image, k, &mut out[..n])
-}
-
-// Plays to an output from a sample on and writes what that leaves.
-fn part_to(writer: &mut impl Write, image: &[u8], first: u32, out: &mut [i16]) -> io::Result<()> {
-    let answer = image::play_from(image, first, out);
-    match answer {
-        PartAnswer::Played(count, blocks) => {
-            print_value(writer, count)?;
-            print_field(writer, blocks as u64, 8)?;
-        }
-        PartAnswer::Refused(why) => {
-            print_no_value(writer, why)?;
-            print_field(writer, 0, 8)?;
+impl From<u8> for Step {
+    fn from(letter: u8) -> Step {
+        match letter {
+            b'b' => Step::PutBoth,
+            b'f' => Step::PutFirst,
+            b'g' => Step::PutSecond,
+            b'o' => Step::Make(Call::Open),
+            b'k' => Step::Make(Call::Body),
+            b'p' => Step::Make(Call::Play),
+            b'a' => Step::Make(Call::PlayAll),
+            b'm' => Step::Make(Call::PlayFrom),
+            b't' => Step::Make(Call::PlayLoop),
+            b's' => Step::Make(Call::Same),
+            b'r' => Step::Make(Call::SameTurned),
+            b'h' => Step::Make(Call::Sounds),
+            _ => Step::Make(Call::SoundsTurned),
         }
     }
-    print_space(writer)?;
-    print_samples(writer, out)
 }
 
-// Plays to the first samples of an output from a sample on.
-fn part(writer: &mut impl Write, image: &[u8], first: u32, room: usize) -> io::Result<()> {
-    let n = least(room, 512);
-    let mut out = fresh_samples();
-    part_to(writer, image, first, &mut out[..n])
-}
-
-// Plays the loop to an output and writes what that leaves.
-fn loop_to(writer: &mut impl Write, image: &[u8], times: u32, out: &mut [i16]) -> io::Result<()> {
-    let answer = image::play_loop(image, times, out);
-    match answer {
-        PlayAnswer::Played(count) => print_value(writer, count)?,
-        PlayAnswer::Refused(why) => print_no_value(writer, why)?,
-    }
-    print_space(writer)?;
-    print_samples(writer, out)
-}
-
-// Plays the loop to the first samples of an output.
-fn play_loop(writer: &mut impl Write, image: &[u8], times: u32, room: usize) -> io::Result<()> {
-    let n = least(room, 512);
-    let mut out = fresh_samples();
-    loop_to(writer, image, times, &mut out[..n])
-}
-
-// Compares two images, by all that counts or by the sound alone.
-fn compared(letter: u8, first: &[u8], second: &[u8]) -> SameAnswer {
-    if letter == b's' || letter == b'r' {
-        return image::same(first, second);
-    }
-    image::sounds_same(first, second)
-}
-
-// Compares two images and writes the answer.
-fn same(writer: &mut impl Write, letter: u8, first: &[u8], second: &[u8]) -> io::Result<()> {
-    let answer = compared(letter, first, second);
-    match answer {
-        SameAnswer::Same => print_value(writer, 1),
-        SameAnswer::Different => print_value(writer, 0),
-        SameAnswer::Refused(why) => print_no_value(writer, why),
+impl Call {
+    // Makes the call and writes what it answers and leaves.
+    fn make(
+        self,
+        writer: &mut impl Write,
+        line: &[u8; 56],
+        first: &[u8],
+        second: &[u8],
+    ) -> io::Result<()> {
+        let number = u32::read(line, 9);
+        let mut samples = [0x5a5a_i16; 512];
+        let out = &mut samples[..usize::from(u16::read(line, 17)).min(512)];
+        match self {
+            Call::Open => write_opening(writer, image::open(first)),
+            Call::Body => {
+                let answer = image::block_answer(first, number);
+                write_body(writer, answer, image::block_body(first, number))
+            }
+            Call::Play => write_played(writer, image::play(first, number, out), out),
+            Call::PlayAll => write_played(writer, image::play_all(first, out), out),
+            Call::PlayFrom => write_part(writer, image::play_from(first, number, out), out),
+            Call::PlayLoop => write_turns(writer, image::play_loop(first, number, out), out),
+            Call::Same => write_same(writer, image::same(first, second)),
+            Call::SameTurned => write_same(writer, image::same(second, first)),
+            Call::Sounds => write_same(writer, image::sounds_same(first, second)),
+            Call::SoundsTurned => write_same(writer, image::sounds_same(second, first)),
+        }
     }
 }
 
-// Makes the call of a letter.
-fn call(
-    writer: &mut impl Write,
-    letter: u8,
-    line: &[u8; 56],
-    first: &[u8],
-    second: &[u8],
-) -> io::Result<()> {
-    let k = double_word(line, 9);
-    if letter == b'o' {
-        open(writer, first)?;
-    } else if letter == b'k' {
-        body(writer, first, k)?;
-    } else if letter == b'p' || letter == b'a' {
-        play(writer, letter, first, k, word(line, 17) as usize)?;
-    } else if letter == b'm' {
-        part(writer, first, k, word(line, 17) as usize)?;
-    } else if letter == b't' {
-        play_loop(writer, first, k, word(line, 17) as usize)?;
-    } else if letter == b's' || letter == b'h' {
-        same(writer, letter, first, second)?;
-    } else {
-        same(writer, letter, second, first)?;
-    }
-    writer.write_all(b"\n")
+// The two images.
+#[derive(Drop)]
+struct Images {
+    first: [u8; 1024],
+    second: [u8; 1024],
 }
 
-// Makes a call on the first bytes of the images.
-fn lend(
-    writer: &mut impl Write,
-    letter: u8,
-    line: &[u8; 56],
-    first: &[u8],
-    second: &[u8],
-) -> io::Result<()> {
-    let n = least(word(line, 1) as usize, first.len());
-    let m = least(word(line, 5) as usize, second.len());
-    call(writer, letter, line, &first[..n], &second[..m])
-}
-
-// Puts the bytes of a line at their place in an image.
-fn put(line: &[u8; 56], image: &mut [u8; 1024]) {
-    let start = least(word(line, 1) as usize, 1000);
-    let k = least(byte(line, 5) as usize, 24);
-    for i in 0..k {
-        image[start + i] = byte(line, 7 + 2 * i);
+impl Images {
+    // Replays a line; a call is made on the first bytes of the images.
+    fn replay(&mut self, writer: &mut impl Write, line: &[u8; 56]) -> io::Result<()> {
+        match Step::from(line[0]) {
+            Step::PutBoth => {
+                buffers::put::<24>(line, &mut self.first);
+                buffers::put::<24>(line, &mut self.second);
+            }
+            Step::PutFirst => buffers::put::<24>(line, &mut self.first),
+            Step::PutSecond => buffers::put::<24>(line, &mut self.second),
+            Step::Make(call) => {
+                let n = usize::from(u16::read(line, 1)).min(1024);
+                let m = usize::from(u16::read(line, 5)).min(1024);
+                call.make(writer, line, &self.first[..n], &self.second[..m])?;
+                writeln!(writer)?;
+            }
+        }
+        Ok(())
     }
-}
-
-// Replays a line.
-fn turn(
-    writer: &mut impl Write,
-    letter: u8,
-    line: &[u8; 56],
-    first: &mut [u8; 1024],
-    second: &mut [u8; 1024],
-) -> io::Result<()> {
-    if letter == b'b' || letter == b'f' {
-        put(line, first);
-    }
-    if letter == b'b' || letter == b'g' {
-        put(line, second);
-        return Ok(());
-    }
-    if letter == b'f' {
-        return Ok(());
-    }
-    lend(writer, letter, line, first, second)
-}
-
-// Reads a line and replays it, and answers whether the list goes on.
-fn replay(
-    reader: &mut impl Read,
-    writer: &mut impl Write,
-    first: &mut [u8; 1024],
-    second: &mut [u8; 1024],
-) -> io::Result<bool> {
-    let mut line = [0u8; 56];
-    if !read_line(reader, &mut line)? {
-        return Ok(false);
-    }
-    turn(writer, line[0], &line, first, second)?;
-    Ok(true)
 }
 
 // Replays every line of the list.
 fn main(rt: HostRuntime) -> io::Result<()> {
     let mut reader = BufReader::new(rt.alloc(), rt.reader())?;
     let mut writer = BufWriter::new(rt.alloc(), io::writer(&rt))?;
-    let mut first = [0u8; 1024];
-    let mut second = [0u8; 1024];
+    let mut images = Images {
+        first: [0; 1024],
+        second: [0; 1024],
+    };
     for _ in 0..4_000_000_000u32 {
-        if !replay(&mut reader, &mut writer, &mut first, &mut second)? {
+        let Some(line) = read_line(&mut reader)? else {
             break;
-        }
+        };
+        images.replay(&mut writer, &line)?;
     }
     writer.flush()
 }

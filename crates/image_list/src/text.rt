@@ -1,36 +1,107 @@
-// The line of an answer.
-use block::FrameContext;
-use image::{Head, Refusal};
-use replay::{print_field, print_hex, print_samples, print_space};
+// The line of an answer: the refusal's number and the block that it names, zeros where there is none, and then the call's values.
+use block::{FrameContext, Playback};
+use image::{Head, Opening, Part, Refusal};
+use layout::Loop;
+use replay::{Digits, told};
 use std::io::{self, Write};
+use whole::History;
 
-// Writes that a call is accepted: number 0, and block 0.
-pub(crate) fn print_accepted(writer: &mut impl Write) -> io::Result<()> {
-    print_hex(writer, 0, 2)?;
-    print_field(writer, 0, 8)
-}
-
-// Writes a refusal's number, and the block whose entry is bad.
-pub(crate) fn print_refusal(writer: &mut impl Write, why: Refusal) -> io::Result<()> {
-    print_hex(writer, image::code(why) as u64, 2)?;
-    print_field(writer, image::bad_block(why) as u64, 8)
-}
-
-// Writes a head's values, in the image's order.
-pub(crate) fn print_head(writer: &mut impl Write, head: Head) -> io::Result<()> {
-    print_field(writer, head.total as u64, 8)?;
-    print_field(writer, head.rate as u64, 8)?;
-    print_field(writer, head.block as u64, 8)?;
-    print_space(writer)?;
-    print_samples(writer, &head.coefficients)?;
-    print_field(writer, head.gain as u64, 4)?;
-    print_field(writer, head.blocks as u64, 8)
+// Writes whether a call is accepted.
+fn write_told<T>(writer: &mut impl Write, answer: &Result<T, Refusal>) -> io::Result<()> {
+    let (code, block) = told(answer);
+    write!(writer, "{code:02x} {block:08x}")
 }
 
 // Writes a context's header and its two samples.
-pub(crate) fn print_context(writer: &mut impl Write, context: FrameContext) -> io::Result<()> {
-    print_field(writer, context.predictor_and_scale as u64, 4)?;
-    let history = context.last_samples;
-    print_space(writer)?;
-    print_samples(writer, &[history.newest, history.older])
+fn write_context(writer: &mut impl Write, context: FrameContext) -> io::Result<()> {
+    let History { newest, older } = context.last_samples;
+    write!(writer, " {:04x} {newest:04x}{older:04x}", context.predictor_and_scale)
+}
+
+// Writes a head's values, in the image's order.
+fn write_head(writer: &mut impl Write, head: Head) -> io::Result<()> {
+    write!(writer, " {:08x} {:08x} {:08x}", head.total, head.rate, head.block)?;
+    write!(writer, " {} {:04x} {:08x}", Digits(&head.coefficients), head.gain, head.blocks)
+}
+
+// Writes the values of a head, zeros where the image is refused, and its loop where it has one.
+pub(crate) fn write_opening(
+    writer: &mut impl Write,
+    opened: Result<Opening, Refusal>,
+) -> io::Result<()> {
+    write_told(writer, &opened)?;
+    let Opening { head, looped, context } = opened.unwrap_or(Opening {
+        head: Head {
+            total: 0,
+            rate: 0,
+            block: 0,
+            gain: 0,
+            coefficients: [0; 16],
+            blocks: 0,
+        },
+        looped: Loop::default(),
+        context: FrameContext::default(),
+    });
+    write_head(writer, head)?;
+    if looped.present {
+        write!(writer, " {:08x} {:08x}", looped.start, looped.end)?;
+        write_context(writer, context)?;
+    }
+    Ok(())
+}
+
+// Writes a block's body, which is empty where the call is refused.
+pub(crate) fn write_body(
+    writer: &mut impl Write,
+    answer: Result<(), Refusal>,
+    body: &[u8],
+) -> io::Result<()> {
+    write_told(writer, &answer)?;
+    write!(writer, " {}", Digits(body))
+}
+
+// Writes the count, the context and the output.
+pub(crate) fn write_played(
+    writer: &mut impl Write,
+    played: Result<Playback, Refusal>,
+    out: &[i16],
+) -> io::Result<()> {
+    write_told(writer, &played)?;
+    let Playback { samples, context } = played.unwrap_or(Playback {
+        samples: 0,
+        context: FrameContext::default(),
+    });
+    write!(writer, " {samples:08x}")?;
+    write_context(writer, context)?;
+    write!(writer, " {}", Digits(out))
+}
+
+// Writes the count, the number of blocks touched and the output.
+pub(crate) fn write_part(
+    writer: &mut impl Write,
+    part: Result<Part, Refusal>,
+    out: &[i16],
+) -> io::Result<()> {
+    write_told(writer, &part)?;
+    let Part { samples, blocks } = part.unwrap_or(Part {
+        samples: 0,
+        blocks: 0,
+    });
+    write!(writer, " {samples:08x} {blocks:08x} {}", Digits(out))
+}
+
+// Writes the count of a loop's samples and the output.
+pub(crate) fn write_turns(
+    writer: &mut impl Write,
+    count: Result<u64, Refusal>,
+    out: &[i16],
+) -> io::Result<()> {
+    write_told(writer, &count)?;
+    write!(writer, " {:08x} {}", count.unwrap_or(0), Digits(out))
+}
+
+// Writes whether two images are, or sound, the same.
+pub(crate) fn write_same(writer: &mut impl Write, same: Result<bool, Refusal>) -> io::Result<()> {
+    write_told(writer, &same)?;
+    write!(writer, " {:08x}", u32::from(same.unwrap_or(false)))
 }

@@ -1,12 +1,16 @@
 // What the replay programs share: numbers in hexadecimal digits of lower case, read from a line and written to the output.
 #![tactic(auto)]
 
+pub mod buffers;
+
 ghost use Rattle.std.specs.Prelude.{◌≡◌, ◌+◌, ◌-◌, ◌*◌, ◌≤◌, ◌<◌, ℕ, ℤ, List, [], ◌++◌, length, take};
+ghost use Rattle.whole.specs.Outcome.{answered, outcome_code, outcome_entry};
 ghost use Rattle.replay.specs.Digits.{digit, byte, word, double_word, quad_word, sample_at, numbers_at};
 
 use std::fmt::{self, Display, Formatter, Radix};
 use std::io::{self, ErrorKind, Read};
 use std::marker::Model;
+use whole::Reason;
 
 // internal: the number of a hexadecimal digit: 0 to 9 for the characters 48 to 57, 10 to 15 for the characters 97 to 102.
 #[tactic(auto, using(std::proofs::lemmas::Bool::Decides::nat_tests), unfolding(crate::specs::Digits::digit))]
@@ -149,6 +153,17 @@ impl<const N: usize> Piece<N> {
         let all = &mut self.samples[..];
         all[self.count..end].copy_from_slice(&samples[..added]);
         self.count = end;
+    }
+}
+
+// The number of a call's refusal and the block that it names; zeros where the call is accepted.
+pub fn told<T, R: Reason + Copy>(answer: &Result<T, R>) -> (u32, u32)
+    ensures code { result.0 ≡ outcome_code (answered R.number R.named answer.now) }
+    ensures block { result.1 ≡ outcome_entry (answered R.number R.named answer.now) }
+{
+    match answer {
+        Ok(_) => (0, 0),
+        Err(why) => (why.code(), why.bad_block()),
     }
 }
 
