@@ -9,7 +9,7 @@ ghost use Rattle.dsp.specs.inner.Asked.{numbers_ok, whole_answer};
 ghost use Rattle.dsp.specs.Import.{needed, long_enough, of_sample, loop_fields_ok, no_loop_fields, fields_ok, file_answer};
 
 use crate::Refusal;
-use crate::fields::{File, HEADER_BYTES, file_bytes, nibble_count};
+use crate::fields::{File, HEADER_BYTES, nibble_count};
 use crate::opened::Opened;
 use block::address_to_sample;
 use block::coefficients::lowest_pair;
@@ -17,28 +17,28 @@ use block::part::context_after;
 use image::bodies::{find_body, read_context, read_entry};
 use image::heading::read_coefficients;
 use layout::fields::{get16, get32};
-use whole::{BYTES_PER_FRAME, MOST_SAMPLES};
+use whole::{BYTES_PER_FRAME, MOST_SAMPLES, SAMPLES_PER_FRAME};
 
 // ---- import
 
 // The body bytes that a count needs; 0 needs none.
 // Stays: `layout::sizes::body_bytes` takes the counts of clips alone, and 25 comes before 4.
-fn needed(total: u32) -> u64
+fn needed(total: u32) -> usize
     ensures { result ≡ needed total }
 {
     if total == 0 {
         return 0;
     }
-    let n = u64::from(total);
-    let before = n.div_ceil(14) - 1;
-    8 * before + 1 + (n - 14 * before + 1) / 2
+    let n = total as usize;
+    let before = n.div_ceil(SAMPLES_PER_FRAME) - 1;
+    BYTES_PER_FRAME * before + 1 + (n - SAMPLES_PER_FRAME * before + 1) / 2
 }
 
 // Whether the file has its header and the body bytes that its count needs.
 fn long_enough(file: &[u8]) -> bool
     ensures { result ≡ long_enough file.now }
 {
-    file.len() >= HEADER_BYTES && 96 + needed(get32(file, 0)) <= file.len() as u64
+    file.len() >= HEADER_BYTES && HEADER_BYTES + needed(get32(file, 0)) <= file.len()
 }
 
 // Whether an address is that of one of N samples.
@@ -165,7 +165,7 @@ pub(crate) fn exportable(bytes: &[u8], room: usize) -> Result<Opened, Refusal>
 {
     let image = Opened::read(bytes)?;
     image.histories_answer()?;
-    if (room as u64) < file_bytes(image.total()) {
+    if room < image.file_bytes() {
         return Err(Refusal::OutputTooShort);
     }
     Ok(image)

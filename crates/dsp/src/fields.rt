@@ -3,7 +3,7 @@ ghost use Rattle.std.specs.Prelude.{◌≡◌, ◌≤◌};
 ghost use Rattle.layout.specs.Limits.{Limits};
 ghost use Rattle.layout.specs.Sizes.{image_size};
 ghost use Rattle.clip.specs.Image.{start_shape};
-ghost use Rattle.dsp.specs.File.{nibble_count, file_bytes, total_of, rate_of, flag_of, start_address_of, last_address_of, loop_of, coefficients_of, context_at, bodies_of};
+ghost use Rattle.dsp.specs.File.{nibble_count, total_of, rate_of, flag_of, start_address_of, last_address_of, loop_of, coefficients_of, context_at, bodies_of};
 ghost use Rattle.dsp.specs.Import.{clip_of};
 
 use block::{FrameContext, address_to_sample, sample_to_address};
@@ -12,7 +12,7 @@ use image::heading::{read_coefficients, signed_at, word_at};
 use image::loops::no_loop;
 use layout::Loop;
 use layout::fields::{get16, get32};
-use layout::sizes::{body_bytes, cut_down, image_size, loop_count, shape_of};
+use layout::sizes::{cut_down, image_size, loop_count, shape_of};
 use std::marker::Model;
 use whole::History;
 
@@ -25,14 +25,6 @@ pub(crate) fn nibble_count(total: u32) -> u32
     ensures { result ≡ nibble_count total }
 {
     (sample_to_address(total - 1) + 1) as u32
-}
-
-// The bytes of a clip's file.
-pub(crate) fn file_bytes(total: u32) -> u64
-    requires { (1 ≤ total) × (total ≤ 14680064) }
-    ensures { result ≡ file_bytes total }
-{
-    (HEADER_BYTES + body_bytes(total as usize)) as u64
 }
 
 // A file that 25 and 4 do not refuse: it has its header, and the bodies that its count needs.

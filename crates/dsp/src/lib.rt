@@ -15,12 +15,12 @@ mod importing;
 mod opened;
 
 use checks::{accept, exportable};
-use fields::{file_bytes, image_bytes};
+use fields::image_bytes;
 use importing::put_image;
 use whole::Reason;
 
 // Why a call is refused; one of them names the block that another history stands before, and an image's may name the block whose entry is bad.
-#[derive(Clone, Copy)]
+#[derive(Clone, Copy, Debug, PartialEq, Eq)]
 pub enum Refusal {
     BadSampleCount,
     RateZero,
@@ -58,14 +58,14 @@ impl Reason for Refusal {
             Refusal::FileTooShort => 25,
             Refusal::BadField => 26,
             Refusal::OtherHistory(_) => 35,
-            Refusal::OfImage(why) => image::code(why),
+            Refusal::OfImage(why) => why.code(),
         }
     }
 
     fn bad_block(self) -> u32 {
         match self {
             Refusal::OtherHistory(j) => j,
-            Refusal::OfImage(why) => image::bad_block(why),
+            Refusal::OfImage(why) => why.bad_block(),
             _ => 0,
         }
     }
@@ -77,7 +77,7 @@ pub fn export(image: &[u8], out: &mut [u8]) -> Result<u64, Refusal>
 {
     let taken = exportable(image, out.len())?;
     taken.put_file(out);
-    Ok(file_bytes(taken.total()))
+    Ok(taken.file_bytes() as u64)
 }
 
 // How much room import needs for the image of a file, or its refusal before the room is asked for.

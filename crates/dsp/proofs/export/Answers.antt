@@ -1,7 +1,6 @@
-use Rattle.std.proofs.Common.{List, ℕ, length, ap, ap₂, ◌∙◌}
+use Rattle.std.proofs.Common.{List, ℕ, length, ap₂}
 use Rattle.std.proofs.lemmas.Result.{err_from_is_err_and}
 use Rattle.whole.specs.Outcome.{accepted, effect}
-use Rattle.dsp.specs.File.{file_bytes}
 use Rattle.dsp.specs.Export.{export_answer, export_image}
 use Rattle.dsp.proofs.ExportReturns.{export-accepted}
 use Rattle.dsp.proofs.TestLaws.{values-refused, values-accepted}
@@ -25,4 +24,4 @@ unfolding export_image
 returns c =
     let l = c.args.image.now in
     let t = values-accepted (export_answer l (length c.args.out.now)) l c.in_ok-taken.ensures in
-    rw (t.0, ← t.1) (ap₂ (λ (n : ℕ) (m : List ℕ). effect (accepted n) m) (c.file_bytes.ensures ∙ ap file_bytes c.total.ensures) c.put_file.ensures)
+    rw (t.0, ← t.1) (ap₂ (λ (n : ℕ) (m : List ℕ). effect (accepted n) m) (c.file_bytes.ensures) c.put_file.ensures)

@@ -1,4 +1,4 @@
-use Rattle.std.proofs.Common.{ap, ◌∙◌, arith}
+use Rattle.std.proofs.Common.{arith}
 use Rattle.std.proofs.lemmas.Result.{err_from_is_err_and}
 use borrow.Author.Tests.{lt-ltb, le-ltb}
 use Rattle.image.specs.Reading.{total_in}
@@ -28,7 +28,7 @@ unfolding export_answer
 returns-then-room-file_bytes c =
     let l = c.args.bytes.now in
     let t = values-accepted (compare_answer l) l c.in_ok-image.ensures in
-    let n = c.file_bytes.ensures ∙ ap file_bytes c.total.ensures in
+    let n = c.file_bytes.ensures in
     rw (t.0, ← t.1, ← c.in_ok-histories_answer.ensures, lt-ltb c.args.room (file_bytes (total_in c.in_ok-image.image)) (omega (arith, n, c.if-room-file_bytes.true)))
 
 pub returns : goal.returns
@@ -36,5 +36,5 @@ unfolding export_answer
 returns c =
     let l = c.args.bytes.now in
     let t = values-accepted (compare_answer l) l c.in_ok-image.ensures in
-    let n = c.file_bytes.ensures ∙ ap file_bytes c.total.ensures in
+    let n = c.file_bytes.ensures in
     rw (t.0, ← t.1, ← c.in_ok-histories_answer.ensures, le-ltb c.args.room (file_bytes (total_in c.in_ok-image.image)) (omega (arith, n, c.if-room-file_bytes.false)))

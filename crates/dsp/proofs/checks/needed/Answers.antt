@@ -11,4 +11,4 @@ returns-then-total-eq0 c = rw c.if-total-eq0.true
 
 pub returns : goal.returns
 unfolding needed body_bytes last_frame_samples frame_count
-returns c = rw (c.from-n.ensures, c.div_ceil-before.ensures, c.from-n.ensures, ne_eqb _ _ c.if-total-eq0.false) (omega arith)
+returns c = rw (c.div_ceil-before.ensures, ne_eqb _ _ c.if-total-eq0.false) (omega arith)

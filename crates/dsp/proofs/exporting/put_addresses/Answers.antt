@@ -9,13 +9,13 @@ use Rattle.dsp.proofs.exporting.put_addresses.Goals as goal
 pub overflow_cast-sample_to_address : goal.overflow_cast-sample_to_address
 unfolding sample_to_address
 overflow_cast-sample_to_address c =
-    let b = c.requires.0.below c.if-looped.true in
-    let w = c.requires.0.within c.if-looped.true in
+    let b = c.requires.below c.if-looped.true in
+    let w = c.requires.within c.if-looped.true in
     omega (arith, c.sample_to_address.ensures, b, w)
 
 pub overflow_cast-sample_to_address-then-looped : goal.overflow_cast-sample_to_address-then-looped
 unfolding sample_to_address
-overflow_cast-sample_to_address-then-looped c = let w = c.requires.0.within c.if-looped.true in omega (arith, c.sample_to_address-then-looped.ensures, w)
+overflow_cast-sample_to_address-then-looped c = let w = c.requires.within c.if-looped.true in omega (arith, c.sample_to_address-then-looped.ensures, w)
 
 pub returns-then-looped : goal.returns-then-looped
 unfolding address_bytes
@@ -24,7 +24,7 @@ returns-then-looped c =
     let e = c.sample_to_address-then-looped in
     c.put32-then-looped.ensures
     ∙ ap (λ (m : List ℕ). sets m 20 (be32 e.result)) c.put32.ensures
-    ∙ sets_then c.args.out.now 16 20 (be32 s.result) (be32 e.result) refl
+    ∙ sets_then c.args.header.now 16 20 (be32 s.result) (be32 e.result) refl
     ∙ rw (c.if-looped.true, s.ensures, e.ensures)
 
 pub returns-else-looped : goal.returns-else-looped

@@ -7,5 +7,5 @@ use Rattle.dsp.proofs.exporting.put_looped.Goals as goal
 
 pub returns : goal.returns
 returns c =
-    runs4 c.args.out.now c.put16.new.buf c.put16-2.new.buf c.put_addresses.new.out c.put32.new.buf (be16 c.args.flag) (be16 0) (address_bytes c.args.looped) (be32 2) 12 14 16 24
+    runs4 c.args.header.now c.put16.new.buf c.put16-2.new.buf c.put_addresses.new.header c.put32.new.buf (be16 c.args.flag) (be16 0) (address_bytes c.args.looped) (be32 2) 12 14 16 24
     c.put16.ensures c.put16-2.ensures c.put_addresses.ensures c.put32.ensures refl refl (omega (arith, addresses-length c.args.looped))

@@ -1,4 +1,4 @@
-use Rattle.std.proofs.Common.{◌≤◌, ◌+◌, length, ap, ◌∙◌, arith}
+use Rattle.std.proofs.Common.{◌≡◌, ◌≤◌, ◌+◌, length, ap, ◌∙◌, arith, rules}
 use Rattle.std.proofs.lemmas.List.Edits.{sets}
 use Rattle.layout.specs.declared.Shape.{Shape}
 use Rattle.layout.specs.Sizes.{bodies_place, body_bytes, image_size}
@@ -17,26 +17,26 @@ overflow_add-end c =
     let begins = c.bodies_place-bodies.ensures ∙ ap bodies_place c.read_shape-shape.ensures in
     omega (arith, begins, c.body_bytes.ensures.most, k, m.further)
 
-pub put_header-requires : goal.put_header-requires
-unfolding file_bytes
-put_header-requires c = omega (arith, c.requires)
-
-pub slice_bounds-copy-end : goal.slice_bounds-copy-end
+pub slice_bounds-copy-end-2 : goal.slice_bounds-copy-end-2
 unfolding image_size
-slice_bounds-copy-end c =
+slice_bounds-copy-end-2 c =
     let begins = c.bodies_place-bodies.ensures ∙ ap bodies_place c.read_shape-shape.ensures in
     let bytes = c.body_bytes.ensures.same ∙ ap (λ (s : Shape). body_bytes s.total) c.read_shape-shape.ensures in
     omega (arith, begins, bytes, c.self.invariant.head.size)
 
 pub copy-requires : goal.copy-requires
 unfolding file_bytes
-copy-requires c =
+copy-requires c = let n : length c.header.result ≡ 96 = search rules in omega (arith, n, c.requires)
+
+pub copy-requires-2 : goal.copy-requires-2
+unfolding file_bytes
+copy-requires-2 c =
     let l = c.self.inside.bytes.now in
     let begins = c.bodies_place-bodies.ensures ∙ ap bodies_place c.read_shape-shape.ensures in
     let bytes = c.body_bytes.ensures.same ∙ ap (λ (s : Shape). body_bytes s.total) c.read_shape-shape.ensures in
     let part = ap length (bodies-part l c.bodies_place-bodies.result c.body_bytes.result begins bytes) ∙ bodies-length l c.self.invariant.head in
     let room : 96 + body_bytes (total_in l) ≤ length c.args.out.now = rw c.self.view_is c.requires in
-    omega (arith, part, room, c.put_header.auto.out)
+    omega (arith, part, room, c.copy.auto.out)
 
 pub returns : goal.returns
 returns c =
@@ -44,4 +44,4 @@ returns c =
     let begins = c.bodies_place-bodies.ensures ∙ ap bodies_place c.read_shape-shape.ensures in
     let bytes = c.body_bytes.ensures.same ∙ ap (λ (s : Shape). body_bytes s.total) c.read_shape-shape.ensures in
     let part = bodies-part l c.bodies_place-bodies.result c.body_bytes.result begins bytes ∙ ap bodies_in c.self.view_is in
-    file-put c.args.self.now c.args.out.now c.put_header.new.out c.copy.new.out c.put_header.ensures (c.copy.ensures ∙ ap (sets c.put_header.new.out 96) part)
+    file-put c.args.self.now c.args.out.now c.copy.new.out c.copy-2.new.out (c.copy.ensures ∙ ap (sets c.args.out.now 0) c.header.ensures) (c.copy-2.ensures ∙ ap (sets c.copy.new.out 96) part)
