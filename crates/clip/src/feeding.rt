@@ -30,6 +30,7 @@ fn store(image: &mut [u8], shape: Shape, q: usize, bytes: &[u8], history: Histor
     }
 }
 
+// Stays: what these ask of a state and its buffer is a record of specs/inner and no invariant, since the struct is C's, of any numbers, and C lends the buffer anew to each call.
 impl Encoder {
     // The context at the loop start: that of frame q, which is encoded after the state's history, where it holds the start, else the one before.
     #[tactic(auto, unfolding(crate::specs::Encoding::loop_context))]
