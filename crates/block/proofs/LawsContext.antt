@@ -16,9 +16,9 @@ unfolding scale
 scale-le h = pow_mono {i = h % 16} {j = 15} (omega arith)
 
 -- the scale as a shift of 32 bits makes it
-pub scale-word : (h : ℕ) → (1 * 2 ^ (h % 16)) % 2 ^ 32 ≡ scale h
+pub scale_word : (h : ℕ) → (1 * 2 ^ (h % 16)) % 2 ^ 32 ≡ scale h
 unfolding scale
-scale-word h =
+scale_word h =
     ap (λ (v : ℕ). v % 2 ^ 32) (one-mul (2 ^ (h % 16)))
     ∙ mod-eq_of_lt (lt_of_le_of_lt (scale-le h) (lit< tt))
 

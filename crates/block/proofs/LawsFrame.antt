@@ -1,22 +1,23 @@
 -- Laws of the samples of one frame.
 use mathlib.Core.Path.{◌≡◌, refl, sym, ap, ◌∙◌}
-use mathlib.Core.List.{List, [], ◌∷◌, ◌++◌, foldl, foldl-append, append_assoc}
-use Prim.Native.Nat.{ℕ, zero, suc, ◌+◌, ◌*◌, ◌/◌, ◌%◌}
+use mathlib.Core.List.{List, [], ◌∷◌, ◌++◌, foldl, foldl-append, append_assoc, append-nil}
+use Prim.Native.Nat.{ℕ, zero, suc, ◌+◌, ◌-◌, ◌*◌, ◌/◌, ◌%◌, ◌≤◌, ◌<◌}
 use native.Mathlib.Nat.{add-zero, zero-add, add-suc, suc-add}
 use native.Mathlib.Numerals.{add-one}
 use native.Mathlib.Omega.{arith}
 use borrow.Author.Tests.{eq-eqb, ne_eqb}
+use borrow.Rule.Slice.PartMut.{put_mid}
 use lib.IntN.{ℤ, pos}
-use lib.ListN.{length, get_or, set, length-append}
-use lib.Seq.{sets}
-use Rattle.block.specs.Sample.{decode_sample}
-use Rattle.whole.proofs.Stores.{sets_then}
+use lib.ListN.{length, get_or, set, drop, take, length-append, drop_of_length-le}
+use lib.Seq.{sets, get_or-drop, get_or-take, length-take-le}
+use Rattle.whole.proofs.Stores.{sets_then, spread}
+use Rattle.block.proofs.LawsStores.{part-stored, stored-whole}
 use Rattle.whole.specs.declared.History.{History}
 use Rattle.block.specs.declared.FrameContext.{FrameContext}
-use Rattle.block.specs.Context.{predictor, scale, history_with, context_with, push_sample}
+use Rattle.block.specs.Context.{predictor, scale, context_with, push_sample}
 use Rattle.block.specs.Frame.{nibble_at, Playing, playing, next_sample, take_nibble, into}
 use Rattle.block.specs.inner.Frames.{nibbles_from, play_frame}
-use Rattle.block.specs.inner.Nibbles.{Decoded, decoded, decode_nibble, decode_nibbles, play_nibbles}
+use Rattle.block.specs.inner.Nibbles.{Decoded, decoded, advanced, decode_nibble, decode_nibbles, play_nibbles}
 
 -- ---- nibbles
 
@@ -68,36 +69,118 @@ module _ (bytes : List ℕ) (a : ℕ) (c0 c1 : ℤ) (scale : ℕ) (h : History) 
   unfolding play_nibbles
   from-length n = decode-length c0 c1 scale (decoded h []) (nibbles_from bytes a n) ∙ zero-add (length (nibbles_from bytes a n)) ∙ nibbles-length bytes a n
 
-module _ (bytes : List ℕ) (k j : ℕ) (c0 c1 : ℤ) (scale : ℕ) (h : History) (a b : ℤ) (e : (play_nibbles bytes (2 * k) (2 * j) c0 c1 scale h).history ≡ history_with a b) where
+module _ (bytes : List ℕ) (j : ℕ) (c0 c1 : ℤ) (scale : ℕ) (h now : History) (e : (play_nibbles bytes 0 (2 * j) c0 c1 scale h).history ≡ now) where
   -- two samples more, of one byte
-  pub pair-more : (x y : ℤ) → x ≡ decode_sample c0 c1 a b (get_or bytes (k + j) 0 / 16) scale → y ≡ decode_sample c0 c1 x a (get_or bytes (k + j) 0 % 16) scale
-      → play_nibbles bytes (2 * k) (2 * (j + 1)) c0 c1 scale h ≡ decoded (history_with y x) ((play_nibbles bytes (2 * k) (2 * j) c0 c1 scale h).samples ++ (x ∷ y ∷ []))
+  pub pair-more : (first second : History) → first ≡ advanced c0 c1 scale now (get_or bytes j 0 / 16) → second ≡ advanced c0 c1 scale first (get_or bytes j 0 % 16)
+      → play_nibbles bytes 0 (2 * (j + 1)) c0 c1 scale h ≡ decoded second ((play_nibbles bytes 0 (2 * j) c0 c1 scale h).samples ++ (first.newest ∷ second.newest ∷ []))
   unfolding decode_nibbles decode_nibble
-  pair-more x y ex ey =
+  pair-more first second f g =
       let d : 2 * (j + 1) ≡ 2 * j + 2 = omega arith in
-      let f : 2 * k + 2 * j ≡ 2 * (k + j) = omega arith in
-      ap (λ (n : ℕ). play_nibbles bytes (2 * k) n c0 c1 scale h) d
-      ∙ from_more bytes (2 * k) c0 c1 scale h (2 * j) 2
-      ∙ ap (λ (n : ℕ). decode_nibbles c0 c1 scale (play_nibbles bytes (2 * k) (2 * j) c0 c1 scale h) (nibbles_from bytes n 2)) f
-      ∙ ap (decode_nibbles c0 c1 scale (play_nibbles bytes (2 * k) (2 * j) c0 c1 scale h)) (nibbles-pair bytes (k + j))
-      ∙ rw (e, ← ex, ← ey, append_assoc)
+      ap (λ (n : ℕ). play_nibbles bytes 0 n c0 c1 scale h) d
+      ∙ from_more bytes 0 c0 c1 scale h (2 * j) 2
+      ∙ ap (λ (n : ℕ). decode_nibbles c0 c1 scale (play_nibbles bytes 0 (2 * j) c0 c1 scale h) (nibbles_from bytes n 2)) (zero-add (2 * j))
+      ∙ ap (decode_nibbles c0 c1 scale (play_nibbles bytes 0 (2 * j) c0 c1 scale h)) (nibbles-pair bytes j)
+      ∙ rw (g, f, ← e, append_assoc)
 
   -- one sample more, of a byte's high nibble
-  pub high-more : (x : ℤ) → x ≡ decode_sample c0 c1 a b (get_or bytes (k + j) 0 / 16) scale
-      → play_nibbles bytes (2 * k) (2 * j + 1) c0 c1 scale h ≡ decoded (history_with x a) ((play_nibbles bytes (2 * k) (2 * j) c0 c1 scale h).samples ++ (x ∷ []))
+  pub high-more : (last : History) → last ≡ advanced c0 c1 scale now (get_or bytes j 0 / 16)
+      → play_nibbles bytes 0 (2 * j + 1) c0 c1 scale h ≡ decoded last ((play_nibbles bytes 0 (2 * j) c0 c1 scale h).samples ++ (last.newest ∷ []))
   unfolding decode_nibbles decode_nibble nibbles_from
-  high-more x ex =
-      let f : 2 * k + 2 * j ≡ 2 * (k + j) = omega arith in
-      from_more bytes (2 * k) c0 c1 scale h (2 * j) 1
-      ∙ ap (λ (n : ℕ). decode_nibbles c0 c1 scale (play_nibbles bytes (2 * k) (2 * j) c0 c1 scale h) (nibbles_from bytes n 1)) f
-      ∙ rw (nibble-high, e, ← ex)
+  high-more last f =
+      from_more bytes 0 c0 c1 scale h (2 * j) 1
+      ∙ ap (λ (n : ℕ). decode_nibbles c0 c1 scale (play_nibbles bytes 0 (2 * j) c0 c1 scale h) (nibbles_from bytes n 1)) (zero-add (2 * j))
+      ∙ rw (nibble-high, f, ← e)
 
 -- the stores of a turn
-pub pair-stores : (out : List ℤ) (to j : ℕ) (xs : List ℤ) (x y : ℤ) → length xs ≡ 2 * j → set (set (sets out to xs) (to + 2 * j) x) (to + 2 * j + 1) y ≡ sets out to (xs ++ (x ∷ y ∷ []))
-pair-stores out to j xs x y e = rw add-one (sets_then out to (to + 2 * j) xs (x ∷ y ∷ []) (ap (λ (n : ℕ). to + n) (sym e)))
+pub pair-stored : (out xs : List ℤ) (j : ℕ) (x y : ℤ) → length xs ≡ 2 * j → set (set (sets out 0 xs) (2 * j) x) (2 * j + 1) y ≡ sets out 0 (xs ++ (x ∷ y ∷ []))
+pair-stored out xs j x y e = rw add-one (sets_then out 0 (2 * j) xs (x ∷ y ∷ []) (sym e ∙ sym (zero-add (length xs))))
 
-pub high-store : (out : List ℤ) (to j : ℕ) (xs : List ℤ) (x : ℤ) → length xs ≡ 2 * j → set (sets out to xs) (to + 2 * j) x ≡ sets out to (xs ++ (x ∷ []))
-high-store out to j xs x e = sets_then out to (to + 2 * j) xs (x ∷ []) (ap (λ (n : ℕ). to + n) (sym e))
+-- ---- the nibbles of a part of the bytes
+
+nibble-drop : (bytes : List ℕ) (k a : ℕ) → nibble_at (drop k bytes) a ≡ nibble_at bytes (2 * k + a)
+unfolding nibble_at
+nibble-drop bytes k a =
+    let e : (2 * k + a) % 2 ≡ a % 2 = omega arith in
+    let f : (2 * k + a) / 2 ≡ k + a / 2 = omega arith in
+    rw (e, f, get_or-drop k bytes (a / 2) 0)
+
+nibbles-drop : (bytes : List ℕ) (k a n : ℕ) → nibbles_from (drop k bytes) a n ≡ nibbles_from bytes (2 * k + a) n
+unfolding nibbles_from
+nibbles-drop bytes k a zero = refl
+nibbles-drop bytes k a (suc n) = rw (nibble-drop bytes k a, nibbles-drop bytes k (suc a) n, add-suc (2 * k) a)
+
+nibble-take : (bytes : List ℕ) (p a : ℕ) → a < 2 * p → nibble_at (take p bytes) a ≡ nibble_at bytes a
+unfolding nibble_at
+nibble-take bytes p a h = let i : a / 2 < p = omega arith in rw (get_or-take p bytes (a / 2) 0 i)
+
+nibbles-take : (bytes : List ℕ) (p a n : ℕ) → a + n ≤ 2 * p → nibbles_from (take p bytes) a n ≡ nibbles_from bytes a n
+unfolding nibbles_from
+nibbles-take bytes p a zero h = refl
+nibbles-take bytes p a (suc n) h = rw (nibble-take bytes p a (omega arith), nibbles-take bytes p (suc a) n (omega arith))
+
+module _ (bytes : List ℕ) (k n : ℕ) (c0 c1 : ℤ) (scale : ℕ) (h : History) where
+  -- those from a byte on
+  pub played-after : play_nibbles (drop k bytes) 0 n c0 c1 scale h ≡ play_nibbles bytes (2 * k) n c0 c1 scale h
+  unfolding play_nibbles
+  played-after = ap (decode_nibbles c0 c1 scale (decoded h [])) (nibbles-drop bytes k 0 n ∙ ap (λ (a : ℕ). nibbles_from bytes a n) (add-zero (2 * k)))
+
+  -- those of the first bytes
+  pub played-before : n ≤ 2 * k → play_nibbles (take k bytes) 0 n c0 c1 scale h ≡ play_nibbles bytes 0 n c0 c1 scale h
+  unfolding play_nibbles
+  played-before l = ap (decode_nibbles c0 c1 scale (decoded h [])) (nibbles-take bytes k 0 n (omega arith))
+
+-- ---- as many nibbles as an output has room for
+
+module _ (bytes : List ℕ) (out ys : List ℤ) (c0 c1 : ℤ) (scale : ℕ) (h after : History)
+    (e : after ≡ (play_nibbles (take (length out / 2) bytes) 0 (length (take (2 * (length out / 2)) out)) c0 c1 scale h).history)
+    (f : ys ≡ (play_nibbles (take (length out / 2) bytes) 0 (length (take (2 * (length out / 2)) out)) c0 c1 scale h).samples) where
+  abbrev whole_bytes : Decoded
+  whole_bytes = play_nibbles bytes 0 (2 * (length out / 2)) c0 c1 scale h
+
+  abbrev all : Decoded
+  all = play_nibbles bytes 0 (length out) c0 c1 scale h
+
+  pairs-played : play_nibbles (take (length out / 2) bytes) 0 (length (take (2 * (length out / 2)) out)) c0 c1 scale h ≡ whole_bytes
+  pairs-played =
+      ap (λ (n : ℕ). play_nibbles (take (length out / 2) bytes) 0 n c0 c1 scale h) (length-take-le (2 * (length out / 2)) out (omega arith))
+      ∙ played-before bytes (length out / 2) (2 * (length out / 2)) c0 c1 scale h (omega arith)
+
+  pairs-count : length ys ≡ 2 * (length out / 2)
+  pairs-count = ap length (f ∙ ap (λ (d : Decoded). d.samples) pairs-played) ∙ from-length bytes 0 c0 c1 scale h (2 * (length out / 2))
+
+  -- where the last byte is whole
+  pub even-played : length out % 2 ≡ 0 → (after ≡ all.history) × (ys ++ drop (2 * (length out / 2)) out ≡ all.samples)
+  even-played z =
+      let n : 2 * (length out / 2) ≡ length out = omega arith in
+      let p : whole_bytes ≡ all = ap (λ (m : ℕ). play_nibbles bytes 0 m c0 c1 scale h) n in (
+        e ∙ ap (λ (d : Decoded). d.history) (pairs-played ∙ p),
+        rw (drop_of_length-le out {i = 2 * (length out / 2)} (omega arith)) (append-nil ys ∙ f ∙ ap (λ (d : Decoded). d.samples) (pairs-played ∙ p)),
+      )
+
+  -- where one nibble more is played
+  pub odd-played : (length out % 2 ≡ 0 → ⊥) → (last : History) → last ≡ advanced c0 c1 scale after (get_or bytes (length out / 2) 0 / 16)
+      → (last ≡ all.history) × (set (ys ++ drop (2 * (length out / 2)) out) (length out - 1) last.newest ≡ all.samples)
+  odd-played z last g =
+      let n : 2 * (length out / 2) + 1 ≡ length out = odd (length out) z in
+      let k = pairs-count in
+      let m = length-append ys (last.newest ∷ []) in
+      let now : whole_bytes.history ≡ after = sym (e ∙ ap (λ (d : Decoded). d.history) pairs-played) in
+      let p : all ≡ decoded last (whole_bytes.samples ++ (last.newest ∷ [])) = ap (λ (m : ℕ). play_nibbles bytes 0 m c0 c1 scale h) (sym n)
+      ∙ high-more bytes (length out / 2) c0 c1 scale h after now last g in
+      let q : whole_bytes.samples ≡ ys = sym (f ∙ ap (λ (d : Decoded). d.samples) pairs-played) in
+      let j : length out - 1 ≡ length ys = omega arith in
+      let i : drop (2 * (length out / 2)) out ≡ drop (length ys) out = ap (λ (m : ℕ). drop m out) (sym k) in (
+        sym (ap (λ (d : Decoded). d.history) p),
+        (
+            rw (i, j, ← spread ys out (omega (arith, k, n)))
+            (sets_then out 0 (length ys) ys (last.newest ∷ []) (sym (zero-add (length ys)))
+            ∙ stored-whole out (ys ++ (last.newest ∷ [])) (omega (arith, k, n, m))
+            ∙ ap (λ (xs : List ℤ). xs ++ (last.newest ∷ [])) (sym q) ∙ sym (ap (λ (d : Decoded). d.samples) p))
+            ),
+      )
+    where
+      odd : (n : ℕ) → (n % 2 ≡ 0 → ⊥) → 2 * (n / 2) + 1 ≡ n
+      odd n z = omega arith
 
 -- ---- a frame, by the pair and the scale that its header names
 
@@ -129,11 +212,11 @@ unfolding play_frame play_nibbles
 frame-decoded bytes at count cs c = nibbles-decoded cs c.predictor_and_scale (decoded c.last_samples []) (nibbles_from bytes (2 * at + 2) count)
 
 -- what the step leaves, from what the nibbles' call answers
-pub frame-into : (bytes : List ℕ) (at count : ℕ) (cs : List ℤ) (c : FrameContext) (out : List ℤ) (to : ℕ) (h : History) (o : List ℤ)
-    → h ≡ (decoded_at bytes (2 * (at + 1)) count cs c).history → o ≡ sets out to (decoded_at bytes (2 * (at + 1)) count cs c).samples
-    → playing (context_with c.predictor_and_scale h) o ≡ into out to (play_frame bytes at count cs (playing c []))
-frame-into bytes at count cs c out to h o e f =
-    let g : 2 * (at + 1) ≡ 2 * at + 2 = omega arith in
-    let d = rw g at e in
-    let k = rw g at f in
-    rw (frame-decoded bytes at count cs c, d, k)
+pub frame-into : (bytes : List ℕ) (at count : ℕ) (cs : List ℤ) (c : FrameContext) (out : List ℤ) (to : ℕ) (h : History) (ys : List ℤ) → to + count ≤ length out
+    → h ≡ (decoded_at bytes (2 * at + 2) count cs c).history → ys ≡ (decoded_at bytes (2 * at + 2) count cs c).samples
+    → playing (context_with c.predictor_and_scale h) (put_mid to (to + count - to) out ys) ≡ into out to (play_frame bytes at count cs (playing c []))
+frame-into bytes at count cs c out to h ys l e f =
+    let header = c.predictor_and_scale in
+    let k : to + count - to ≡ count = omega arith in
+    let n = ap length f ∙ from-length bytes (2 * at + 2) (first_of cs header) (second_of cs header) (scale header) c.last_samples count in
+    rw (frame-decoded bytes at count cs c, k, part-stored out ys to count n l, e, f)

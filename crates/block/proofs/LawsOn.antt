@@ -6,22 +6,24 @@ use Prim.Native.Nat.{ℕ, zero, suc, ◌+◌, ◌-◌, ◌*◌, ◌/◌, ◌%◌
 use native.Mathlib.Nat.{add-zero, add-suc, suc-add}
 use native.Mathlib.Numerals.{add-one}
 use native.Mathlib.Omega.{arith}
+use borrow.Rule.Slice.PartMut.{put_mid}
 use lib.IntN.{ℤ}
-use lib.ListN.{length, get_or, take, drop, length-append}
+use lib.ListN.{length, get_or, set, take, drop, length-append, length-set}
 use lib.Seq.{sets, take_at, drop_at}
 use Rattle.whole.specs.declared.History.{History}
 use Rattle.whole.proofs.Stores.{part-sets, part-all, part_end}
 use Rattle.block.specs.declared.FrameContext.{FrameContext}
 use Rattle.block.specs.Address.{address_to_sample, sample_to_address}
-use Rattle.block.specs.Context.{history_with, context_with, with_header}
+use Rattle.block.specs.Context.{scale, history_with, context_with, with_header}
 use Rattle.block.specs.Frame.{nibble_at, Playing, playing, next_sample, take_nibble}
 use Rattle.block.specs.Play.{take_header, play_from, play, play_into}
 use Rattle.block.specs.Sample.{decode_sample}
 use Rattle.block.specs.inner.Frames.{nibbles_from, play_frame, play_frames}
-use Rattle.block.specs.inner.Nibbles.{decoded, decode_nibble, decode_nibbles, play_nibbles}
+use Rattle.block.specs.inner.Nibbles.{Decoded, decoded, advanced, decode_nibble, decode_nibbles, play_nibbles}
 use Rattle.block.specs.inner.Parts.{play_on}
 use Rattle.block.proofs.LawsAddress.{back}
-use Rattle.block.proofs.LawsFrame.{nibble-low, decoded_at, playing_of, nibbles-decoded}
+use Rattle.block.proofs.LawsFrame.{nibble-low, decoded_at, playing_of, first_of, second_of, nibbles-decoded, from-length, played-after}
+use Rattle.block.proofs.LawsStores.{part-stored, stored-whole}
 use Rattle.block.proofs.LawsParts.{none, starts, from-onto, from-after, from_more, play-begins}
 use Rattle.block.proofs.LawsPlay.{onto, at-sample, at-header, in_frame, frame-onto, repeats, play-count}
 
@@ -113,20 +115,67 @@ module _ (c0 c1 : ℤ) (s : ℕ) where
       rw append_assoc (decode-onto (history_with x h.newest) xs (ys ++ (x ∷ [])) ns)
 
   -- a byte's low nibble first
-  pub low_first : (bytes : List ℕ) (k n : ℕ) (h : History) (x : ℤ) → x ≡ decode_sample c0 c1 h.newest h.older (get_or bytes k 0 % 16) s
-      → play_nibbles bytes (suc (2 * k)) (suc n) c0 c1 s h ≡ (let d = play_nibbles bytes (2 * (k + 1)) n c0 c1 s (history_with x h.newest) in decoded d.history (x ∷ d.samples))
+  low_first : (bytes : List ℕ) (k n : ℕ) (h low : History) → low ≡ advanced c0 c1 s h (get_or bytes k 0 % 16)
+      → play_nibbles bytes (suc (2 * k)) (suc n) c0 c1 s h ≡ (let d = play_nibbles bytes (2 * (k + 1)) n c0 c1 s low in decoded d.history (low.newest ∷ d.samples))
   unfolding play_nibbles nibbles_from decode_nibbles decode_nibble
-  low_first bytes k n h x e =
+  low_first bytes k n h low e =
       let f : suc (suc (2 * k)) ≡ 2 * (k + 1) = omega arith in
-      rw (nibble-low bytes k, ← e, f) (decode-onto (history_with x h.newest) (x ∷ []) [] (nibbles_from bytes (2 * (k + 1)) n))
+      rw (nibble-low bytes k, e, f) (decode-onto (advanced c0 c1 s h (get_or bytes k 0 % 16)) ((advanced c0 c1 s h (get_or bytes k 0 % 16)).newest ∷ []) [] (nibbles_from bytes (2 * (k + 1)) n))
+
+  module _ (bytes : List ℕ) (from : ℕ) (out : List ℤ) (h : History) where
+    abbrev all : Decoded
+    all = play_nibbles bytes from (length out) c0 c1 s h
+
+    -- none
+    pub none-on : length out ≡ 0 → (h ≡ all.history) × (out ≡ all.samples)
+    unfolding play_nibbles nibbles_from decode_nibbles
+    none-on z = rw z (refl, nothing out z)
+      where
+        nothing : (xs : List ℤ) → length xs ≡ 0 → xs ≡ []
+        nothing [] e = refl
+        nothing (x ∷ xs) e = absurd (omega arith)
+
+    -- from a byte on
+    pub even-on : (r : History) (ys : List ℤ) → from % 2 ≡ 0 → r ≡ (play_nibbles (drop (from / 2) bytes) 0 (length out) c0 c1 s h).history
+        → ys ≡ (play_nibbles (drop (from / 2) bytes) 0 (length out) c0 c1 s h).samples → (r ≡ all.history) × (ys ≡ all.samples)
+    even-on r ys z e f =
+        let n : 2 * (from / 2) ≡ from = omega arith in
+        let p : play_nibbles (drop (from / 2) bytes) 0 (length out) c0 c1 s h ≡ all = played-after bytes (from / 2) (length out) c0 c1 s h ∙ ap (λ (a : ℕ). play_nibbles bytes a (length out) c0 c1 s h) n in
+        (e ∙ ap (λ (d : Decoded). d.history) p, f ∙ ap (λ (d : Decoded). d.samples) p)
+
+    -- from a byte's low nibble on
+    pub odd-on : (low r : History) (ys : List ℤ) → (from % 2 ≡ 0 → ⊥) → 0 < length out → low ≡ advanced c0 c1 s h (get_or bytes (from / 2) 0 % 16)
+        → r ≡ (play_nibbles (drop (from / 2 + 1) bytes) 0 (length out - 1) c0 c1 s low).history
+        → ys ≡ (play_nibbles (drop (from / 2 + 1) bytes) 0 (length out - 1) c0 c1 s low).samples
+        → (r ≡ all.history) × (put_mid 1 (length (set out 0 low.newest) - 1) (set out 0 low.newest) ys ≡ all.samples)
+    odd-on low r ys z l e f g =
+        let k = from / 2 in
+        let n : suc (2 * k) ≡ from = odd from z in
+        let m : suc (length out - 1) ≡ length out = omega arith in
+        let d = play_nibbles bytes (2 * (k + 1)) (length out - 1) c0 c1 s low in
+        let p : play_nibbles (drop (k + 1) bytes) 0 (length out - 1) c0 c1 s low ≡ d = played-after bytes (k + 1) (length out - 1) c0 c1 s low in
+        let q : all ≡ decoded d.history (low.newest ∷ d.samples) = ap (λ (a : ℕ). play_nibbles bytes a (length out) c0 c1 s h) (sym n)
+        ∙ ap (λ (c : ℕ). play_nibbles bytes (suc (2 * k)) c c0 c1 s h) (sym m) ∙ low_first bytes k (length out - 1) h low e in
+        let t : ys ≡ d.samples = g ∙ ap (λ (x : Decoded). x.samples) p in
+        let j = from-length bytes (2 * (k + 1)) c0 c1 s low (length out - 1) in
+        let y : length ys ≡ length out - 1 = ap length t ∙ j in
+        let w = length-set out 0 low.newest in (
+          f ∙ ap (λ (x : Decoded). x.history) p ∙ sym (ap (λ (x : Decoded). x.history) q),
+          part-stored (set out 0 low.newest) ys 1 _ (omega (arith, y, w)) (omega (arith, w))
+              ∙ stored-whole out (low.newest ∷ ys) (omega (arith, y))
+              ∙ ap (λ (x : List ℤ). low.newest ∷ x) t ∙ sym (ap (λ (x : Decoded). x.samples) q),
+        )
+      where
+        odd : (n : ℕ) → (n % 2 ≡ 0 → ⊥) → suc (2 * (n / 2)) ≡ n
+        odd n z = omega arith
 
 module _ (bytes : List ℕ) (cs : List ℤ) where
   -- what the step leaves, from what the nibbles' call answers
-  pub rest-into : (a len : ℕ) (c : FrameContext) (out : List ℤ) (h : History) (o : List ℤ) → 2 ≤ a % 16 → a ≤ len → len ≤ 16 * (a / 16) + 16
-      → h ≡ (decoded_at bytes a (len - a) cs c).history → o ≡ sets out 0 (decoded_at bytes a (len - a) cs c).samples
-      → playing (context_with c.predictor_and_scale h) o ≡ play_on bytes cs a len c out
+  pub rest-into : (a len : ℕ) (c : FrameContext) (out : List ℤ) (h : History) (ys : List ℤ) → 2 ≤ a % 16 → a ≤ len → len ≤ 16 * (a / 16) + 16 → len - a ≤ length out
+      → h ≡ (decoded_at bytes a (len - a) cs c).history → ys ≡ (decoded_at bytes a (len - a) cs c).samples
+      → playing (context_with c.predictor_and_scale h) (put_mid 0 (len - a) out ys) ≡ play_on bytes cs a len c out
   unfolding play_on play_nibbles
-  rest-into a len c out h o l m k e f =
+  rest-into a len c out h ys l m k i e f =
       let header = c.predictor_and_scale in
       let n = len - a in
       let g : play_from bytes cs a n (playing c []) ≡ playing_of header (decoded_at bytes a n cs c) =
@@ -134,7 +183,8 @@ module _ (bytes : List ℕ) (cs : List ℤ) where
       ∙ in_frame bytes cs a n 0 (playing c []) l (omega arith)
       ∙ none bytes cs (a + n) _
       ∙ nibbles-decoded cs header (decoded c.last_samples []) (nibbles_from bytes a n) in
-      rw (g, e, f)
+      let j = ap length f ∙ from-length bytes a (first_of cs header) (second_of cs header) (scale header) c.last_samples n in
+      rw (g, part-stored out ys 0 n j (omega arith), e, f)
 
   -- ---- the rest of a frame, and the frames after it
 

@@ -1,18 +1,22 @@
 -- Laws of the tests of coefficients.
-use mathlib.Core.Path.{◌≡◌, refl, sym, ap, ◌∙◌}
+use mathlib.Core.Path.{◌≡◌, refl, sym, ap, ◌∙◌, subst}
 use mathlib.Core.Bool.{Bool, true, false, ◌&&◌, ◌||◌}
 use mathlib.Core.List.{List}
-use Prim.Native.Nat.{ℕ, ◌+◌, ◌*◌, ◌/◌, ◌≤◌, ◌<◌}
+use Prim.Native.Nat.{ℕ, zero, suc, ◌+◌, ◌-◌, ◌*◌, ◌≤◌, ◌<◌}
+use native.Mathlib.Nat.{zero-add, suc-add}
 use native.Mathlib.Numerals.{add-one}
 use native.Mathlib.Omega.{arith}
-use borrow.Author.Tests.{eqb-true, eqb-false, eq-eqb, ltb-true, ltb-false, lt-ltb, le-ltb}
+use borrow.Author.Tests.{eqb-true, eqb-false, eq-eqb, ltb-false}
 use lib.Dec.{eqb, ltb}
 use lib.IntN.{ℤ, pos, negsuc}
-use lib.ListN.{get_or}
-use mir.Facts.{to_z-of_z}
-use mir.Syntax.{w16}
-use mir.Val.{SFits, to_z, of_z}
-use Rattle.block.specs.Refusals.{equal, bad_length, lowest_among, equal_up_to}
+use lib.ListN.{length, get_or}
+use lib.Pointwise.{pointwise}
+use Rattle.std.specs.Ordering.{int_eq}
+use Rattle.std.specs.Cmp.Rules.{signed_items}
+use Rattle.std.proofs.lemmas.Bool.Decides.{same_from_decides}
+use Rattle.std.proofs.lemmas.List.{ext_get_or}
+use Rattle.std.proofs.Math.Bool.{or-true}
+use Rattle.block.specs.Refusals.{equal, bad_length, lowest_among, lowest_pair, equal_up_to, equal_coefficients}
 
 pub equal-self : (x : ℤ) → equal x x ≡ true
 equal-self (pos n) = eq-eqb n n refl
@@ -24,41 +28,76 @@ equal-true (pos m) (negsuc n) e = absurd (let z : ◌≡◌ {A = ℕ} 0 1 = cc i
 equal-true (negsuc m) (pos n) e = absurd (let z : ◌≡◌ {A = ℕ} 0 1 = cc in omega arith)
 equal-true (negsuc m) (negsuc n) e = ap negsuc (eqb-true m n e)
 
--- two numbers of 16 bits are equal where their bits are
-pub equal-bits : (x y : ℤ) → SFits w16 x → SFits w16 y → eqb (of_z w16 x) (of_z w16 y) ≡ equal x y
-equal-bits x y f g = go (eqb (of_z w16 x) (of_z w16 y)) refl
+unequal : (x y : ℤ) → (x ≡ y → ⊥) → equal x y ≡ false
+unequal x y f = go (equal x y) refl
   where
-    other : (t : Bool) → equal x y ≡ t → eqb (of_z w16 x) (of_z w16 y) ≡ false → false ≡ t
-    other true e h = absurd (eqb-false (of_z w16 x) (of_z w16 y) h (ap (of_z w16) (equal-true x y e)))
-    other false e h = refl
+    go : (t : Bool) → equal x y ≡ t → t ≡ false
+    go true e = absurd (f (equal-true x y e))
+    go false e = refl
 
-    go : (t : Bool) → eqb (of_z w16 x) (of_z w16 y) ≡ t → t ≡ equal x y
-    go true e =
-        let h : x ≡ y = sym (to_z-of_z f) ∙ ap (to_z w16) (eqb-true (of_z w16 x) (of_z w16 y) e) ∙ to_z-of_z g in
-        sym (ap (equal x) (sym h) ∙ equal-self x)
-    go false e = other (equal x y) refl e
+-- ---- a pair of which both are lowest
 
-pub lowest-more : (cs : List ℤ) (k : ℕ) → lowest_among cs (k + 1) ≡ (lowest_among cs k || (equal (get_or cs (2 * k) (pos 0)) (negsuc 32767) && equal (get_or cs (2 * k + 1) (pos 0)) (negsuc 32767)))
-unfolding lowest_among
-lowest-more cs k = rw (add-one k)
+module _ (cs : List ℤ) (k : ℕ) where
+  abbrev pub lowest_at : Bool
+  lowest_at = equal (get_or cs (2 * k) (pos 0)) (negsuc 32767) && equal (get_or cs (2 * k + 1) (pos 0)) (negsuc 32767)
 
-pub equal-more : (cs ds : List ℤ) (k : ℕ) → equal_up_to cs ds (k + 1) ≡ (equal_up_to cs ds k && equal (get_or cs k (pos 0)) (get_or ds k (pos 0)))
+  pub both-lowest : get_or cs (2 * k) (pos 0) ≡ negsuc 32767 → get_or cs (2 * k + 1) (pos 0) ≡ negsuc 32767 → lowest_at ≡ true
+  both-lowest e f = rw (e, f)
+
+  pub first-above : (get_or cs (2 * k) (pos 0) ≡ negsuc 32767 → ⊥) → lowest_at ≡ false
+  first-above f = rw (unequal (get_or cs (2 * k) (pos 0)) (negsuc 32767) f)
+
+  pub second-above : get_or cs (2 * k) (pos 0) ≡ negsuc 32767 → (get_or cs (2 * k + 1) (pos 0) ≡ negsuc 32767 → ⊥) → lowest_at ≡ false
+  second-above e f = rw e (unequal (get_or cs (2 * k + 1) (pos 0)) (negsuc 32767) f)
+
+  pub lowest-more : lowest_among cs k ≡ false → lowest_at ≡ false → lowest_among cs (k + 1) ≡ false
+  unfolding lowest_among
+  lowest-more e f = rw (add-one k, e) f
+
+  lowest-stays : (d : ℕ) → lowest_at ≡ true → lowest_among cs (d + suc k) ≡ true
+  unfolding lowest_among
+  lowest-stays zero e = rw (zero-add, e) (or-true (lowest_among cs k))
+  lowest-stays (suc d) e = rw (suc-add, lowest-stays d e)
+
+  pub lowest-found : k < 8 → lowest_at ≡ true → lowest_pair cs ≡ true
+  unfolding lowest_pair
+  lowest-found h e = let n : 7 - k + suc k ≡ 8 = omega arith in rw n at (lowest-stays (7 - k) e)
+
+-- ---- coefficients of two blocks
+
+split : (a b : Bool) → (a && b) ≡ true → (a ≡ true) × (b ≡ true)
+split true b e = (refl, e)
+split false b e = absurd (let z : ◌≡◌ {A = ℕ} 0 1 = cc in omega arith)
+
+agreed : (cs ds : List ℤ) (k i : ℕ) → i < k → equal_up_to cs ds k ≡ true → get_or cs i (pos 0) ≡ get_or ds i (pos 0)
 unfolding equal_up_to
-equal-more cs ds k = rw add-one
-
--- ---- tests of order
-
--- two tests that hold together are equal
-pub ltb-same : (a b c d : ℕ) → (a < b → c < d) → (b ≤ a → d ≤ c) → ltb a b ≡ ltb c d
-ltb-same a b c d f g = go (ltb a b) refl
+agreed cs ds zero i h e = absurd (omega arith)
+agreed cs ds (suc k) i h e =
+    let p = split (equal_up_to cs ds k) (equal (get_or cs k (pos 0)) (get_or ds k (pos 0))) e in
+    go (λ l. agreed cs ds k i l p.0) (equal-true _ _ p.1) (eqb i k) refl
   where
-    go : (t : Bool) → ltb a b ≡ t → t ≡ ltb c d
-    go true e = sym (lt-ltb c d (f (ltb-true a b e)))
-    go false e = sym (le-ltb c d (g (ltb-false a b e)))
+    go : (i < k → get_or cs i (pos 0) ≡ get_or ds i (pos 0)) → get_or cs k (pos 0) ≡ get_or ds k (pos 0) → (t : Bool) → eqb i k ≡ t → get_or cs i (pos 0) ≡ get_or ds i (pos 0)
+    go f g true q = rw (eqb-true i k q) g
+    go f g false q = f (earlier i k h (eqb-false i k q))
+      where
+        earlier : (i k : ℕ) → i < suc k → (i ≡ k → ⊥) → i < k
+        earlier i k h n = omega arith
 
--- a length is above twice the bytes where its half, rounded up, is above them
-pub above-twice : (bytes len : ℕ) → ltb bytes ((len + 1) / 2) ≡ ltb (2 * bytes) len
-above-twice bytes len = ltb-same bytes ((len + 1) / 2) (2 * bytes) len (λ h. omega arith) (λ h. omega arith)
+self-agrees : (cs : List ℤ) (k : ℕ) → equal_up_to cs cs k ≡ true
+unfolding equal_up_to
+self-agrees cs zero = refl
+self-agrees cs (suc k) = rw (self-agrees cs k, equal-self)
+
+-- what the library's test of two arrays says
+pub same-coefficients : (cs ds : List ℤ) → length cs ≡ 16 → length ds ≡ 16 → pointwise int_eq cs ds ≡ equal_coefficients cs ds
+unfolding equal_coefficients
+same-coefficients cs ds e f =
+    same_from_decides (pointwise int_eq cs ds) (equal_up_to cs ds 16) (signed_items cs ds) (
+      (λ h. ext_get_or (pos 0) cs ds (e ∙ sym f) (λ i l. agreed cs ds 16 i (omega arith) h)),
+      (λ p. subst (λ (ys : List ℤ). equal_up_to cs ys 16 ≡ true) p (self-agrees cs 16)),
+    )
+
+-- ---- lengths
 
 pub good_length : (len bytes : ℕ) → bad_length len bytes ≡ false → (0 < len) × (len ≤ 2 * bytes)
 unfolding bad_length

@@ -1,6 +1,7 @@
 -- Laws that callers' proofs cite.
 pub mod LawsContext
 pub mod LawsSample
+pub mod LawsStores
 pub mod LawsFrame
 pub mod LawsRefusals
 pub mod LawsAddress

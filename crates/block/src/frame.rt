@@ -1,104 +1,64 @@
 // The samples of one frame.
-ghost use Rattle.std.specs.Prelude.{◌≡◌, ◌+◌, ◌*◌, ◌≤◌, ◌<◌, length};
-ghost use Rattle.std.proofs.lemmas.List.Edits.{sets};
+ghost use Rattle.std.specs.Prelude.{◌≡◌, ◌+◌, ◌*◌, ◌≤◌, length};
 ghost use Rattle.block.specs.inner.Nibbles.{play_nibbles};
 
-use crate::sample::decode_sample;
+use crate::sample::Filter;
 use whole::History;
 
-// The samples of whole bytes, two a byte.
-pub(crate) fn play_pairs(
-    bytes: &[u8],
-    from: usize,
-    pairs: usize,
-    c0: i16,
-    c1: i16,
-    scale: u32,
-    history: History,
-    out: &mut [i16],
-    to: usize,
-) -> History
-    requires { (from + pairs ≤ length bytes.now) × (to + 2 * pairs ≤ length out.old) × (scale ≤ 32768) }
-    ensures left { result ≡ (play_nibbles bytes.now (2 * from) (2 * pairs) c0 c1 scale history).history }
-    ensures stored { out.new ≡ sets out.old to (play_nibbles bytes.now (2 * from) (2 * pairs) c0 c1 scale history).samples }
-{
-    let mut newest = history.newest;
-    let mut older = history.older;
-    let mut j: usize = 0;
-    while j < pairs {
-        let byte = bytes[from + j];
-        let x = decode_sample(c0, c1, newest, older, byte / 16, scale);
-        let y = decode_sample(c0, c1, x, newest, byte % 16, scale);
-        out[to + 2 * j] = x;
-        out[to + 2 * j + 1] = y;
-        older = x;
-        newest = y;
-        j += 1;
+impl Filter {
+    // The samples of whole bytes, two a byte.
+    fn play_pairs(self, bytes: &[u8], history: History, out: &mut [i16]) -> History
+        requires { length out.old ≡ 2 * length bytes.now }
+        ensures left { result ≡ (play_nibbles bytes.now 0 (length out.old) self.c0 self.c1 self.scale history).history }
+        ensures stored { out.new ≡ (play_nibbles bytes.now 0 (length out.old) self.c0 self.c1 self.scale history).samples }
+    {
+        let mut history = history;
+        for (j, byte) in bytes.iter().enumerate() {
+            let first = self.advance(history, byte / 16);
+            history = self.advance(first, byte % 16);
+            out[2 * j] = first.newest;
+            out[2 * j + 1] = history.newest;
+        }
+        history
     }
-    History {
-        newest: newest,
-        older: older,
-    }
-}
 
-// The samples of a number of nibbles from a byte on.
-pub(crate) fn play_nibbles(
-    bytes: &[u8],
-    from: usize,
-    count: usize,
-    c0: i16,
-    c1: i16,
-    scale: u32,
-    history: History,
-    out: &mut [i16],
-    to: usize,
-) -> History
-    requires { (2 * from + count ≤ 2 * length bytes.now) × (to + count ≤ length out.old) × (scale ≤ 32768) }
-    ensures left { result ≡ (play_nibbles bytes.now (2 * from) count c0 c1 scale history).history }
-    ensures stored { out.new ≡ sets out.old to (play_nibbles bytes.now (2 * from) count c0 c1 scale history).samples }
-{
-    let pairs = count / 2;
-    let after = play_pairs(bytes, from, pairs, c0, c1, scale, history, out, to);
-    if count % 2 == 0 {
-        return after;
+    // The samples of as many nibbles as the output has room for, from the first byte on.
+    fn play_whole(self, bytes: &[u8], history: History, out: &mut [i16]) -> History
+        requires { length out.old ≤ 2 * length bytes.now }
+        ensures left { result ≡ (play_nibbles bytes.now 0 (length out.old) self.c0 self.c1 self.scale history).history }
+        ensures stored { out.new ≡ (play_nibbles bytes.now 0 (length out.old) self.c0 self.c1 self.scale history).samples }
+    {
+        let count = out.len();
+        let pairs = count / 2;
+        let after = self.play_pairs(&bytes[..pairs], history, &mut out[..2 * pairs]);
+        if count % 2 == 0 {
+            return after;
+        }
+        let last = self.advance(after, bytes[pairs] / 16);
+        out[count - 1] = last.newest;
+        last
     }
-    let newest = after.newest;
-    let older = after.older;
-    let byte = bytes[from + pairs];
-    let last = decode_sample(c0, c1, newest, older, byte / 16, scale);
-    out[to + 2 * pairs] = last;
-    History {
-        newest: last,
-        older: newest,
-    }
-}
 
-// The samples of a number of nibbles from an address on, which may be that of a byte's low nibble.
-pub(crate) fn play_from_nibble(
-    bytes: &[u8],
-    from: usize,
-    count: usize,
-    c0: i16,
-    c1: i16,
-    scale: u32,
-    history: History,
-    out: &mut [i16],
-) -> History
-    requires { (0 < count) × (from + count ≤ 2 * length bytes.now) × (count ≤ length out.old) × (scale ≤ 32768) }
-    ensures left { result ≡ (play_nibbles bytes.now from count c0 c1 scale history).history }
-    ensures stored { out.new ≡ sets out.old 0 (play_nibbles bytes.now from count c0 c1 scale history).samples }
-{
-    if from % 2 == 0 {
-        return play_nibbles(bytes, from / 2, count, c0, c1, scale, history, out, 0);
+    // The samples of as many nibbles as the output has room for, from an address on, which may be that of a byte's low nibble.
+    pub(crate) fn play(
+        self,
+        bytes: &[u8],
+        from: usize,
+        history: History,
+        out: &mut [i16],
+    ) -> History
+        requires { from + length out.old ≤ 2 * length bytes.now }
+        ensures left { result ≡ (play_nibbles bytes.now from (length out.old) self.c0 self.c1 self.scale history).history }
+        ensures stored { out.new ≡ (play_nibbles bytes.now from (length out.old) self.c0 self.c1 self.scale history).samples }
+    {
+        if from % 2 == 0 {
+            return self.play_whole(&bytes[from / 2..], history, out);
+        }
+        if out.is_empty() {
+            return history;
+        }
+        let low = self.advance(history, bytes[from / 2] % 16);
+        out[0] = low.newest;
+        self.play_whole(&bytes[from / 2 + 1..], low, &mut out[1..])
     }
-    let newest = history.newest;
-    let older = history.older;
-    let byte = bytes[from / 2];
-    let low = decode_sample(c0, c1, newest, older, byte % 16, scale);
-    out[0] = low;
-    let after = History {
-        newest: low,
-        older: newest,
-    };
-    play_nibbles(bytes, from / 2 + 1, count - 1, c0, c1, scale, after, out, 1)
 }

@@ -7,10 +7,7 @@ pub(crate) fn shorter(room: usize, first: usize, second: usize) -> bool
     ensures { result ≡ ltb room (first + second) }
 {
     let short = room < first;
-    if short {
-        return true;
-    }
-    room - first < second
+    short || room - first < second
 }
 
 // The bytes of `source`, written to the output from `to` on. It is internal: crate dsp calls it.
@@ -18,9 +15,5 @@ pub fn copy(source: &[u8], out: &mut [u8], to: usize)
     requires { to + length source.now ≤ length out.old }
     ensures { out.new ≡ sets out.old to source.now }
 {
-    let mut j: usize = 0;
-    while j < source.len() {
-        out[to + j] = source[j];
-        j += 1;
-    }
+    out[to..to + source.len()].copy_from_slice(source);
 }

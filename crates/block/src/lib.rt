@@ -18,6 +18,7 @@ ghost use Rattle.block.specs.Play.{play_bytes, play_outcome, final_context};
 ghost use Rattle.block.specs.Join.{extend_samples, join_outcome};
 ghost use Rattle.whole.specs.Outcome.{effect};
 
+use crate::sample::Filter;
 use whole::{History, Reason, SAMPLES_PER_FRAME};
 
 // What playing carries from frame to frame: the header, and the newest sample and the one before it.
@@ -70,23 +71,19 @@ impl FrameContext {
     pub fn new() -> FrameContext
         ensures { result ≡ new_context }
     {
-        FrameContext {
-            predictor_and_scale: 0,
-            last_samples: History {
-                newest: 0,
-                older: 0,
-            },
-        }
+        FrameContext::default()
     }
 
     // The index of the coefficients' pair.
+    #[tactic(auto, unfolding(crate::specs::Context::predictor))]
     pub fn predictor(self) -> usize
         ensures { result ≡ predictor self.predictor_and_scale }
     {
-        (self.predictor_and_scale / 16 % 8) as usize
+        usize::from(self.predictor_and_scale / 16 % 8)
     }
 
     // What a nibble is multiplied by.
+    #[tactic(auto, using(crate::proofs::LawsContext::scale_word))]
     pub fn scale(self) -> u32
         ensures { result ≡ scale self.predictor_and_scale }
     {
@@ -94,51 +91,48 @@ impl FrameContext {
     }
 
     // The context under another header.
+    #[tactic(auto, unfolding(crate::specs::Context::with_header))]
     pub fn with_header(self, header: u8) -> FrameContext
         ensures { result ≡ with_header self header }
     {
-        let last_samples = self.last_samples;
         FrameContext {
-            predictor_and_scale: header as u16,
-            last_samples: last_samples,
+            predictor_and_scale: u16::from(header),
+            ..self
         }
     }
 
     // The context with one sample more in its history.
+    #[tactic(auto, unfolding(crate::specs::Context::push_sample))]
     pub fn push_sample(self, sample: i16) -> FrameContext
         ensures { result ≡ push_sample self sample }
     {
-        let before = self.last_samples;
         FrameContext {
-            predictor_and_scale: self.predictor_and_scale,
             last_samples: History {
                 newest: sample,
-                older: before.newest,
+                older: self.last_samples.newest,
             },
+            ..self
         }
     }
 }
 
 // The samples before an address.
+#[tactic(auto, unfolding(crate::specs::Address::address_to_sample))]
 pub fn address_to_sample(address: u32) -> u64
     ensures { result ≡ address_to_sample address }
 {
-    let frame = (address / 16) as u64;
-    let place = (address % 16) as u64;
-    if place < 2 {
-        SAMPLES_PER_FRAME as u64 * frame
-    } else {
-        SAMPLES_PER_FRAME as u64 * frame + (place - 2)
-    }
+    let beyond_header = (address % 16).saturating_sub(2);
+    SAMPLES_PER_FRAME as u64 * u64::from(address / 16) + u64::from(beyond_header)
 }
 
 // The address of a sample.
+#[tactic(auto, unfolding(crate::specs::Address::sample_to_address))]
 pub fn sample_to_address(sample: u32) -> u64
     ensures { result ≡ sample_to_address sample }
 {
-    let s = sample as u64;
-    let frames = s / SAMPLES_PER_FRAME as u64 + 1;
-    s + frames * 2
+    let sample = u64::from(sample);
+    let headers = sample / SAMPLES_PER_FRAME as u64 + 1;
+    sample + 2 * headers
 }
 
 // The step: `count` samples of the frame at byte `at`, under the context's header, written to the output from `to` on.
@@ -155,14 +149,15 @@ pub fn play_frame(
     requires { (2 * at + 2 + count ≤ 2 * length bytes.now) × (to + count ≤ length out.old) }
     ensures { playing result out.new ≡ into out.old to (play_frame bytes.now at count coefficients (playing context [])) }
 {
-    let index = 2 * context.predictor();
-    let c0 = coefficients[index];
-    let c1 = coefficients[index + 1];
-    let scale = context.scale();
-    let history = context.last_samples;
+    let filter = Filter::new(coefficients, context);
     FrameContext {
-        predictor_and_scale: context.predictor_and_scale,
-        last_samples: frame::play_nibbles(bytes, at + 1, count, c0, c1, scale, history, out, to),
+        last_samples: filter.play(
+            bytes,
+            2 * at + 2,
+            context.last_samples,
+            &mut out[to..to + count],
+        ),
+        ..context
     }
 }
 
@@ -182,14 +177,14 @@ pub fn play_bytes(
     if coefficients::lowest_pair(coefficients) {
         return Err(Refusal::LowestPair);
     }
-    let samples = address_to_sample(len);
-    let short = (out.len() as u64) < samples;
+    let count = address_to_sample(len);
+    let short = (out.len() as u64) < count;
     if short {
         return Err(Refusal::OutputTooShort);
     }
     let after = play::play_into(bytes, len as usize, coefficients, context, out);
     Ok(Playback {
-        samples: samples,
+        samples: count,
         context: after,
     })
 }

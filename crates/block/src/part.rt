@@ -6,8 +6,8 @@ ghost use Rattle.block.specs.Play.{play};
 ghost use Rattle.block.specs.inner.Frames.{play_frame};
 ghost use Rattle.block.specs.inner.Parts.{play_on};
 
-use crate::frame::play_from_nibble;
-use crate::play::{beyond_header, play_into};
+use crate::play::{NIBBLES_PER_FRAME, frames_before_last, play_into};
+use crate::sample::Filter;
 use crate::{FrameContext, play_frame};
 use whole::{BYTES_PER_FRAME, SAMPLES_PER_FRAME};
 
@@ -37,10 +37,9 @@ pub fn context_after(
     requires { (0 < len) × (len ≤ 2 * length bytes.now) }
     ensures { result ≡ (play bytes.now coefficients len context).context }
 {
+    let whole = frames_before_last(len);
     let mut current = context;
-    let mut k: usize = 0;
-    let mut left = len;
-    while 16 < left {
+    for k in 0..whole {
         let after = frame_context(
             bytes,
             BYTES_PER_FRAME * k,
@@ -48,12 +47,10 @@ pub fn context_after(
             coefficients,
             current,
         );
-        k += 1;
-        left -= 16;
-        current = after.with_header(bytes[BYTES_PER_FRAME * k]);
+        current = after.with_header(bytes[BYTES_PER_FRAME * (k + 1)]);
     }
-    let count = beyond_header(left);
-    frame_context(bytes, BYTES_PER_FRAME * k, count, coefficients, current)
+    let count = (len - NIBBLES_PER_FRAME * whole).saturating_sub(2);
+    frame_context(bytes, BYTES_PER_FRAME * whole, count, coefficients, current)
 }
 
 // Plays from a sample's address on up to `len`, which is in the same frame or at its end.
@@ -68,14 +65,10 @@ fn play_rest(
     requires { (2 ≤ from % 16) × (from < len) × (len ≤ 16 * (from / 16) + 16) × (len ≤ 2 * length bytes.now) × (len ≤ from + length out.old) }
     ensures { playing result out.new ≡ play_on bytes.now coefficients from len context out.old }
 {
-    let index = 2 * context.predictor();
-    let c0 = coefficients[index];
-    let c1 = coefficients[index + 1];
-    let scale = context.scale();
-    let history = context.last_samples;
+    let filter = Filter::new(coefficients, context);
     FrameContext {
-        predictor_and_scale: context.predictor_and_scale,
-        last_samples: play_from_nibble(bytes, from, len - from, c0, c1, scale, history, out),
+        last_samples: filter.play(bytes, from, context.last_samples, &mut out[..len - from]),
+        ..context
     }
 }
 

@@ -1,25 +1,70 @@
 // One sample of a nibble.
-ghost use Rattle.std.specs.Prelude.{◌≡◌, ◌<◌, ◌≤◌};
+ghost use Rattle.std.specs.Prelude.{◌≡◌, ◌+◌, ◌*◌, ◌<◌, ◌≤◌, pos, get_or};
+ghost use Rattle.block.specs.Context.{predictor, scale};
 ghost use Rattle.block.specs.Sample.{decode_sample};
+ghost use Rattle.block.specs.inner.Nibbles.{advanced};
 ghost use Rattle.whole.specs.Whole.{signed_nibble};
 
+use crate::FrameContext;
+use whole::History;
+
 // A nibble of 8 or more counts as itself less 16.
+#[tactic(auto, unfolding(whole::specs::Whole::signed_nibble))]
 pub(crate) fn signed_nibble(nibble: u8) -> i64
     requires { nibble < 16 }
     ensures { result ≡ signed_nibble nibble }
 {
     let positive = nibble < 8;
     if positive {
-        return nibble as i64;
+        i64::from(nibble)
+    } else {
+        i64::from(nibble) - 16
     }
-    nibble as i64 - 16
 }
 
-// The sample of a nibble after the newest sample s0 and the one before it s1.
-pub(crate) fn decode_sample(c0: i16, c1: i16, s0: i16, s1: i16, nibble: u8, scale: u32) -> i16
-    requires { (nibble < 16) × (scale ≤ 32768) }
-    ensures { result ≡ decode_sample c0 c1 s0 s1 nibble scale }
-{
-    let sum = (c0 as i64) * (s0 as i64) + (c1 as i64) * (s1 as i64) + 1024;
-    whole::clamp_i16(whole::shift_11(sum) + signed_nibble(nibble) * (scale as i64))
+// What makes samples of a frame's nibbles: a pair of coefficients and a scale.
+#[derive(Clone, Copy)]
+pub(crate) struct Filter {
+    c0: i16,
+    c1: i16,
+    scale: u32,
+    ghost in_range: { scale ≤ 32768 },
+}
+
+impl Filter {
+    // The pair and the scale that a context's header names.
+    pub(crate) fn new(coefficients: [i16; 16], context: FrameContext) -> Filter
+        ensures newest { result.c0 ≡ get_or coefficients (2 * predictor context.predictor_and_scale) (pos 0) }
+        ensures older { result.c1 ≡ get_or coefficients (2 * predictor context.predictor_and_scale + 1) (pos 0) }
+        ensures steps { result.scale ≡ scale context.predictor_and_scale }
+    {
+        let index = 2 * context.predictor();
+        Filter {
+            c0: coefficients[index],
+            c1: coefficients[index + 1],
+            scale: context.scale(),
+        }
+    }
+
+    // The sample of a nibble after a history.
+    fn sample(self, history: History, nibble: u8) -> i16
+        requires { nibble < 16 }
+        ensures { result ≡ decode_sample self.c0 self.c1 history.newest history.older nibble self.scale }
+    {
+        let products = i64::from(self.c0) * i64::from(history.newest)
+            + i64::from(self.c1) * i64::from(history.older);
+        let sum = products + 1024;
+        whole::clamp_i16(whole::shift_11(sum) + signed_nibble(nibble) * i64::from(self.scale))
+    }
+
+    // The history after one nibble more: its newest is the nibble's sample.
+    pub(crate) fn advance(self, history: History, nibble: u8) -> History
+        requires { nibble < 16 }
+        ensures { result ≡ advanced self.c0 self.c1 self.scale history nibble }
+    {
+        History {
+            newest: self.sample(history, nibble),
+            older: history.newest,
+        }
+    }
 }

@@ -1,67 +1,73 @@
 -- The last frame and the mark.
-use mathlib.Core.Path.{◌≡◌, ap, ap₂, ◌∙◌, subst}
+use mathlib.Core.Path.{◌≡◌, refl, ◌∙◌, subst}
 use mathlib.Core.List.{List}
-use mathlib.Core.Bool.{true}
+use mathlib.Core.Bool.{Bool, true, false, cond}
 use Prim.Native.Nat.{ℕ, ◌+◌, ◌-◌, ◌*◌, ◌/◌, ◌%◌, ◌≤◌, ◌<◌}
 use native.Mathlib.Omega.{arith}
 use borrow.Author.Tests.{eq-eqb, ne_eqb}
+use lib.Dec.{eqb}
 use lib.IntN.{ℤ, pos}
-use lib.ListN.{length, take, set, replicate}
+use lib.ListN.{replicate}
 use lib.Seq.{sets}
-use Rattle.whole.proofs.Stores.{sets-replicate}
-use Rattle.frame.specs.Frame.{encode_frame, history_after}
-use Rattle.frame.specs.declared.EncodedFrame.{EncodedFrame}
-use Rattle.whole.specs.declared.History.{History}
-use Rattle.clip.specs.declared.Encoder.{Encoder}
-use Rattle.layout.specs.Sizes.{last_frame_samples, body_bytes, image_size, block_count}
 use Rattle.whole.specs.Frames.{frame_count}
-use Rattle.block.specs.declared.FrameContext.{FrameContext}
-use Rattle.clip.specs.Encoding.{encoder_shape, left, store, loop_context, ended, moved, no_frame, finish}
-use Rattle.clip.specs.inner.Asked.{Room, Whole}
-use Rattle.clip.proofs.Pieces.{store_length}
-
--- a zero more
-pub pad-turn : (f₀ f : List ℤ) (m j : ℕ) → m ≤ j → f ≡ sets f₀ m (replicate (j - m) (pos 0)) → set f j (pos 0) ≡ sets f₀ m (replicate (j + 1 - m) (pos 0))
-pad-turn f₀ f m j h e =
-    let a : j ≡ m + (j - m) = omega arith in
-    let b : j - m + 1 ≡ j + 1 - m = omega arith in
-    ap₂ (λ (l : List ℤ) (k : ℕ). set l k (pos 0)) e a
-    ∙ sets-replicate f₀ m (j - m) (pos 0)
-    ∙ ap (λ (k : ℕ). sets f₀ m (replicate k (pos 0))) b
+use Rattle.layout.specs.Sizes.{last_frame_samples, body_bytes}
+use Rattle.clip.specs.declared.Encoder.{Encoder}
+use Rattle.clip.specs.Encoding.{Left, left, encoder_shape, store, ended, moved, no_frame, finish}
+use Rattle.clip.specs.Unheard.{framed}
+use Rattle.clip.specs.inner.Asked.{Framed, Whole}
+use Rattle.clip.specs.inner.Encoded.{encoded, last_encoded}
 
 -- the short last frame's bytes are the image's last ones
 last_frame : (n : ℕ) → (n % 14 ≡ 0 → ⊥) → (n / 14 < frame_count n) × (8 * (n / 14) + (1 + (n % 14 + 1) / 2) ≤ body_bytes n)
 unfolding body_bytes last_frame_samples frame_count
 last_frame n h = (omega arith, omega arith)
 
-pub last-room : (e : Encoder) (len : ℕ) → Whole e len → (e.fed % 14 ≡ 0 → ⊥) → Room (encoder_shape e) (e.fed / 14) (1 + (e.fed % 14 + 1) / 2) len
-last-room e len w h =
-    let f = subst (λ (n : ℕ). (e.fed / 14 < frame_count n) × (8 * (e.fed / 14) + (1 + (e.fed % 14 + 1) / 2) ≤ body_bytes n)) w.all (last_frame e.fed h) in
-    record { limits = w.limits; frame = f.0; part = omega arith; one = omega arith; body = f.1; size = w.size }
+-- the state with it
+abbrev pub padded : Encoder → Encoder
+padded e = framed e (sets e.frame (e.fed % 14) (replicate (14 - e.fed % 14) (pos 0)))
 
--- the entry of a loop and the mark have room after the frame is stored
-pub stored-room : (e : Encoder) (t : List ℕ) (image stored : List ℕ) → image_size (encoder_shape e) ≤ length image → stored ≡ store (encoder_shape e) (e.fed / 14) t e.history image
-    → image_size (encoder_shape e) ≤ length stored
-unfolding image_size block_count body_bytes frame_count last_frame_samples
-stored-room e t image stored h p =
-    let k : length stored ≡ length image = ap length p ∙ store_length (encoder_shape e) (e.fed / 14) t e.history image in
-    omega arith
+pub last-framed : (e : Encoder) (f : List ℤ) (len : ℕ) → Whole e len → (e.fed % 14 ≡ 0 → ⊥) → Framed (framed e f) (e.fed / 14) (e.fed % 14) len
+last-framed e f len w h =
+    let r = subst (λ (n : ℕ). (e.fed / 14 < frame_count n) × (8 * (e.fed / 14) + (1 + (e.fed % 14 + 1) / 2) ≤ body_bytes n)) w.all (last_frame e.fed h) in
+    record {
+      room = record { limits = w.limits; frame = r.0; part = omega arith; one = omega arith; body = r.1; size = w.size };
+      samples = omega arith;
+      within = w.within;
+      count = w.count;
+    }
+
+module _ (e : Encoder) (image : List ℕ) where
+  pub last-part : (f : List ℤ) (r : Left) → (e.fed % 14 ≡ 0 → ⊥) → f ≡ sets e.frame (e.fed % 14) (replicate (14 - e.fed % 14) (pos 0))
+      → r ≡ encoded (left (framed e f) image) (e.fed / 14) (e.fed % 14) → r ≡ last_encoded (left e image)
+  unfolding last_encoded
+  last-part f r h ef er = er ∙ rw (ef, ne_eqb (e.fed % 14) 0 h)
+
+  pub last-none : e.fed % 14 ≡ 0 → left e image ≡ last_encoded (left e image)
+  unfolding last_encoded
+  last-none h = rw (eq-eqb (e.fed % 14) 0 h)
 
 -- ---- closing
 
-module _ (e : Encoder) (image : List ℕ) where
-  -- with a short last frame
-  pub finish-part : (f : List ℤ) (t : EncodedFrame) (after : History) (context : FrameContext) (stored out : List ℕ) → (e.fed % 14 ≡ 0 → ⊥)
-      → f ≡ sets e.frame (e.fed % 14) (replicate (14 - e.fed % 14) (pos 0))
-      → t ≡ encode_frame e.history f e.coefficients → stored ≡ store (encoder_shape e) (e.fed / 14) (take (1 + (e.fed % 14 + 1) / 2) t.bytes) e.history image
-      → after ≡ history_after e.history t.samples (e.fed % 14) → context ≡ loop_context e.looped (e.fed / 14) e.history t e.context
-      → out ≡ ended (encoder_shape e) e.looped context stored
-      → left (moved e e.fed after no_frame (e.passes + t.passes) true context) out ≡ finish (left e image)
-  unfolding finish store
-  finish-part f t after context stored out h ef et es ea ec eo = rw (eo, es, ec, ea, et, ef, ne_eqb (e.fed % 14) 0 h)
+-- what the image's places depend on is as it was
+pub last-shape : (e : Encoder) (image : List ℕ) → encoder_shape (last_encoded (left e image)).encoder ≡ encoder_shape e
+unfolding last_encoded encoded
+last-shape e image = go (eqb (e.fed % 14) 0)
+  where
+    go : (v : Bool) → encoder_shape (cond v (left e image) (encoded (left (padded e) image) (e.fed / 14) (e.fed % 14))).encoder ≡ encoder_shape e
+    go true = refl
+    go false = refl
 
-  -- with none
-  pub finish-whole : (out : List ℕ) → e.fed % 14 ≡ 0 → out ≡ ended (encoder_shape e) e.looped e.context image
-      → left (moved e e.fed e.history no_frame e.passes true e.context) out ≡ finish (left e image)
-  unfolding finish store
-  finish-whole out h eo = rw (eo, eq-eqb (e.fed % 14) 0 h)
+-- the state and the image after the last frame, closed
+abbrev pub closed : Left → Left
+closed s =
+    let e = s.encoder in
+    left (moved e e.fed e.history no_frame e.passes true e.context) (ended (encoder_shape e) e.looped e.context s.bytes)
+
+pub finish-last : (e : Encoder) (image : List ℕ) → closed (last_encoded (left e image)) ≡ finish (left e image)
+unfolding finish last_encoded encoded store
+finish-last e image = go (eqb (e.fed % 14) 0) refl
+  where
+    go : (v : Bool) → eqb (e.fed % 14) 0 ≡ v
+        → closed (cond v (left e image) (encoded (left (padded e) image) (e.fed / 14) (e.fed % 14))) ≡ finish (left e image)
+    go true h = rw h
+    go false h = rw h

@@ -18,4 +18,5 @@ pub mod UnheardTail
 pub mod UnwrittenBytes
 pub mod SameSoFar
 pub mod Undo
+pub mod Defaults
 pub mod LoopApart

@@ -2,7 +2,7 @@
 use mathlib.Core.Path.{◌≡◌, refl, sym, ap, ◌∙◌, subst}
 use mathlib.Core.List.{List, [], ◌∷◌, foldl, foldl-append}
 use mathlib.Core.Bool.{Bool, true, false, cond}
-use Prim.Native.Nat.{ℕ, ◌+◌, ◌/◌, ◌%◌, ◌≤◌, ◌<◌}
+use Prim.Native.Nat.{ℕ, ◌+◌, ◌/◌, ◌%◌, ◌<◌}
 use native.Mathlib.Numerals.{add-one}
 use native.Mathlib.Omega.{arith}
 use borrow.Author.Tests.{eqb-true, eqb-false}
@@ -66,17 +66,19 @@ piece-next s xs i h =
     ∙ ap (λ (l : List ℤ). foldl push s l) (sym (take-suc xs i (pos 0) h))
     ∙ ap (λ (k : ℕ). foldl push s (take k xs)) (sym (add-one i))
 
--- a turn of the loop
-pub turn : (s : Left) (xs : List ℤ) (i : ℕ) (e : Encoder) (image : List ℕ) (r : Encoder) (out : List ℕ) → i < length xs
-    → left e image ≡ feed_all s (take i xs) → Going e i (length xs) (length s.bytes) → length image ≡ length s.bytes
-    → left r out ≡ push (left e image) (get_or xs i (pos 0))
-    → (i + 1 ≤ length xs) × (left r out ≡ feed_all s (take (i + 1) xs)) × Going r (i + 1) (length xs) (length s.bytes) × (length out ≡ length s.bytes)
-turn s xs i e image r out lt inv g el p =
-    let g' = subst (λ (k : ℕ). Going e i (length xs) k) (sym el) g in
-    let n = going_next e image (get_or xs i (pos 0)) i (length xs) lt g' in (
-      omega arith,
-      p ∙ ap (λ (t : Left). push t (get_or xs i (pos 0))) inv ∙ piece-next s xs i lt,
-      subst (λ (t : Left). Going t.encoder (i + 1) (length xs) (length s.bytes)) (sym p)
-          (subst (λ (k : ℕ). Going (push (left e image) (get_or xs i (pos 0))).encoder (i + 1) (length xs) k) el n.0),
-      ap (λ (t : Left). length t.bytes) p ∙ n.1 ∙ el,
-    )
+-- a turn of the loop: it may be taken, and what is kept
+module _ (s : Left) (xs : List ℤ) (i : ℕ) (e : Encoder) (image : List ℕ) (lt : i < length xs) (g : Going e i (length xs) (length s.bytes)) (el : length image ≡ length s.bytes) where
+  pub turn-going : Going e 0 1 (length image)
+  turn-going =
+      let r = g.rest in
+      record { limits = g.limits; within = g.within; looping = g.looping; rest = omega arith; count = g.count; size = rw el g.size }
+
+  pub turn : (r : Encoder) (out : List ℕ) → left e image ≡ feed_all s (take i xs) → left r out ≡ push (left e image) (get_or xs i (pos 0))
+      → (left r out ≡ feed_all s (take (i + 1) xs)) × Going r (i + 1) (length xs) (length s.bytes)
+  turn r out inv p =
+      let g' = subst (λ (k : ℕ). Going e i (length xs) k) (sym el) g in
+      let n = going_next e image (get_or xs i (pos 0)) i (length xs) lt g' in (
+        p ∙ ap (λ (t : Left). push t (get_or xs i (pos 0))) inv ∙ piece-next s xs i lt,
+        subst (λ (t : Left). Going t.encoder (i + 1) (length xs) (length s.bytes)) (sym p)
+            (subst (λ (k : ℕ). Going (push (left e image) (get_or xs i (pos 0))).encoder (i + 1) (length xs) k) el n.0),
+      )

@@ -17,9 +17,10 @@ use Rattle.layout.specs.Sizes.{last_frame_samples, block_count, body_bytes, imag
 use Rattle.whole.specs.Frames.{frame_count}
 use Rattle.clip.specs.Image.{context_bytes}
 use Rattle.clip.specs.Encoding.{encoder_shape, left, store, loop_context, moved, no_frame, push}
+use Rattle.clip.specs.inner.Encoded.{encoded}
 use Rattle.layout.specs.Sizes.{frame_place, context_place}
 use Rattle.layout.specs.declared.Shape.{Shape}
-use Rattle.clip.specs.inner.Asked.{Room, Going}
+use Rattle.clip.specs.inner.Asked.{Room, Framed, Going}
 use Rattle.layout.proofs.SizeLaws.{frames-le, blocks-most, first_block}
 
 -- ---- room
@@ -47,12 +48,6 @@ pub full-frame : (n k : ℕ) → k < n → k % 14 ≡ 13 → (k / 14 < frame_cou
 unfolding body_bytes last_frame_samples frame_count
 full-frame n k h e = (omega arith, omega arith)
 
-pub full-room : (e : Encoder) (i m len : ℕ) → Going e i m len → i < m → e.fed % 14 ≡ 13 → Room (encoder_shape e) (e.fed / 14) 8 len
-full-room e i m len g lt h =
-    let r = g.rest in
-    let f = full-frame e.total e.fed (omega arith) h in
-    record { limits = g.limits; frame = f.0; part = omega arith; one = omega arith; body = f.1; size = g.size }
-
 -- ---- storing
 
 pub first_byte : (k : ℕ) (t : List ℕ) → 1 ≤ k → get_or (take k t) 0 0 ≡ get_or t 0 0
@@ -73,7 +68,7 @@ module _ (s : Shape) (q k : ℕ) (t image stored : List ℕ) (h : History) (put 
   unfolding store
   without-context e = put ∙ rw (ne_eqb (q % (s.block / 8)) 0 e)
 
--- ---- one sample
+-- ---- a frame is encoded
 
 pub passes-few : (h : History) (xs cs : List ℤ) (t : EncodedFrame) → t ≡ encode_frame h xs cs → t.passes ≤ 104
 passes-few h xs cs t e = subst (λ (c : EncodedFrame). c.passes ≤ 104) (sym e) (frame-passes h xs cs)
@@ -82,32 +77,38 @@ passes-few h xs cs t e = subst (λ (c : EncodedFrame). c.passes ≤ 104) (sym e)
 pub full-bytes : (h : History) (xs cs : List ℤ) → take 8 (encode_frame h xs cs).bytes ≡ (encode_frame h xs cs).bytes
 full-bytes h xs cs = let n = (frame-lengths h xs cs).0 in take_all 8 (encode_frame h xs cs).bytes (omega arith)
 
-module _ (e : Encoder) (x : ℤ) (image : List ℕ) where
-  -- the frame with it
-  abbrev pub filled : List ℤ
-  filled = set e.frame (e.fed % 14) x
+pub framed-encoded : (e : Encoder) (q m k : ℕ) (image out : List ℕ) (t : EncodedFrame) (s : Shape) (after : History) (context : FrameContext)
+    → t ≡ encode_frame e.history e.frame e.coefficients → s ≡ encoder_shape e → k ≡ 1 + (m + 1) / 2
+    → out ≡ store s q (take k t.bytes) e.history image → after ≡ history_after e.history t.samples m → context ≡ loop_context e.looped q e.history t e.context
+    → left (moved e e.fed after no_frame (e.passes + t.passes) e.closed context) out ≡ encoded (left e image) q m
+unfolding encoded
+framed-encoded e q m k image out t s after context et es ek eo ea ec = rw (eo, ec, ea, et, es, ek)
 
-  abbrev c : EncodedFrame
-  c = encode_frame e.history filled e.coefficients
+-- ---- one sample
+
+module _ (e : Encoder) (x : ℤ) (image : List ℕ) where
+  -- the state with it in its frame
+  abbrev pub taken : Encoder
+  taken = moved e (e.fed + 1) e.history (set e.frame (e.fed % 14) x) e.passes e.closed e.context
 
   -- it fills the frame
-  pub push-full : (after : History) (passes : ℕ) (context : FrameContext) (out : List ℕ) → e.fed % 14 ≡ 13 → after ≡ history_after e.history c.samples 14 → passes ≡ c.passes
-      → context ≡ loop_context e.looped (e.fed / 14) e.history c e.context
-      → out ≡ store (encoder_shape e) (e.fed / 14) c.bytes e.history image
-      → left (moved e (e.fed + 1) after no_frame (e.passes + passes) e.closed context) out ≡ push (left e image) x
-  unfolding push store
-  push-full after passes context out h ea ep ec eo = rw (eq-eqb (e.fed % 14) 13 h, eo, ec, ea, ep)
-
-  -- the passes stay within their bound
-  pub push-passes : (i m len passes : ℕ) → Going e i m len → i < m → passes ≡ c.passes → e.passes + passes < 4294967296
-  push-passes i m len passes g lt ep =
-      let f = frame-passes e.history filled e.coefficients in
-      let r = g.rest in
-      let k = g.count in
-      let b = g.limits.few in
-      omega (arith, f, r, k, b, ep)
+  pub push-full : e.fed % 14 ≡ 13 → encoded (left taken image) (e.fed / 14) 14 ≡ push (left e image) x
+  unfolding push store encoded
+  push-full h = rw (eq-eqb (e.fed % 14) 13 h, full-bytes e.history (set e.frame (e.fed % 14) x) e.coefficients)
 
   -- it does not
-  pub push-part : (e.fed % 14 ≡ 13 → ⊥) → left (moved e (e.fed + 1) e.history filled e.passes e.closed e.context) image ≡ push (left e image) x
+  pub push-part : (e.fed % 14 ≡ 13 → ⊥) → left taken image ≡ push (left e image) x
   unfolding push store
   push-part h = rw (ne_eqb (e.fed % 14) 13 h)
+
+  -- the frame that it fills is within the image
+  pub full-framed : (len : ℕ) → Going e 0 1 len → e.fed % 14 ≡ 13 → Framed taken (e.fed / 14) 14 len
+  full-framed len g h =
+      let r = g.rest in
+      let f = full-frame e.total e.fed (omega arith) h in
+      record {
+        room = record { limits = g.limits; frame = f.0; part = omega arith; one = omega arith; body = f.1; size = g.size };
+        samples = omega arith;
+        within = g.within;
+        count = g.count;
+      }

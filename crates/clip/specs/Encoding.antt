@@ -1,9 +1,9 @@
 -- Starting, feeding and closing: what each call does to the encoding state and to the image's bytes. Definitions only.
-use Rattle.std.specs.Prelude.{Bool, true, false, not, cond, ◌&&◌, ℕ, ◌+◌, ◌-◌, ◌*◌, ◌/◌, ◌%◌, eqb, leb, ltb, ℤ, pos, length, get_or, take, set, replicate}
+use Rattle.std.specs.Prelude.{Result, Bool, true, false, not, cond, ◌&&◌, ℕ, ◌+◌, ◌-◌, ◌*◌, ◌/◌, ◌%◌, eqb, leb, ltb, ℤ, pos, length, get_or, take, set, replicate}
 use mathlib.Core.List.{List, foldl}
 use Rattle.std.proofs.lemmas.List.Edits.{sets}
 use Rattle.whole.specs.Frames.{frame_count}
-use Rattle.whole.specs.Outcome.{Outcome, accepted, refused, if_accepted, Effect, effect}
+use Rattle.whole.specs.Outcome.{Outcome, accepted, refused, answered, if_accepted, Effect, effect}
 use Rattle.layout.specs.declared.Shape.{Shape}
 use Rattle.layout.specs.declared.Loop.{Loop}
 use Rattle.block.specs.declared.FrameContext.{FrameContext}
@@ -14,8 +14,6 @@ use Rattle.layout.specs.Sizes.{shape, no_loop, loop_count, block_count, image_si
 use Rattle.frame.specs.Frame.{encode_frame, history_after, coefficients_ok}
 use Rattle.frame.specs.declared.EncodedFrame.{EncodedFrame}
 use Rattle.whole.specs.declared.History.{History}
-use Rattle.clip.specs.declared.Answer.{Answer}
-use Rattle.clip.specs.declared.Answer.TheVariants.{Accepted, Refused}
 use Rattle.clip.specs.declared.Encoder.{Encoder}
 use Rattle.clip.specs.declared.starting.Start.{Start}
 use Rattle.clip.specs.declared.Refusal.{Refusal}
@@ -37,10 +35,9 @@ code AlreadyClosed = 9
 code PieceTooLong = 10
 code Unfinished = 11
 
--- what an answer says: accepted, with no values, or the refusal's number
-abbrev pub outcome : Answer → Outcome Unit
-outcome Accepted = accepted tt
-outcome (Refused r) = refused (code r)
+-- what an answer says: its values, or the refusal's number; no block is named
+abbrev pub outcome : {A : Type 0} → Result A Refusal → Outcome A
+outcome r = answered code (λ _. 0) r
 
 -- the state and the image's bytes that a call leaves
 pub record Left : Type 0 where

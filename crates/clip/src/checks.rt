@@ -1,160 +1,126 @@
 // The tests of the calls, in the documents' sequence.
 ghost use Rattle.std.specs.Prelude.{◌≡◌, ◌≤◌};
-ghost use Rattle.clip.specs.Encoding.{encoded_frames, encoder_shape};
-ghost use Rattle.whole.specs.Frames.{frame_count};
-ghost use Rattle.clip.specs.Encoding.{outcome, counts_ok, valid, feed_answer, close_answer, start_answer};
+ghost use Rattle.whole.specs.Outcome.{accepted};
+ghost use Rattle.clip.specs.Encoding.{outcome, encoded_frames, encoder_shape, counts_ok, valid, going_answer, feed_answer, close_answer, start_answer};
 
 use crate::starting::Start;
-use crate::{Answer, Encoder, Refusal};
+use crate::{Encoder, Refusal};
 use frame::coefficients_ok;
 use layout::Shape;
 use layout::limits::{loop_ok, numbers_ok};
-use layout::sizes::{cut_down, frame_count, image_size, loop_count, shape_of};
+use layout::sizes::{frame_count, image_size, loop_count, shape_of};
 use whole::{MOST_SAMPLES, SAMPLES_PER_FRAME};
 
-// The shape of the clip that a state encodes.
-pub(crate) fn encoder_shape(e: Encoder) -> Shape
-    ensures { result ≡ encoder_shape e }
-{
-    let looped = e.looped;
-    shape_of(e.total, e.block, loop_count(looped))
-}
+impl Encoder {
+    // The shape of the clip that the state encodes.
+    pub(crate) fn shape(self) -> Shape
+        ensures { result ≡ encoder_shape self }
+    {
+        shape_of(self.total, self.block, loop_count(self.looped))
+    }
 
-// Whether the clip is closed only when whole, and the passes are not too many.
-fn counts_ok(n: usize, total: usize, closed: bool, passes: usize) -> bool
-    requires { (n ≤ total) × (total ≤ 14680064) }
-    ensures { result ≡ counts_ok n total closed passes }
-{
-    if closed {
-        if n < total {
-            return false;
+    // The frames encoded so far.
+    fn encoded_frames(self) -> usize
+        requires { (self.fed ≤ self.total) × (self.total ≤ 14680064) }
+        ensures same { result ≡ encoded_frames self.fed self.total self.closed }
+        ensures most { result ≤ 1048576 }
+    {
+        if self.closed {
+            frame_count(self.total as usize)
+        } else {
+            self.fed as usize / SAMPLES_PER_FRAME
         }
     }
-    passes <= 104 * encoded_frames(n, total, closed)
-}
 
-// The state test, code 1.
-fn valid(e: Encoder) -> bool
-    ensures { result ≡ valid e }
-{
-    let n = e.fed;
-    let total = e.total;
-    let block = e.block;
-    let rate = e.rate;
-    if !numbers_ok(n, total, block, rate) {
-        return false;
+    // Whether the clip is closed only when whole, and the passes are not too many.
+    #[tactic(auto, unfolding(crate::specs::Encoding::counts_ok))]
+    fn counts_ok(self) -> bool
+        requires { (self.fed ≤ self.total) × (self.total ≤ 14680064) }
+        ensures { result ≡ counts_ok self.fed self.total self.closed self.passes }
+    {
+        if self.closed && self.fed < self.total {
+            return false;
+        }
+        self.passes as usize <= 104 * self.encoded_frames()
     }
-    let coefficients = e.coefficients;
-    if !coefficients_ok(coefficients) {
-        return false;
+
+    // The state test, code 1.
+    #[tactic(auto, unfolding(crate::specs::Encoding::valid))]
+    fn valid(self) -> bool
+        ensures { result ≡ valid self }
+    {
+        numbers_ok(self.fed, self.total, self.block, self.rate)
+            && coefficients_ok(self.coefficients)
+            && loop_ok(self.looped, self.total)
+            && self.counts_ok()
     }
-    let looped = e.looped;
-    if !loop_ok(looped, total) {
-        return false;
+
+    // Codes 1, 8 and 9, which feeding and closing share, for an image buffer of some size.
+    fn going(self, room: usize) -> Result<(), Refusal>
+        ensures { outcome result ≡ going_answer self room (accepted tt) }
+    {
+        if !self.valid() {
+            return Err(Refusal::InvalidState);
+        }
+        let size = image_size(self.shape());
+        let short = room < size;
+        if short {
+            return Err(Refusal::ImageTooShort);
+        }
+        if self.closed {
+            return Err(Refusal::AlreadyClosed);
+        }
+        Ok(())
     }
-    let closed = e.closed;
-    let passes = e.passes;
-    counts_ok(n as usize, total as usize, closed, passes as usize)
 }
 
 // Codes 1, 8, 9 and 10, for a piece of some length and an image buffer of some size.
-pub(crate) fn feed_answer(e: Encoder, piece: usize, room: usize) -> Answer
+pub(crate) fn feed_answer(e: Encoder, piece: usize, room: usize) -> Result<(), Refusal>
     ensures { outcome result ≡ feed_answer e piece room }
 {
-    if !valid(e) {
-        return Answer::Refused(Refusal::InvalidState);
+    e.going(room)?;
+    if piece > (e.total - e.fed) as usize {
+        return Err(Refusal::PieceTooLong);
     }
-    let n = e.fed as usize;
-    let total = e.total as usize;
-    let shape = encoder_shape(e);
-    let size = image_size(shape);
-    let short = room < size;
-    if short {
-        return Answer::Refused(Refusal::ImageTooShort);
-    }
-    let closed = e.closed;
-    if closed {
-        return Answer::Refused(Refusal::AlreadyClosed);
-    }
-    if piece > total - n {
-        return Answer::Refused(Refusal::PieceTooLong);
-    }
-    Answer::Accepted
+    Ok(())
 }
 
 // Codes 1, 8, 9 and 11.
-pub(crate) fn close_answer(e: Encoder, room: usize) -> Answer
+pub(crate) fn close_answer(e: Encoder, room: usize) -> Result<(), Refusal>
     ensures { outcome result ≡ close_answer e room }
 {
-    if !valid(e) {
-        return Answer::Refused(Refusal::InvalidState);
+    e.going(room)?;
+    if e.fed < e.total {
+        return Err(Refusal::Unfinished);
     }
-    let n = e.fed;
-    let total = e.total;
-    let clip = encoder_shape(e);
-    let whole = image_size(clip);
-    let short = room < whole;
-    if short {
-        return Answer::Refused(Refusal::ImageTooShort);
-    }
-    let closed = e.closed;
-    if closed {
-        return Answer::Refused(Refusal::AlreadyClosed);
-    }
-    if n < total {
-        return Answer::Refused(Refusal::Unfinished);
-    }
-    Answer::Accepted
+    Ok(())
 }
 
 // Codes 4, 5, 6, 7, 23 and 8.
-pub(crate) fn start_answer(g: Start, room: usize) -> Answer
+#[tactic(auto, unfolding(crate::specs::Encoding::start_answer))]
+pub(crate) fn start_answer(g: Start, room: usize) -> Result<(), Refusal>
     ensures { outcome result ≡ start_answer g room }
 {
-    let total = g.total;
-    let none = total < 1;
-    if none {
-        return Answer::Refused(Refusal::BadSampleCount);
+    let counted = (1..=MOST_SAMPLES).contains(&g.total);
+    if !counted {
+        return Err(Refusal::BadSampleCount);
     }
-    if total > MOST_SAMPLES {
-        return Answer::Refused(Refusal::BadSampleCount);
+    if g.rate == 0 {
+        return Err(Refusal::RateZero);
     }
-    let rate = g.rate;
-    if rate == 0 {
-        return Answer::Refused(Refusal::RateZero);
+    if !(8..=65_536).contains(&g.block) {
+        return Err(Refusal::BadBlockSize);
     }
-    let wanted = g.block;
-    if wanted < 8 {
-        return Answer::Refused(Refusal::BadBlockSize);
+    if !coefficients_ok(g.coefficients) {
+        return Err(Refusal::CoefficientOutside);
     }
-    if wanted > 65_536 {
-        return Answer::Refused(Refusal::BadBlockSize);
+    if !loop_ok(g.looped, g.total) {
+        return Err(Refusal::LoopOutside);
     }
-    let coefficients = g.coefficients;
-    if !coefficients_ok(coefficients) {
-        return Answer::Refused(Refusal::CoefficientOutside);
-    }
-    let looped = g.looped;
-    if !loop_ok(looped, total) {
-        return Answer::Refused(Refusal::LoopOutside);
-    }
-    let asked = shape_of(total, cut_down(wanted), loop_count(looped));
-    let needed = image_size(asked);
+    let needed = image_size(g.cut().shape());
     let short = room < needed;
     if short {
-        return Answer::Refused(Refusal::ImageTooShort);
+        return Err(Refusal::ImageTooShort);
     }
-    Answer::Accepted
-}
-
-// Frames that are encoded after n samples.
-pub(crate) fn encoded_frames(n: usize, total: usize, closed: bool) -> usize
-    requires { (n ≤ total) × (total ≤ 14680064) }
-    ensures same { result ≡ encoded_frames n total closed }
-    ensures most { result ≤ 1048576 }
-{
-    if closed {
-        return frame_count(total);
-    }
-    n / SAMPLES_PER_FRAME
+    Ok(())
 }

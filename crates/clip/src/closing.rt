@@ -1,28 +1,43 @@
 // The last frame and the mark.
-ghost use Rattle.std.specs.Prelude.{◌≡◌, ◌-◌, ◌≤◌, pos, length, replicate};
-ghost use Rattle.std.proofs.lemmas.List.Edits.{sets};
-ghost use Rattle.clip.specs.Encoding.{left, finish};
+ghost use Rattle.std.specs.Prelude.{◌≡◌, ◌≤◌, length};
+ghost use Rattle.layout.specs.Limits.{Limits};
+ghost use Rattle.layout.specs.Sizes.{image_size};
+ghost use Rattle.clip.specs.Encoding.{left, encoder_shape, ended, finish};
 ghost use Rattle.clip.specs.inner.Asked.{Whole};
+ghost use Rattle.clip.specs.inner.Encoded.{last_encoded};
 
 use crate::Encoder;
-use crate::checks::encoder_shape;
-use crate::contents::put_end;
-use crate::feeding::{loop_context, store};
-use frame::{encode_frame, history_after};
+use crate::contents::{put_loop, put_mark};
+use layout::sizes::{block_count, entry_place};
 use whole::SAMPLES_PER_FRAME;
 
-// A frame whose samples from place m on are zero.
-fn padded(frame: [i16; 14], m: usize) -> [i16; 14]
-    requires { m ≤ 14 }
-    ensures { result ≡ sets frame m (replicate (14 - m) (pos 0)) }
-{
-    let mut f = frame;
-    let mut j: usize = m;
-    while j < SAMPLES_PER_FRAME {
-        f[j] = 0;
-        j += 1;
+impl Encoder {
+    // Encodes a short last frame, zeros for the samples that it lacks.
+    fn encode_last(&mut self, image: &mut [u8])
+        requires { Whole self.old (length image.old) }
+        ensures { left self.new image.new ≡ last_encoded (left self.old image.old) }
+    {
+        let q = self.fed as usize / SAMPLES_PER_FRAME;
+        let m = self.fed as usize % SAMPLES_PER_FRAME;
+        if m != 0 {
+            self.frame[m..].fill(0);
+            self.encode(q, m, image);
+        }
     }
-    f
+
+    // What closing writes after the last frame: the entry that a loop adds, and the mark.
+    fn put_end(self, image: &mut [u8])
+        requires { Limits (encoder_shape self) × (image_size (encoder_shape self) ≤ length image.old) }
+        ensures { image.new ≡ ended (encoder_shape self) self.looped self.context image.old }
+    {
+        put_loop(
+            image,
+            entry_place(block_count(self.shape())),
+            self.looped,
+            self.context,
+        );
+        put_mark(image);
+    }
 }
 
 // Encodes a short last frame, and writes the entry that a loop adds and the mark.
@@ -30,33 +45,12 @@ pub(crate) fn finish(e: Encoder, image: &mut [u8]) -> Encoder
     requires { Whole e (length image.old) }
     ensures { left result image.new ≡ finish (left e image.old) }
 {
-    let n = e.fed;
-    let m = (n % 14) as usize;
-    let shape = encoder_shape(e);
-    let looped = e.looped;
-    let known = e.context;
-    let mut c = e;
-    let none = [0i16; 14];
-    c.frame = none;
-    c.closed = true;
-    if m != 0 {
-        let h = e.history;
-        let g = e.frame;
-        let f = padded(g, m);
-        let cs = e.coefficients;
-        let t = encode_frame(h, f, cs);
-        let b = t.bytes;
-        let s = t.samples;
-        let q = (n / 14) as usize;
-        store(image, shape, q, b, 1 + (m + 1) / 2, h);
-        let after = history_after(h, s, m);
-        let at = loop_context(looped, q, h, t, known);
-        c.history = after;
-        c.passes = e.passes + t.passes;
-        c.context = at;
-        put_end(image, shape, looped, at);
-        return c;
+    let mut last = e;
+    last.encode_last(image);
+    last.put_end(image);
+    Encoder {
+        frame: [0; 14],
+        closed: true,
+        ..last
     }
-    put_end(image, shape, looped, known);
-    c
 }

@@ -1,11 +1,10 @@
 // Frames encoded to their places.
-ghost use Rattle.std.specs.Prelude.{◌≡◌, true, length, take};
-ghost use Rattle.frame.specs.Frame.{encode_frame, history_after, coefficients_ok};
-ghost use Rattle.clip.specs.Encoding.{left, store, loop_context, feed_all};
-ghost use Rattle.clip.specs.inner.Asked.{Room, Going};
+ghost use Rattle.std.specs.Prelude.{◌≡◌, length, take};
+ghost use Rattle.clip.specs.Encoding.{left, store, loop_context, push, feed_all};
+ghost use Rattle.clip.specs.inner.Asked.{Room, Framed, Going};
+ghost use Rattle.clip.specs.inner.Encoded.{encoded};
 
 use crate::Encoder;
-use crate::checks::encoder_shape;
 use crate::contents::put_context;
 use block::FrameContext;
 use frame::{EncodedFrame, encode_frame, history_after};
@@ -15,26 +14,25 @@ use layout::{Loop, Shape};
 use whole::{BYTES_PER_FRAME, History, SAMPLES_PER_FRAME};
 
 // Stores a frame's first k bytes at its place, and its block's context where it is a block's first.
-pub(crate) fn store(
-    image: &mut [u8],
-    shape: Shape,
-    q: usize,
-    bytes: [u8; 8],
-    k: usize,
-    history: History,
-)
+fn store(image: &mut [u8], shape: Shape, q: usize, bytes: [u8; 8], k: usize, history: History)
     requires { Room shape q k (length image.old) }
     ensures { image.new ≡ store shape q (take k bytes) history image.old }
 {
     put_part(image, bodies_place(shape) + BYTES_PER_FRAME * q, bytes, k);
     let per = shape.block / BYTES_PER_FRAME;
     if q % per == 0 {
-        put_context(image, entry_place(q / per) + 8, bytes[0] as u16, history);
+        put_context(
+            image,
+            entry_place(q / per) + 8,
+            u16::from(bytes[0]),
+            history,
+        );
     }
 }
 
 // The context at the loop start: that of frame q where it holds the start, else the one before.
-pub(crate) fn loop_context(
+#[tactic(auto, unfolding(crate::specs::Encoding::loop_context))]
+fn loop_context(
     looped: Loop,
     q: usize,
     history: History,
@@ -43,59 +41,49 @@ pub(crate) fn loop_context(
 ) -> FrameContext
     ensures { result ≡ loop_context looped q history done before }
 {
-    let present = looped.present;
     let start = looped.start as usize;
-    if present {
-        if start / SAMPLES_PER_FRAME == q {
-            let bytes = done.bytes;
-            let header = bytes[0] as u16;
-            let samples = done.samples;
-            let last_samples = history_after(history, samples, start % SAMPLES_PER_FRAME);
-            return FrameContext {
-                predictor_and_scale: header,
-                last_samples: last_samples,
-            };
+    if looped.present && start / SAMPLES_PER_FRAME == q {
+        let samples = done.samples;
+        let last_samples = history_after(history, samples, start % SAMPLES_PER_FRAME);
+        FrameContext {
+            predictor_and_scale: u16::from(done.bytes[0]),
+            last_samples,
         }
+    } else {
+        before
     }
-    before
 }
 
-// What a full frame leaves beside its bytes: the history after it, its passes, and the context at the loop start.
-#[derive(Drop)]
-struct Encoded {
-    history: History,
-    passes: u32,
-    context: FrameContext,
-}
+impl Encoder {
+    // Encodes the first m samples of the unfinished frame, which is frame q, to its place, and begins another.
+    pub(crate) fn encode(&mut self, q: usize, m: usize, image: &mut [u8])
+        requires { Framed self.old q m (length image.old) }
+        ensures { left self.new image.new ≡ encoded (left self.old image.old) q m }
+    {
+        let before = self.history;
+        let done = encode_frame(before, self.frame, self.coefficients);
+        let after = history_after(before, done.samples, m);
+        let stored = 1 + m.div_ceil(2);
+        store(image, self.shape(), q, done.bytes, stored, before);
+        self.context = loop_context(self.looped, q, before, done, self.context);
+        self.history = after;
+        self.frame = [0; 14];
+        self.passes += done.passes;
+    }
 
-// Encodes full frame q of the state's clip to its place.
-fn encode_full(
-    image: &mut [u8],
-    shape: Shape,
-    q: usize,
-    e: Encoder,
-    history: History,
-    frame: [i16; 14],
-    before: FrameContext,
-) -> Encoded
-    requires { Room shape q 8 (length image.old) × (coefficients_ok e.coefficients ≡ true) }
-    ensures after { result.history ≡ history_after history (encode_frame history frame e.coefficients).samples 14 }
-    ensures passes { result.passes ≡ (encode_frame history frame e.coefficients).passes }
-    ensures context { result.context ≡ loop_context e.looped q history (encode_frame history frame e.coefficients) before }
-    ensures stored { image.new ≡ store shape q (encode_frame history frame e.coefficients).bytes history image.old }
-{
-    let coefficients = e.coefficients;
-    let looped = e.looped;
-    let done = encode_frame(history, frame, coefficients);
-    let bytes = done.bytes;
-    let samples = done.samples;
-    let after = history_after(history, samples, SAMPLES_PER_FRAME);
-    let context = loop_context(looped, q, history, done, before);
-    store(image, shape, q, bytes, 8, history);
-    Encoded {
-        history: after,
-        passes: done.passes,
-        context: context,
+    // Takes a sample in: a frame that it fills is encoded to its place.
+    fn push(&mut self, sample: i16, image: &mut [u8])
+        requires { Going self.old 0 1 (length image.old) }
+        ensures { left self.new image.new ≡ push (left self.old image.old) sample }
+    {
+        let q = self.fed as usize / SAMPLES_PER_FRAME;
+        let at = self.fed as usize % SAMPLES_PER_FRAME;
+        self.frame[at] = sample;
+        self.fed += 1;
+        let full = at == 13;
+        if full {
+            self.encode(q, SAMPLES_PER_FRAME, image);
+        }
     }
 }
 
@@ -104,34 +92,9 @@ pub(crate) fn feed_all(e: Encoder, piece: &[i16], image: &mut [u8]) -> Encoder
     requires { Going e 0 (length piece.now) (length image.old) }
     ensures { left result image.new ≡ feed_all (left e image.old) piece.now }
 {
-    let shape = encoder_shape(e);
-    let mut n = e.fed;
-    let mut history = e.history;
-    let mut frame = e.frame;
-    let mut passes = e.passes;
-    let mut context = e.context;
-    let mut i: usize = 0;
-    while i < piece.len() {
-        let at = (n % 14) as usize;
-        let q = (n / 14) as usize;
-        frame[at] = piece[i];
-        n += 1;
-        i += 1;
-        let unfinished = at < 13;
-        if unfinished {
-            continue;
-        }
-        let full = encode_full(image, shape, q, e, history, frame, context);
-        history = full.history;
-        passes += full.passes;
-        context = full.context;
-        frame = [0i16; 14];
+    let mut fed = e;
+    for sample in piece {
+        fed.push(*sample, image);
     }
-    let mut c = e;
-    c.fed = n;
-    c.history = history;
-    c.frame = frame;
-    c.passes = passes;
-    c.context = context;
-    c
+    fed
 }

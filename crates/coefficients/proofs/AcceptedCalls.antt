@@ -1,14 +1,15 @@
 -- What an accepted call tells: the state is valid, and there is room for what is written.
-use Rattle.std.proofs.Common.{◌≡◌, ℕ, ◌+◌, ◌*◌, ◌/◌, ◌%◌, ◌<◌, ◌≤◌, Bool, true, false, cond, ◌&&◌, T, eqb, ltb, leb, sym, refl, subst, arith, ltb-false, le-ltb, le-leb, leb-true}
+use Rattle.std.proofs.Common.{◌≡◌, ℕ, ◌+◌, ◌*◌, ◌/◌, ◌%◌, ◌<◌, ◌≤◌, Bool, true, false, cond, ◌&&◌, T, eqb, ltb, leb, List, length, ℤ, sym, refl, ap, ◌∙◌, subst, arith, ltb-false, le-ltb, le-leb, leb-true}
 use borrow.Author.Tests.{eqb-false}
+use lib.Ieee.{Float}
 use Rattle.whole.specs.Frames.{most, frame_count}
 use Rattle.whole.specs.Outcome.{accepted}
 use Rattle.whole.proofs.Outcomes.{passed, failed}
 use Rattle.coefficients.specs.declared.CoefficientCalculator.{CoefficientCalculator}
 use Rattle.coefficients.specs.FrameRecord.{analyse, counted}
-use Rattle.coefficients.specs.Measure.{valid, needed, padded, process_answer, finish_answer, padded_count}
+use Rattle.coefficients.specs.Measure.{Measuring, measuring, valid, needed, push, padded, process_answer, finish_answer, padded_count}
 use Rattle.coefficients.specs.inner.Measurable.{Measurable}
-use Rattle.coefficients.proofs.OneSample.{found-le}
+use Rattle.coefficients.proofs.OneSample.{found-le, pushed-samples, push-records}
 
 -- ---- a valid state
 
@@ -67,9 +68,24 @@ finish-measurable n r size p =
 -- ---- room in the store
 
 -- for a record while there are samples left
-pub measurable-push : (n₀ r₀ len size i n r : ℕ) → Measurable n₀ r₀ len size → n ≡ n₀ + i → i < len → r ≤ n / 14 → 2 * r + 1 < size
+pub measurable-room : (n r len size : ℕ) → Measurable n r len size → 0 < len → 2 * r + 1 < size
 unfolding frame_count
-measurable-push n₀ r₀ len size i n r p e l h = omega (arith, p.store)
+measurable-room n r len size p l = omega (arith, p.records, p.store)
+
+-- for one sample where there is room for some
+pub measurable-one : (n r len size : ℕ) → Measurable n r len size → 0 < len → Measurable n r 1 size
+unfolding frame_count
+measurable-one n r len size p l = record { records = p.records; samples = omega (arith, p.samples); store = omega (arith, p.store) }
+
+-- for the samples that are left after one
+pub measurable-next : (c d : CoefficientCalculator) (s t : List Float) (x : ℤ) (len : ℕ) → Measurable c.samples c.records (len + 1) (length s)
+    → length t ≡ length s → measuring d t ≡ push (measuring c s) x → Measurable d.samples d.records len (length t)
+measurable-next c d s t x len p l e =
+    let n : d.samples ≡ c.samples + 1 = ap (λ (m : Measuring). m.calculator.samples) e ∙ pushed-samples c s x in
+    let r : d.records ≡ (push (measuring c s) x).calculator.records = ap (λ (m : Measuring). m.calculator.records) e in
+    let k : c.samples + 1 + len ≡ c.samples + (len + 1) = omega arith in
+    rw (n, l)
+    (record { records = rw r (push-records c.samples c.records c.history s x p.records); samples = rw k p.samples; store = rw k p.store })
 
 -- for the record of a frame that is not full
 pub measurable-padded : (n r size : ℕ) → Measurable n r 0 size → (n % 14 ≡ 0 → ⊥) → 2 * r + 1 < size

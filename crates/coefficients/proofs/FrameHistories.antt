@@ -6,8 +6,7 @@ use lib.Seq.{sets, sets-eq, append_snoc, set_at, take-append-add, drop-length}
 use Rattle.whole.specs.Frames.{frame_at}
 use Rattle.whole.proofs.CutIntoFrames.{frame-length, frame-stable}
 use Rattle.whole.proofs.Stores.{sets_then, take-replicate}
-use Rattle.coefficients.specs.declared.framing.Found.{Found}
-use Rattle.coefficients.specs.declared.framing.Found.TheVariants.{Nothing, One}
+use Rattle.std.specs.Prelude.{Option, Some, None}
 use Rattle.coefficients.specs.declared.merging.Record.{Record}
 use Rattle.coefficients.specs.FrameRecord.{analyse, stored, counted}
 use Rattle.coefficients.specs.Measure.{copied, shift, padded}
@@ -53,9 +52,9 @@ module _ (xs ys : List ℤ) where
       (ap₂ (λ (a f : List ℤ). record_of (analyse (holding a f))) (left-stable i (omega arith)) (frame-stable xs ys i (omega arith)))
 
 -- a frame has at most one record
-record-few : (f : Found) → length (record_of f) ≤ 1
-record-few Nothing = omega arith
-record-few (One x) = omega arith
+record-few : (f : Option Record) → length (record_of f) ≤ 1
+record-few None = omega arith
+record-few (Some x) = omega arith
 
 pub records-few : (xs : List ℤ) (k : ℕ) → length (records_of xs k) ≤ k
 unfolding records_of
@@ -131,17 +130,17 @@ padded-history xs h e =
 
 -- ---- a record at its place in the store
 
-pub stored-length : (s : List Float) (r : ℕ) (f : Found) → length (stored s r f) ≡ length s
+pub stored-length : (s : List Float) (r : ℕ) (f : Option Record) → length (stored s r f) ≡ length s
 unfolding stored write_record
-stored-length s r Nothing = refl
-stored-length s r (One x) = simp length-set
+stored-length s r None = refl
+stored-length s r (Some x) = simp length-set
 
-pub stored-records : (s : List Float) (r : ℕ) (f : Found) → 2 * r + 1 < length s → Store.records (stored s r f) (counted r f) ≡ Store.records s r ++ record_of f
+pub stored-records : (s : List Float) (r : ℕ) (f : Option Record) → 2 * r + 1 < length s → Store.records (stored s r f) (counted r f) ≡ Store.records s r ++ record_of f
 unfolding stored counted
-stored-records s r Nothing h = sym (append-nil (Store.records s r))
-stored-records s r (One x) h = records-written s r x h
+stored-records s r None h = sym (append-nil (Store.records s r))
+stored-records s r (Some x) h = records-written s r x h
 
-pub stored-kept : (s : List Float) (r : ℕ) (f : Found) → Store.records (stored s r f) r ≡ Store.records s r
+pub stored-kept : (s : List Float) (r : ℕ) (f : Option Record) → Store.records (stored s r f) r ≡ Store.records s r
 unfolding stored
-stored-kept s r Nothing = refl
-stored-kept s r (One x) = records-kept s r x r (omega arith)
+stored-kept s r None = refl
+stored-kept s r (Some x) = records-kept s r x r (omega arith)

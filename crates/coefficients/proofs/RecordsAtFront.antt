@@ -4,8 +4,7 @@ use lib.Ieee.{Float}
 use lib.Seq.{sets, set_comm}
 use Rattle.whole.proofs.Stores.{sets-append}
 use Rattle.whole.specs.Frames.{frame_count}
-use Rattle.coefficients.specs.declared.framing.Found.{Found}
-use Rattle.coefficients.specs.declared.framing.Found.TheVariants.{Nothing, One}
+use Rattle.std.specs.Prelude.{Option, Some, None}
 use Rattle.coefficients.specs.declared.merging.Record.{Record}
 use Rattle.coefficients.specs.FrameRecord.{stored}
 use Rattle.coefficients.specs.Runs.{record_of, records_of}
@@ -51,10 +50,10 @@ front-more s rs r =
     ∙ ap (λ (k : ℕ). set (set (sets s 0 (numbers_of rs)) n r.v1) k r.v2) (sym (add-one n)))
 
 -- a frame more
-pub front-found : (s : List Float) (rs : List Record) (f : Found) → stored (with_records s rs) (length rs) f ≡ with_records s (rs ++ record_of f)
+pub front-found : (s : List Float) (rs : List Record) (f : Option Record) → stored (with_records s rs) (length rs) f ≡ with_records s (rs ++ record_of f)
 unfolding stored
-front-found s rs Nothing = ap (with_records s) (sym (append-nil rs))
-front-found s rs (One x) = front-more s rs x
+front-found s rs None = ap (with_records s) (sym (append-nil rs))
+front-found s rs (Some x) = front-more s rs x
 
 -- the first of some records written again
 pub front-again : (s : List Float) (rs qs : List Record) → with_records (with_records s (rs ++ qs)) rs ≡ with_records s (rs ++ qs)

@@ -5,8 +5,7 @@ use native.Mathlib.Decide.{dec_lt, ℕ_discrete}
 use lib.Ieee.{Float, nan}
 use lib.ListN.{get_or-eq_default}
 use Rattle.coefficients.specs.declared.CoefficientCalculator.{CoefficientCalculator}
-use Rattle.coefficients.specs.declared.framing.Found.{Found}
-use Rattle.coefficients.specs.declared.framing.Found.TheVariants.{Nothing, One}
+use Rattle.std.specs.Prelude.{Option, Some, None}
 use Rattle.coefficients.specs.declared.merging.Record.{Record}
 use Rattle.coefficients.specs.FrameRecord.{analyse, stored, counted}
 use Rattle.coefficients.specs.Measure.{Measuring, calculator, measuring, framed, push}
@@ -52,24 +51,24 @@ write-both r s t x a =
     written : (l : List Float) → length (set (set l (2 * r) x.v1) (2 * r + 1) x.v2) ≡ length l
     written l = length-set (set l (2 * r) x.v1) (2 * r + 1) x.v2 ∙ length-set l (2 * r) x.v1
 
-pub found-same : (r : ℕ) (s t : List Float) (f : Found) → SameSoFar r s t → SameSoFar (counted r f) (stored s r f) (stored t r f)
+pub found-same : (r : ℕ) (s t : List Float) (f : Option Record) → SameSoFar r s t → SameSoFar (counted r f) (stored s r f) (stored t r f)
 unfolding counted stored
-found-same r s t Nothing a = a
-found-same r s t (One x) a = write-both r s t x a
+found-same r s t None a = a
+found-same r s t (Some x) a = write-both r s t x a
 
 -- only numbers 2r and 2r + 1 are written
-pub found-writes : (r : ℕ) (s : List Float) (f : Found) (i : ℕ) → i ≢ 2 * r → i ≢ 2 * r + 1 → get_or (stored s r f) i nan ≡ get_or s i nan
+pub found-writes : (r : ℕ) (s : List Float) (f : Option Record) (i : ℕ) → i ≢ 2 * r → i ≢ 2 * r + 1 → get_or (stored s r f) i nan ≡ get_or s i nan
 unfolding stored write_record
-found-writes r s Nothing i n k = refl
-found-writes r s (One x) i n k = get_or-set_other (set s (2 * r) x.v1) (2 * r + 1) i x.v2 nan k ∙ get_or-set_other s (2 * r) i x.v1 nan n
+found-writes r s None i n k = refl
+found-writes r s (Some x) i n k = get_or-set_other (set s (2 * r) x.v1) (2 * r + 1) i x.v2 nan k ∙ get_or-set_other s (2 * r) i x.v1 nan n
 
-found-leaves : (r : ℕ) (s : List Float) (f : Found) → SameSoFar r s (stored s r f)
+found-leaves : (r : ℕ) (s : List Float) (f : Option Record) → SameSoFar r s (stored s r f)
 found-leaves r s f = record { size = sym (stored-length s r f); numbers = λ i l. sym (found-writes r s f i (λ e. omega arith) (λ e. omega arith)) }
 
-pub found-counts : (r : ℕ) (f : Found) → r ≤ counted r f
+pub found-counts : (r : ℕ) (f : Option Record) → r ≤ counted r f
 unfolding counted
-found-counts r Nothing = le_refl r
-found-counts r (One x) = omega arith
+found-counts r None = le_refl r
+found-counts r (Some x) = omega arith
 
 -- ---- one sample, a piece
 

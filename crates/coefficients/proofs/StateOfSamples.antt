@@ -7,7 +7,7 @@ use lib.Seq.{sets, drop-append-le, drop-length, length-sets}
 use Rattle.whole.specs.Frames.{frame_at, frame_count}
 use Rattle.whole.proofs.Stores.{sets-snoc}
 use Rattle.coefficients.specs.declared.CoefficientCalculator.{CoefficientCalculator}
-use Rattle.coefficients.specs.declared.framing.Found.{Found}
+use Rattle.std.specs.Prelude.{Option}
 use Rattle.coefficients.specs.declared.merging.Record.{Record}
 use Rattle.coefficients.specs.FrameRecord.{analyse, stored, counted}
 use Rattle.coefficients.specs.Finish.{record_coefficients}
@@ -47,7 +47,7 @@ module _ (s : List Float) (ws : List (List ℤ)) (xs : List ℤ) (m : Measuring)
       ap₂ measuring e f.store
 
   -- the record of a frame after X's full ones goes to its place
-  store_found : (g : Found) → stored m.store m.calculator.records g ≡ with_records (asked_of s ws) (records_of xs (length xs / 14) ++ record_of g)
+  store_found : (g : Option Record) → stored m.store m.calculator.records g ≡ with_records (asked_of s ws) (records_of xs (length xs / 14) ++ record_of g)
   unfolding store_of
   store_found g =
       ap₂ (λ (l : List Float) (r : ℕ). stored l r g) f.store count
@@ -198,7 +198,7 @@ module _ (s : List Float) (ws : List (List ℤ)) (xs : List ℤ) (m : Measuring)
       ap₂ (λ (h : List ℤ) (n : ℕ). padded h (n % 14)) f.history f.samples
       ∙ padded-history xs (history_at xs (length xs / 14)) (unfold history_at in refl)
 
-  abbrev found : Found
+  abbrev found : Option Record
   found = analyse (padded c.history (c.samples % 14))
 
   -- whether there is such a frame

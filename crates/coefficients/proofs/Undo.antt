@@ -5,7 +5,7 @@ use lib.Ieee.{Float, nan}
 use Rattle.whole.specs.Outcome.{Outcome, accepted, refused_at, with_values}
 use Rattle.whole.proofs.Outcomes.{not-both}
 use Rattle.coefficients.specs.declared.CoefficientCalculator.{CoefficientCalculator}
-use Rattle.coefficients.specs.declared.framing.Found.{Found}
+use Rattle.std.specs.Prelude.{Option}
 use Rattle.coefficients.specs.declared.merging.Record.{Record}
 use Rattle.coefficients.specs.FrameRecord.{analyse, stored, counted}
 use Rattle.coefficients.specs.Finish.{record_coefficients}
@@ -68,7 +68,7 @@ records-same (suc r) s t a =
     (ap₂ (λ (v w : Float). record { v1 = v; v2 = w }) (a.numbers (2 * r) (omega arith)) (a.numbers (2 * r + 1) (omega arith)))
 
 module _ (c : CoefficientCalculator) where
-  abbrev found : Found
+  abbrev found : Option Record
   found = analyse (padded c.history (c.samples % 14))
 
   padded-same : (s t : List Float) → SameSoFar c.records s t → SameSoFar (padded_count c) (padded_store c s) (padded_store c t)

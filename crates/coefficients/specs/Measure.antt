@@ -1,11 +1,9 @@
 -- Measuring pieces and asking for coefficients: what each call does to its state and to the lent store. Definitions only.
-use Rattle.std.specs.Prelude.{ℕ, zero, suc, ◌+◌, ◌-◌, ◌*◌, ◌/◌, ◌%◌, Bool, cond, not, ◌&&◌, List, length, set, replicate, ℤ, pos, ◌==◌, nat_le, nat_lt, slice_index_or, slice_set, Float}
+use Rattle.std.specs.Prelude.{ℕ, zero, suc, Result, Ok, Err, ◌+◌, ◌-◌, ◌*◌, ◌/◌, ◌%◌, Bool, cond, not, ◌&&◌, List, length, set, replicate, ℤ, pos, ◌==◌, nat_le, nat_lt, slice_index_or, slice_set, Float}
 use mathlib.Core.List.{foldl}
 use Rattle.std.proofs.lemmas.List.Edits.{sets}
 use Rattle.whole.specs.Frames.{most, frame_count}
 use Rattle.whole.specs.Outcome.{Outcome, accepted, refused_at, refused, if_accepted, Effect, effect}
-use Rattle.coefficients.specs.declared.Answer.{Answer}
-use Rattle.coefficients.specs.declared.Answer.TheVariants.{Accepted, Refused}
 use Rattle.coefficients.specs.declared.CoefficientCalculator.{CoefficientCalculator}
 use Rattle.coefficients.specs.declared.Refusal.{Refusal}
 use Rattle.coefficients.specs.declared.Refusal.TheVariants.{InvalidState, TooManySamples, StoreTooShort}
@@ -21,10 +19,10 @@ code InvalidState = 1
 code TooManySamples = 2
 code StoreTooShort = 3
 
--- what an answer says
-abbrev pub outcome : Answer → Outcome Unit
-outcome Accepted = accepted tt
-outcome (Refused e) = refused (code e)
+-- what an answer says, its value left out
+abbrev pub outcome : {A : Type 0} → Result A Refusal → Outcome Unit
+outcome (Ok v) = accepted tt
+outcome (Err e) = refused (code e)
 
 -- ---- the state
 
@@ -111,6 +109,10 @@ padded_count c =
 -- codes 1 and 3
 unfoldable pub finish_answer : ℕ → ℕ → ℕ → Outcome Unit
 finish_answer n r size = cond (not (valid n r)) (refused 1) (cond (nat_lt size (needed n)) (refused 3) (accepted tt))
+
+-- sixteen zeros, in place of what a refused asking would answer
+abbrev pub no_coefficients : List ℤ
+no_coefficients = replicate 16 (pos 0)
 
 -- what `finish` answers and leaves
 pub record FinishEffect : Type 0 where

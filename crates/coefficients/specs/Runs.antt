@@ -1,9 +1,7 @@
 -- Whole runs of measuring: a plain machine that sees only the calls and the store's length. Definitions only.
-use Rattle.std.specs.Prelude.{ℕ, zero, suc, ◌+◌, cond, List, [], ◌∷◌, ◌++◌, length, take, drop, replicate, ℤ, pos, nat_lt}
+use Rattle.std.specs.Prelude.{Option, Some, None, ℕ, zero, suc, ◌+◌, cond, List, [], ◌∷◌, ◌++◌, length, take, drop, replicate, ℤ, pos, nat_lt}
 use Rattle.whole.specs.Frames.{frame_at, most, frame_count}
 use Rattle.whole.specs.Outcome.{Outcome, accepted, refused_at, refused, with_values}
-use Rattle.coefficients.specs.declared.framing.Found.{Found}
-use Rattle.coefficients.specs.declared.framing.Found.TheVariants.{Nothing, One}
 use Rattle.coefficients.specs.declared.merging.Record.{Record}
 use Rattle.coefficients.specs.FrameRecord.{analyse}
 use Rattle.coefficients.specs.Finish.{record_coefficients}
@@ -21,9 +19,9 @@ left_at xs zero = replicate 28 (pos 0)
 left_at xs (suc i) = let h = holding (left_at xs i) (frame_at xs i) in drop 14 h ++ drop 14 h
 
 -- the record of a frame, if it has one
-abbrev pub record_of : Found → List Record
-record_of Nothing = []
-record_of (One x) = x ∷ []
+abbrev pub record_of : Option Record → List Record
+record_of None = []
+record_of (Some x) = x ∷ []
 
 -- the records of the first k frames, in order
 unfoldable pub records_of : List ℤ → ℕ → List Record

@@ -3,58 +3,35 @@ ghost use Rattle.std.specs.Prelude.{◌≡◌, ◌+◌, ◌*◌, ◌<◌, length
 ghost use Rattle.coefficients.specs.FrameRecord as FrameRecord;
 ghost use Rattle.coefficients.specs.inner.KeptRecord.{Kept};
 
-use crate::merging::{Record, Vec3};
-use crate::ranges::{Merged, Ranges};
+use crate::merging::{Record, finish_record};
+use crate::ranges::{analyze_ranges, bidirectional_filter, quadratic_merge};
+use crate::sums::{inner_product_merge, outer_product_merge};
 
-// The record of a frame, if it has one.
-#[derive(Drop)]
-pub(crate) enum Found {
-    Nothing,
-    One(Record),
-}
-
-// What quadratic_merge leaves: no record where it stops.
-fn merged(g: Merged) -> Found
-    ensures { result ≡ FrameRecord.merged g }
-{
-    if g.stop {
-        return Found::Nothing;
-    }
-    Found::One(crate::merging::finish_record(g.v1, g.v2))
-}
-
-// What analyze_ranges leaves: no record where it stops.
-fn ranged(g: Ranges, v: Vec3) -> Found
-    ensures { result ≡ FrameRecord.ranged g v }
-{
-    if g.stop {
-        return Found::Nothing;
-    }
-    merged(crate::ranges::quadratic_merge(crate::ranges::bidirectional_filter(g, v)))
-}
-
-// The record of a frame with its history.
-pub(crate) fn analyse(h: &[i16; 28]) -> Found
+// The record of a frame with its history, if it has one.
+#[tactic(auto, unfolding(crate::specs::FrameRecord::analyse, crate::specs::FrameRecord::ranged, crate::specs::FrameRecord::merged))]
+pub(crate) fn analyse(h: &[i16; 28]) -> Option<Record>
     ensures { result ≡ FrameRecord.analyse h.now }
 {
-    let v = crate::sums::inner_product_merge(h);
+    let v = inner_product_merge(h);
     if float::abs(v.x0) > 10.0 {
-        let m = crate::sums::outer_product_merge(h);
-        return ranged(crate::ranges::analyze_ranges(m), v);
+        let ranges = analyze_ranges(outer_product_merge(h))?;
+        let merged = quadratic_merge(bidirectional_filter(ranges, v))?;
+        return Some(finish_record(merged.v1, merged.v2));
     }
-    Found::Nothing
+    None
 }
 
 // The record of a frame, if it has one, goes to place r. The answer is the count after it.
+#[tactic(auto, unfolding(crate::specs::FrameRecord::stored, crate::specs::FrameRecord::counted))]
 pub(crate) fn process_frame(h: &[i16; 28], s: &mut [f64], r: usize) -> usize
     requires { 2 * r + 1 < length s.old }
     ensures { Kept s.old r (FrameRecord.analyse h.now) result s.new }
 {
     match analyse(h) {
-        Found::One(x) => {
-            crate::store::write_record(s, r, x);
+        Some(record) => {
+            crate::store::write_record(s, r, record);
             r + 1
         }
-        Found::Nothing => r,
+        None => r,
     }
 }

@@ -6,10 +6,11 @@ ghost use Rattle.coefficients.specs.inner.KeptRecord.{KeptPadded};
 ghost use Rattle.coefficients.specs.inner.Measurable.{Measurable};
 
 use crate::framing::process_frame;
-use crate::{Answer, CoefficientCalculator, Refusal};
+use crate::{CoefficientCalculator, Refusal};
 use whole::{MOST_SAMPLES, SAMPLES_PER_FRAME};
 
 // Whether the counts are those of some measured samples.
+#[tactic(auto, unfolding(crate::specs::Measure::valid))]
 fn valid(n: u32, r: u32) -> bool
     ensures { result ≡ Measure.valid n r }
 {
@@ -20,6 +21,7 @@ fn valid(n: u32, r: u32) -> bool
 }
 
 // Numbers that the store must have for n samples.
+#[tactic(auto, unfolding(whole::specs::Frames::frame_count))]
 fn needed(n: usize) -> usize
     requires { n ≤ 14680064 }
     ensures { result ≡ Measure.needed n }
@@ -28,62 +30,47 @@ fn needed(n: usize) -> usize
 }
 
 // Whether a piece of some length on a store of some size is refused.
-pub(crate) fn process_answer(n: u32, r: u32, len: usize, size: usize) -> Answer
+pub(crate) fn process_answer(n: u32, r: u32, len: usize, size: usize) -> Result<(), Refusal>
     ensures { Measure.outcome result ≡ Measure.process_answer n r len size }
 {
     if !valid(n, r) {
-        return Answer::Refused(Refusal::InvalidState);
+        return Err(Refusal::InvalidState);
     }
     let before = n as usize;
     if len > 14_680_064 - before {
-        return Answer::Refused(Refusal::TooManySamples);
+        return Err(Refusal::TooManySamples);
     }
     if size < needed(before + len) {
-        return Answer::Refused(Refusal::StoreTooShort);
+        return Err(Refusal::StoreTooShort);
     }
-    Answer::Accepted
+    Ok(())
 }
 
 // Whether an asking on a store of some size is refused.
-pub(crate) fn finish_answer(n: u32, r: u32, size: usize) -> Answer
+pub(crate) fn finish_answer(n: u32, r: u32, size: usize) -> Result<(), Refusal>
     ensures { Measure.outcome result ≡ Measure.finish_answer n r size }
 {
     if !valid(n, r) {
-        return Answer::Refused(Refusal::InvalidState);
+        return Err(Refusal::InvalidState);
     }
     if size < needed(n as usize) {
-        return Answer::Refused(Refusal::StoreTooShort);
+        return Err(Refusal::StoreTooShort);
     }
-    Answer::Accepted
+    Ok(())
 }
 
-// The last fourteen samples are copied to the front.
-fn shift(h: &mut [i16; 28])
-    ensures { h.new ≡ Measure.shift h.old }
+// One sample: the record of a frame that it fills goes to the store, and the frame's samples to the front of the history.
+fn push(c: &mut CoefficientCalculator, x: i16, s: &mut [f64])
+    requires { Measurable c.old.samples c.old.records 1 (length s.old) }
+    ensures { Measure.measuring c.new s.new ≡ Measure.push (Measure.measuring c.old s.old) x }
 {
-    let mut i: usize = 0;
-    while i < SAMPLES_PER_FRAME {
-        let x = h[SAMPLES_PER_FRAME + i];
-        h[i] = x;
-        i += 1;
-    }
-}
-
-// One sample: the count of records after it.
-fn push(n: u32, r: usize, h: &mut [i16; 28], x: i16, s: &mut [f64]) -> usize
-    requires { 2 * r + 1 < length s.old }
-    ensures { Measure.measuring (Measure.calculator (n + 1) result h.new) s.new
-        ≡ Measure.push (Measure.measuring (Measure.calculator n r h.old) s.old) x }
-{
-    let k = (n % 14) as usize;
-    let at = SAMPLES_PER_FRAME + k;
-    h[at] = x;
+    let k = (c.samples % 14) as usize;
+    c.history[SAMPLES_PER_FRAME + k] = x;
+    c.samples += 1;
     if k == 13 {
-        let q = process_frame(h, s, r);
-        shift(h);
-        return q;
+        c.records = process_frame(&c.history, s, c.records as usize) as u32;
+        c.history.copy_within(SAMPLES_PER_FRAME.., 0);
     }
-    r
 }
 
 // All samples of a piece for which there is room.
@@ -96,37 +83,14 @@ pub(crate) fn push_all(
     ensures { Measure.measuring result s.new
         ≡ foldl Measure.push (Measure.measuring c s.old) samples.now }
 {
-    let mut n = c.samples;
-    let mut r = c.records as usize;
-    let mut h = c.history;
-    let mut i: usize = 0;
-    while i < samples.len() {
-        r = push(n, r, &mut h, samples[i], s);
-        n += 1;
-        i += 1;
+    let mut next = c;
+    for x in samples {
+        push(&mut next, *x, s);
     }
-    CoefficientCalculator {
-        samples: n,
-        records: r as u32,
-        history: h,
-    }
+    next
 }
 
-// Zeros after the k samples of the frame that is not full.
-fn padded(h: [i16; 28], k: usize) -> [i16; 28]
-    requires { k ≤ 14 }
-    ensures { result ≡ Measure.padded h k }
-{
-    let mut g = h;
-    let mut i = SAMPLES_PER_FRAME + k;
-    while i < 28 {
-        g[i] = 0;
-        i += 1;
-    }
-    g
-}
-
-// The padded frame's record, if there is such a frame and it has one, goes to the store: the count of records with it.
+// The record of the frame that is not full, zeros after its samples, if there is such a frame and it has one, goes to the store: the count of records with it.
 pub(crate) fn padded_record(c: CoefficientCalculator, s: &mut [f64]) -> usize
     requires { Measurable c.samples c.records 0 (length s.old) }
     ensures { KeptPadded c s.old result s.new }
@@ -136,7 +100,7 @@ pub(crate) fn padded_record(c: CoefficientCalculator, s: &mut [f64]) -> usize
     if k == 0 {
         return r;
     }
-    let h = c.history;
-    let g = padded(h, k);
-    process_frame(&g, s, r)
+    let mut h = c.history;
+    h[SAMPLES_PER_FRAME + k..].fill(0);
+    process_frame(&h, s, r)
 }

@@ -4,9 +4,8 @@ use mathlib.Core.Path.{◌≡◌, refl, sym, ap, ◌∙◌}
 use Prim.Native.Nat.{ℕ, suc, ◌+◌, ◌-◌, ◌*◌, ◌/◌, ◌≤◌, ◌<◌}
 use native.Mathlib.Nat.{zero-mul}
 use native.Mathlib.Omega.{arith}
-use lib.IntN.{ℤ}
 use lib.ListN.{length, get_or, take, drop, length-drop}
-use lib.Seq.{sets, drop-drop, get_or-drop}
+use lib.Seq.{sets, get_or-drop}
 use Rattle.whole.proofs.Stores.{spread, part-all}
 use Rattle.whole.specs.Frames.{frame_count}
 use Rattle.block.specs.declared.FrameContext.{FrameContext}
@@ -15,7 +14,7 @@ use Rattle.block.specs.Play.{play_from, play}
 use Rattle.layout.specs.declared.Shape.{Shape}
 use Rattle.layout.specs.Fields.{mark, no_mark}
 use Rattle.layout.specs.Limits.{Limits}
-use Rattle.layout.specs.Sizes.{block_count, block_length, block_offset, body_bytes, image_size}
+use Rattle.layout.specs.Sizes.{block_count, block_length, block_offset, bodies_place, body_bytes, image_size}
 use Rattle.layout.proofs.SizeLaws.{block-place}
 use Rattle.clip.specs.declared.starting.Start.{Start}
 use Rattle.clip.specs.Image.{head_bytes, coefficient_bytes}
@@ -56,21 +55,18 @@ history-start f b = first-history f ∙ ap (history_before f) (sym (zero-mul b))
 
 -- ---- the file's bodies from block k on
 
-module _ (f : List ℕ) (cs : List ℤ) (s : Shape) (room : ℕ) (T : Tabled f cs s room) (k : ℕ) where
+module _ (f : List ℕ) (s : Shape) (room : ℕ) (T : Tabled f s room) (k : ℕ) where
   abbrev per : ℕ
   per = s.block / 8
 
-  abbrev at : ℕ
-  at = 96 + k * s.block
-
-  -- the part of the file that is lent to playing
-  pub part-is : take (length f - (96 + k * s.block)) (drop (96 + k * s.block) f) ≡ drop (8 * (k * (s.block / 8))) (bodies_of f)
+  -- the part of the bodies that is lent to playing
+  pub part-is : take (length (bodies_of f) - k * s.block) (drop (k * s.block) (bodies_of f)) ≡ drop (8 * (k * (s.block / 8))) (bodies_of f)
   part-is =
-      let e : at ≡ 96 + 8 * (k * per) = omega (arith, block-place s.block k T.limits.eights) in
-      part-all f at ∙ ap (λ (i : ℕ). drop i f) e ∙ sym (drop-drop (8 * (k * per)) 96 f)
+      let e : k * s.block ≡ 8 * (k * per) = omega (arith, block-place s.block k T.limits.eights) in
+      part-all (bodies_of f) (k * s.block) ∙ ap (λ (i : ℕ). drop i (bodies_of f)) e
 
   -- its first byte
-  pub first_byte : get_or (take (length f - (96 + k * s.block)) (drop (96 + k * s.block) f)) 0 0 ≡ get_or (bodies_of f) (k * s.block) 0
+  pub first_byte : get_or (take (length (bodies_of f) - k * s.block) (drop (k * s.block) (bodies_of f))) 0 0 ≡ get_or (bodies_of f) (k * s.block) 0
   first_byte =
       let e : 8 * (k * per) + 0 ≡ k * s.block = omega (arith, block-place s.block k T.limits.eights) in
       ap (λ (l : List ℕ). get_or l 0 0) part-is ∙ get_or-drop (8 * (k * per)) (bodies_of f) 0 0 ∙ ap (λ (i : ℕ). get_or (bodies_of f) i 0) e
@@ -90,13 +86,12 @@ module _ (f : List ℕ) (cs : List ℤ) (s : Shape) (room : ℕ) (T : Tabled f c
       ap (λ (i : ℕ). context_with (get_or (bodies_of f) i 0) (history_before f (k * per))) e
 
   -- playing block k leaves the history before the next
-  pub history-turn : suc k < block_count s → (play (drop (8 * (k * (s.block / 8))) (bodies_of f)) cs (block_length s k) current).context.last_samples ≡ history_before f (suc k * (s.block / 8))
+  pub history-turn : suc k < block_count s → (play (drop (8 * (k * (s.block / 8))) (bodies_of f)) (coefficients_of f) (block_length s k) current).context.last_samples ≡ history_before f (suc k * (s.block / 8))
   unfolding history_before
   history-turn h =
       let n = block_length s k in
       let z : 0 < n = omega (arith, length_some s k T.limits (omega arith)) in
-      ap (λ (ds : List ℤ). (play (drop (8 * (k * per)) (bodies_of f)) ds n current).context.last_samples) T.coefficients
-      ∙ ap (λ (c : FrameContext). (play (drop (8 * (k * per)) (bodies_of f)) (coefficients_of f) n c).context.last_samples) (sym current-is)
+      ap (λ (c : FrameContext). (play (drop (8 * (k * per)) (bodies_of f)) (coefficients_of f) n c).context.last_samples) (sym current-is)
       ∙ ap (λ (c : FrameContext). c.last_samples) (sym (history-on (bodies_of f) (coefficients_of f) (first_of f) first-header (k * per) n z))
       ∙ ap (λ (m : ℕ). (play (bodies_of f) (coefficients_of f) m (first_of f)).context.last_samples) (whole_length s T.limits k h)
 
@@ -109,3 +104,20 @@ module _ (f : List ℕ) (cs : List ℤ) (s : Shape) (room : ℕ) (T : Tabled f c
       let e = length-drop 96 f in
       let p = block-place s.block k T.limits.eights in
       (omega (arith, m), omega (arith, b, d, e, p, T.bodies))
+
+  -- block k begins within the bodies
+  pub part-there : k < block_count s → k * s.block < length (bodies_of f)
+  part-there h =
+      let b = body-inside s k T.limits h in
+      let m = length_some s k T.limits h in
+      let e = length-drop 96 f in
+      omega (arith, b, m, e, T.bodies)
+
+  -- the part that is lent to playing has the nibbles of block k
+  pub lent : k < block_count s → (0 < block_length s k) × (block_length s k ≤ 2 * length (take (length (bodies_of f) - k * s.block) (drop (k * s.block) (bodies_of f))))
+  lent h = rw part-is (part-long h)
+
+-- where a block's body is, from where the bodies begin
+pub offset-is : (s : Shape) (k p : ℕ) → p ≡ bodies_place s → p + k * s.block ≡ block_offset s k
+unfolding block_offset block_count frame_count
+offset-is s k p e = ap (λ (x : ℕ). x + k * s.block) e

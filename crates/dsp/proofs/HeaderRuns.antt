@@ -8,6 +8,7 @@ use lib.ListN.{length, take, drop, replicate, length-append}
 use lib.Seq.{sets}
 use Rattle.whole.proofs.Stores.{sets_then}
 use Rattle.block.specs.declared.FrameContext.{FrameContext}
+use Rattle.block.proofs.LawsStores.{stored-whole}
 use Rattle.layout.specs.declared.Loop.{Loop}
 use Rattle.layout.specs.Fields.{be16, be32}
 use Rattle.layout.specs.Sizes.{bodies_place, body_bytes}
@@ -56,14 +57,14 @@ coefficients-bytes l = omega (arith, coefficient-length (coefficients_in l), coe
 -- ---- the whole
 
 -- the header's runs put one after the other, of what was read
-pub header-put : (l o o₁ o₂ o₃ o₄ : List ℕ) (n r f g : ℕ) (p : Loop) (cs : List ℤ) (x y : FrameContext)
-    → n ≡ total_in l → r ≡ rate_in l → f ≡ loops_in l → p ≡ loop_in l → cs ≡ coefficients_in l → g ≡ gain_in l → x ≡ context_in l 0 → y ≡ loop_context_in l
-    → o₁ ≡ sets o 0 (counts_run n r) → o₂ ≡ sets o₁ 12 (looped_run f p) → o₃ ≡ sets o₂ 28 (coefficient_bytes cs) → o₄ ≡ sets o₃ 60 (contexts_run g x y)
-    → o₄ ≡ sets o 0 (header_bytes l)
-header-put l o o₁ o₂ o₃ o₄ n r f g p cs x y en er ef ep ec eg ex ey e₁ e₂ e₃ e₄ =
+pub header-put : (l o o₁ o₂ o₃ o₄ : List ℕ) (f g : ℕ) (p : Loop) (cs : List ℤ) (x y : FrameContext)
+    → f ≡ loops_in l → p ≡ loop_in l → cs ≡ coefficients_in l → g ≡ gain_in l → x ≡ context_in l 0 → y ≡ loop_context_in l
+    → o₁ ≡ sets o 0 (counts_run (total_in l) (rate_in l)) → o₂ ≡ sets o₁ 12 (looped_run f p) → o₃ ≡ sets o₂ 28 (coefficient_bytes cs) → o₄ ≡ sets o₃ 60 (contexts_run g x y)
+    → length o ≡ 96 → o₄ ≡ header_bytes l
+header-put l o o₁ o₂ o₃ o₄ f g p cs x y ef ep ec eg ex ey e₁ e₂ e₃ e₄ n =
     let k : length (coefficient_bytes cs) ≡ 32 = rw ec (coefficients-bytes l) in
-    runs4 o o₁ o₂ o₃ o₄ (counts_run n r) (looped_run f p) (coefficient_bytes cs) (contexts_run g x y) 0 12 28 60 e₁ e₂ e₃ e₄ refl (omega (arith, looped-length f p)) (omega (arith, k))
-    ∙ rw (en, er, ef, ep, ec, eg, ex, ey) (ap (sets o 0) (header-runs l))
+    runs4 o o₁ o₂ o₃ o₄ (counts_run (total_in l) (rate_in l)) (looped_run f p) (coefficient_bytes cs) (contexts_run g x y) 0 12 28 60 e₁ e₂ e₃ e₄ refl (omega (arith, looped-length f p)) (omega (arith, k))
+    ∙ rw (ef, ep, ec, eg, ex, ey) (ap (sets o 0) (header-runs l)) ∙ stored-whole o (header_bytes l) (omega (arith, n, header-length l))
 
 -- ---- the bodies
 

@@ -1,10 +1,7 @@
 -- What export and import answer. Definitions only.
-use Rattle.std.specs.Prelude.{ℕ}
-use Rattle.whole.specs.Outcome.{Outcome, accepted, refused_at}
+use Rattle.std.specs.Prelude.{ℕ, Result}
+use Rattle.whole.specs.Outcome.{Outcome, refused_at, answered}
 use Rattle.image.specs.Opening as Image
-use Rattle.dsp.specs.declared.Answer.{Answer}
-use Rattle.dsp.specs.declared.Answer.TheVariants as Answers
-use Rattle.dsp.specs.declared.Written.{Written}
 use Rattle.dsp.specs.declared.Refusal.{Refusal}
 use Rattle.dsp.specs.declared.Refusal.TheVariants.{BadSampleCount, RateZero, BadBlockSize, ImageTooShort, LowestPair, OutputTooShort, FileTooShort, BadField, OtherHistory, OfImage}
 
@@ -38,12 +35,10 @@ bad_block (OfImage r) = Image.bad_block r
 abbrev pub refusal : {A : Type 0} → Refusal → Outcome A
 refusal r = refused_at (code r) (bad_block r)
 
--- what an answer of the tests says
-abbrev pub outcome : Answer → Outcome Unit
-outcome Answers.Accepted = accepted tt
-outcome (Answers.Refused r) = refusal r
+-- what an answer says: its values, or the refusal
+abbrev pub outcome : {A : Type 0} → Result A Refusal → Outcome A
+outcome = answered code bad_block
 
 -- what an answer of a call says: how many bytes, or the refusal
-abbrev pub written : Written → Outcome ℕ
-written (Written.Done n) = accepted n
-written (Written.Refused r) = refusal r
+abbrev pub written : Result ℕ Refusal → Outcome ℕ
+written = outcome

@@ -1,49 +1,44 @@
 // The tests of export and import, in the documents' sequence.
-ghost use Rattle.std.specs.Prelude.{◌≡◌, ◌+◌, ◌-◌, ◌≤◌, length, replicate};
-ghost use Rattle.image.specs.inner.Asked.{Opens};
-ghost use Rattle.image.specs.Opening.{holds};
-ghost use Rattle.image.specs.Reading.{blocks_in, coefficients_in};
-ghost use Rattle.dsp.specs.inner.Asked.{Whole};
+ghost use Rattle.std.specs.Prelude.{◌≡◌, ◌-◌, eqb};
+ghost use Rattle.std.specs.List.{list_all};
+ghost use Rattle.whole.specs.Outcome.{with_values};
+ghost use Rattle.image.specs.Reading.{blocks_in};
 ghost use Rattle.dsp.specs.Answers.{outcome};
-ghost use Rattle.dsp.specs.Export.{equal_history, histories_answer, export_answer};
-ghost use Rattle.dsp.specs.Import.{needed, long_enough, of_sample, loop_fields_ok, no_loop_fields, fields_ok, file_answer, import_answer};
+ghost use Rattle.dsp.specs.Export.{histories_answer, export_answer};
+ghost use Rattle.dsp.specs.inner.Asked.{numbers_ok, whole_answer};
+ghost use Rattle.dsp.specs.Import.{needed, long_enough, of_sample, loop_fields_ok, no_loop_fields, fields_ok, file_answer};
 
-use crate::fields::{
-    HEADER_BYTES, clip_of, coefficients_of, file_bytes, image_bytes, nibble_count,
-};
-use crate::{Answer, Refusal};
+use crate::Refusal;
+use crate::fields::{File, HEADER_BYTES, nibble_count};
+use crate::opened::Opened;
 use block::address_to_sample;
-use block::coefficients::{equal, lowest_pair};
+use block::coefficients::lowest_pair;
 use block::part::context_after;
 use image::bodies::{find_body, read_context, read_entry};
-use image::checks::compare_answer;
-use image::entries::byte;
 use image::heading::read_coefficients;
 use layout::fields::{get16, get32};
-use whole::{BYTES_PER_FRAME, History, MOST_SAMPLES};
+use whole::{BYTES_PER_FRAME, MOST_SAMPLES, SAMPLES_PER_FRAME};
 
 // ---- import
 
 // The body bytes that a count needs; 0 needs none.
-fn needed(total: u32) -> u64
+// Stays: `layout::sizes::body_bytes` takes the counts of clips alone, and 25 comes before 4.
+fn needed(total: u32) -> usize
     ensures { result ≡ needed total }
 {
     if total == 0 {
         return 0;
     }
-    let n = total as u64;
-    let before = (n + 13) / 14 - 1;
-    8 * before + 1 + (n - 14 * before + 1) / 2
+    let n = total as usize;
+    let before = n.div_ceil(SAMPLES_PER_FRAME) - 1;
+    BYTES_PER_FRAME * before + 1 + (n - SAMPLES_PER_FRAME * before + 1) / 2
 }
 
 // Whether the file has its header and the body bytes that its count needs.
 fn long_enough(file: &[u8]) -> bool
     ensures { result ≡ long_enough file.now }
 {
-    if file.len() < HEADER_BYTES {
-        return false;
-    }
-    96 + needed(get32(file, 0)) <= file.len() as u64
+    file.len() >= HEADER_BYTES && HEADER_BYTES + needed(get32(file, 0)) <= file.len()
 }
 
 // Whether an address is that of one of N samples.
@@ -51,191 +46,127 @@ fn of_sample(total: u32, address: u32) -> bool
     ensures { result ≡ of_sample total address }
 {
     let in_header = address % 16 < 2;
-    if in_header {
-        return false;
-    }
-    address_to_sample(address) < total as u64
+    !in_header && address_to_sample(address) < u64::from(total)
 }
 
-// Whether n bytes from a place on are zeros.
-fn zeros_at(file: &[u8], at: usize, n: usize) -> bool
-    requires { at + n ≤ length file.now }
-    ensures { result ≡ holds file.now at (replicate n 0) }
+// Whether all bytes are zeros.
+fn all_zeros(bytes: &[u8]) -> bool
+    ensures { result ≡ list_all (λ byte. eqb byte 0) bytes.now }
 {
-    let mut j: usize = 0;
-    while j < n {
-        if file[at + j] != 0 {
-            return false;
-        }
-        j += 1;
-    }
-    true
+    bytes.iter().all(|byte| *byte == 0)
 }
 
-// Whether the fields of a loop are the clip's.
-fn loop_fields_ok(file: &[u8]) -> bool
-    requires { Whole file.now }
-    ensures { result ≡ loop_fields_ok file.now }
-{
-    let total = get32(file, 0);
-    let start = get32(file, 16);
-    let last = get32(file, 20);
-    if !of_sample(total, start) {
-        return false;
+impl<'a> File<'a> {
+    // Whether the fields of a loop are the clip's.
+    fn loop_fields_ok(&self) -> bool
+        ensures { result ≡ loop_fields_ok self.now }
+    {
+        let total = self.total();
+        let start = self.start_address();
+        let last = self.last_address();
+        of_sample(total, start)
+            && of_sample(total, last)
+            && start <= last
+            && get16(self.bytes, 68)
+                == u32::from(self.bodies()[BYTES_PER_FRAME * (start as usize / 16)])
     }
-    if !of_sample(total, last) {
-        return false;
-    }
-    if last < start {
-        return false;
-    }
-    let header = byte(file[HEADER_BYTES + BYTES_PER_FRAME * (start as usize / 16)]);
-    get16(file, 68) == header
-}
 
-// Whether the fields of a loop are zeros.
-fn no_loop_fields(file: &[u8]) -> bool
-    requires { 96 ≤ length file.now }
-    ensures { result ≡ no_loop_fields file.now }
-{
-    if !zeros_at(file, 16, 8) {
-        return false;
+    // Whether the fields of a loop are zeros.
+    fn no_loop_fields(&self) -> bool
+        ensures { result ≡ no_loop_fields self.now }
+    {
+        all_zeros(&self.bytes[16..24]) && all_zeros(&self.bytes[68..74])
     }
-    zeros_at(file, 68, 6)
-}
 
-// Whether every field is as listed: code 26 is not to be given.
-fn fields_ok(file: &[u8]) -> bool
-    requires { Whole file.now }
-    ensures { result ≡ fields_ok file.now }
-{
-    let flag = get16(file, 12);
-    let first = byte(file[HEADER_BYTES]);
-    if get32(file, 4) != nibble_count(get32(file, 0)) {
-        return false;
+    // Whether the nibble count, the flag, the zero after it and the number 2 are as listed.
+    fn numbers_ok(&self) -> bool
+        ensures { result ≡ numbers_ok self.now }
+    {
+        get32(self.bytes, 4) == nibble_count(self.total())
+            && self.flag() <= 1
+            && get16(self.bytes, 14) == 0
+            && get32(self.bytes, 24) == 2
     }
-    if flag > 1 {
-        return false;
-    }
-    if get16(file, 14) != 0 {
-        return false;
-    }
-    if get32(file, 24) != 2 {
-        return false;
-    }
-    if !zeros_at(file, 74, 22) {
-        return false;
-    }
-    if get16(file, 62) != first {
-        return false;
-    }
-    if flag == 1 {
-        return loop_fields_ok(file);
-    }
-    no_loop_fields(file)
-}
 
-// Codes 25, 4, 5, 6, 26 and 13.
-pub(crate) fn file_answer(file: &[u8], size: u32) -> Answer
-    ensures { outcome result ≡ file_answer file.now size }
-{
-    if !long_enough(file) {
-        return Answer::Refused(Refusal::FileTooShort);
-    }
-    let total = get32(file, 0);
-    if total < 1 {
-        return Answer::Refused(Refusal::BadSampleCount);
-    }
-    if total > MOST_SAMPLES {
-        return Answer::Refused(Refusal::BadSampleCount);
-    }
-    if get32(file, 8) == 0 {
-        return Answer::Refused(Refusal::RateZero);
-    }
-    if size < 8 {
-        return Answer::Refused(Refusal::BadBlockSize);
-    }
-    if size > 65_536 {
-        return Answer::Refused(Refusal::BadBlockSize);
-    }
-    if !fields_ok(file) {
-        return Answer::Refused(Refusal::BadField);
-    }
-    if lowest_pair(coefficients_of(file)) {
-        return Answer::Refused(Refusal::LowestPair);
-    }
-    Answer::Accepted
-}
-
-// Codes 25, 4, 5, 6, 26, 13 and 8.
-pub(crate) fn import_answer(file: &[u8], size: u32, room: usize) -> Answer
-    ensures { outcome result ≡ import_answer file.now size room }
-{
-    let answer = file_answer(file, size);
-    match answer {
-        Answer::Accepted => {
-            let needed = image_bytes(clip_of(file, size));
-            let short = room < needed;
-            if short {
-                return Answer::Refused(Refusal::ImageTooShort);
+    // Whether every field is as listed: code 26 is not to be given.
+    fn fields_ok(&self) -> bool
+        ensures { result ≡ fields_ok self.now }
+    {
+        self.numbers_ok()
+            && all_zeros(&self.bytes[74..96])
+            && get16(self.bytes, 62) == u32::from(self.bodies()[0])
+            && if self.flag() == 1 {
+                self.loop_fields_ok()
+            } else {
+                self.no_loop_fields()
             }
-            Answer::Accepted
-        }
-        Answer::Refused(why) => Answer::Refused(why),
     }
+
+    // The file, by codes 25 and 4.
+    fn read(bytes: &'a [u8]) -> Result<File<'a>, Refusal>
+        ensures { outcome result ≡ with_values (whole_answer bytes.now) bytes.now }
+    {
+        if !long_enough(bytes) {
+            return Err(Refusal::FileTooShort);
+        }
+        if !(1..=MOST_SAMPLES).contains(&get32(bytes, 0)) {
+            return Err(Refusal::BadSampleCount);
+        }
+        Ok(File { bytes })
+    }
+}
+
+// The file that import takes, by codes 25, 4, 5, 6, 26 and 13.
+pub(crate) fn accept(bytes: &[u8], size: u32) -> Result<File, Refusal>
+    ensures { outcome result ≡ with_values (file_answer bytes.now size) bytes.now }
+{
+    let file = File::read(bytes)?;
+    if file.rate() == 0 {
+        return Err(Refusal::RateZero);
+    }
+    if !(8..=65_536).contains(&size) {
+        return Err(Refusal::BadBlockSize);
+    }
+    if !file.fields_ok() {
+        return Err(Refusal::BadField);
+    }
+    if lowest_pair(file.coefficients()) {
+        return Err(Refusal::LowestPair);
+    }
+    Ok(file)
 }
 
 // ---- export
 
-// Whether two histories are equal.
-fn equal_history(first: History, second: History) -> bool
-    ensures { result ≡ equal_history first second }
-{
-    if !equal(first.newest, second.newest) {
-        return false;
-    }
-    equal(first.older, second.older)
-}
-
-// Code 35: of the first block after the first whose history is not what the block before leaves.
-fn histories_answer(image: &[u8], coefficients: [i16; 16]) -> Answer
-    requires { Opens image.now × (coefficients ≡ coefficients_in image.now) }
-    ensures { outcome result ≡ histories_answer image.now 0 (blocks_in image.now - 1) }
-{
-    let last = get32(image, 52) as usize - 1;
-    let mut j: usize = 0;
-    while j < last {
-        let entry = read_entry(image, j);
-        let body = find_body(image, entry.offset as usize, entry.nibbles as usize);
-        let own = entry.context;
-        let after = context_after(body, entry.nibbles as usize, coefficients, own);
-        let next = read_context(image, j + 1);
-        if !equal_history(after.last_samples, next.last_samples) {
-            return Answer::Refused(Refusal::OtherHistory((j + 1) as u32));
-        }
-        j += 1;
-    }
-    Answer::Accepted
-}
-
-// Codes 15, 20, 21, 22, 24, 13, 35 and 14.
-pub(crate) fn export_answer(image: &[u8], room: usize) -> Answer
-    ensures { outcome result ≡ export_answer image.now room }
-{
-    let tested = compare_answer(image);
-    match tested {
-        image::Answer::Accepted => {
-            let answer = histories_answer(image, read_coefficients(image));
-            match answer {
-                Answer::Accepted => {
-                    if (room as u64) < file_bytes(get32(image, 4)) {
-                        return Answer::Refused(Refusal::OutputTooShort);
-                    }
-                    Answer::Accepted
-                }
-                Answer::Refused(why) => Answer::Refused(why),
+impl<'a> Opened<'a> {
+    // Code 35: of the first block after the first whose history is not what the block before leaves.
+    fn histories_answer(&self) -> Result<(), Refusal>
+        ensures { outcome result ≡ histories_answer self.now 0 (blocks_in self.now - 1) }
+    {
+        let image = self.bytes;
+        let coefficients = read_coefficients(image);
+        for j in 0..get32(image, 52) as usize - 1 {
+            let entry = read_entry(image, j);
+            let nibbles = entry.nibbles as usize;
+            let body = find_body(image, entry.offset as usize, nibbles);
+            let after = context_after(body, nibbles, coefficients, entry.context);
+            let next = read_context(image, j + 1);
+            if after.last_samples != next.last_samples {
+                return Err(Refusal::OtherHistory((j + 1) as u32));
             }
         }
-        image::Answer::Refused(why) => Answer::Refused(Refusal::OfImage(why)),
+        Ok(())
     }
+}
+
+// The image that export takes, by codes 15, 20, 21, 22, 24, 13, 35 and 14.
+pub(crate) fn exportable(bytes: &[u8], room: usize) -> Result<Opened, Refusal>
+    ensures { outcome result ≡ with_values (export_answer bytes.now room) bytes.now }
+{
+    let image = Opened::read(bytes)?;
+    image.histories_answer()?;
+    if room < image.file_bytes() {
+        return Err(Refusal::OutputTooShort);
+    }
+    Ok(image)
 }

@@ -2,13 +2,13 @@
 ghost use Rattle.std.specs.Prelude.{◌≡◌, ◌++◌, ◌+◌, ◌≤◌, length, replicate};
 ghost use Rattle.std.proofs.lemmas.List.Edits.{sets};
 ghost use Rattle.layout.specs.Fields.{be16, be32};
-ghost use Rattle.image.specs.inner.Asked.{Opens};
-ghost use Rattle.image.specs.Reading.{total_in};
+ghost use Rattle.image.specs.Reading.{total_in, rate_in};
 ghost use Rattle.dsp.specs.inner.Asked.{Looping};
 ghost use Rattle.dsp.specs.File.{nibble_count, file_bytes};
 ghost use Rattle.dsp.specs.Export.{address_bytes, context_fields, header_bytes, exported};
 
 use crate::fields::{HEADER_BYTES, nibble_count};
+use crate::opened::Opened;
 use block::join::copy;
 use block::{FrameContext, sample_to_address};
 use clip::contents::{put_coefficients, put_context};
@@ -19,86 +19,98 @@ use layout::Loop;
 use layout::fields::{get32, put16, put32, zeros};
 use layout::sizes::{bodies_place, body_bytes};
 
-// The counts and the rate: bytes 0 to 11.
-fn put_counts(out: &mut [u8], total: u32, rate: u32)
-    requires { (1 ≤ total) × (total ≤ 14680064) × (96 ≤ length out.old) }
-    ensures { out.new ≡ sets out.old 0 (be32 total ++ (be32 (nibble_count total) ++ be32 rate)) }
-{
-    put32(out, 0, total);
-    put32(out, 4, nibble_count(total));
-    put32(out, 8, rate);
-}
-
 // The addresses of a loop, zeros without one: bytes 16 to 23.
-fn put_addresses(out: &mut [u8], looped: Loop)
-    requires { Looping looped × (96 ≤ length out.old) }
-    ensures { out.new ≡ sets out.old 16 (address_bytes looped) }
+fn put_addresses(header: &mut [u8; HEADER_BYTES], looped: Loop)
+    requires { Looping looped }
+    ensures { header.new ≡ sets header.old 16 (address_bytes looped) }
 {
-    let present = looped.present;
-    if present {
-        let start = sample_to_address(looped.start) as u32;
-        let last = sample_to_address(looped.end - 1) as u32;
-        put32(out, 16, start);
-        put32(out, 20, last);
+    if looped.present {
+        put32(header, 16, sample_to_address(looped.start) as u32);
+        put32(header, 20, sample_to_address(looped.end - 1) as u32);
     } else {
-        zeros(out, 16, 8);
+        zeros(header, 16, 8);
     }
 }
 
 // Flag, zero, addresses and the number 2: bytes 12 to 27.
-fn put_looped(out: &mut [u8], flag: u16, looped: Loop)
-    requires { Looping looped × (96 ≤ length out.old) }
-    ensures { out.new ≡ sets out.old 12 (be16 flag ++ (be16 0 ++ (address_bytes looped ++ be32 2))) }
+fn put_looped(header: &mut [u8; HEADER_BYTES], flag: u16, looped: Loop)
+    requires { Looping looped }
+    ensures { header.new ≡ sets header.old 12 (be16 flag ++ (be16 0 ++ (address_bytes looped ++ be32 2))) }
 {
-    put16(out, 12, flag);
-    put16(out, 14, 0);
-    put_addresses(out, looped);
-    put32(out, 24, 2);
+    put16(header, 12, flag);
+    put16(header, 14, 0);
+    put_addresses(header, looped);
+    put32(header, 24, 2);
 }
 
 // A header byte and the history samples, two bytes each.
-fn put_context_fields(out: &mut [u8], at: usize, context: FrameContext)
-    requires { at + 6 ≤ length out.old }
-    ensures { out.new ≡ sets out.old at (context_fields context) }
+fn put_context_fields(header: &mut [u8; HEADER_BYTES], at: usize, context: FrameContext)
+    requires { at ≤ 90 }
+    ensures { header.new ≡ sets header.old at (context_fields context) }
 {
-    let history = context.last_samples;
-    put_context(out, at, context.predictor_and_scale, history);
+    put_context(
+        header,
+        at,
+        context.predictor_and_scale,
+        context.last_samples,
+    );
 }
 
 // Gain, both contexts and zeros: bytes 60 to 95.
-fn put_contexts(out: &mut [u8], gain: u16, first: FrameContext, looped: FrameContext)
-    requires { 96 ≤ length out.old }
-    ensures { out.new ≡ sets out.old 60 (be16 gain ++ (context_fields first ++ (context_fields looped ++ replicate 22 0))) }
+fn put_contexts(
+    header: &mut [u8; HEADER_BYTES],
+    gain: u16,
+    first: FrameContext,
+    looped: FrameContext,
+)
+    ensures { header.new ≡ sets header.old 60 (be16 gain ++ (context_fields first ++ (context_fields looped ++ replicate 22 0))) }
 {
-    put16(out, 60, gain);
-    put_context_fields(out, 62, first);
-    put_context_fields(out, 68, looped);
-    zeros(out, 74, 22);
+    put16(header, 60, gain);
+    put_context_fields(header, 62, first);
+    put_context_fields(header, 68, looped);
+    zeros(header, 74, 22);
 }
 
-// The header of the file of an image that opens.
-fn put_header(image: &[u8], out: &mut [u8])
-    requires { Opens image.now × (96 ≤ length out.old) }
-    ensures { out.new ≡ sets out.old 0 (header_bytes image.now) }
-{
-    let looped = read_loop(image);
-    let context = loop_context(image, looped);
-    let first = read_context(image, 0);
-    let coefficients = read_coefficients(image);
-    put_counts(out, get32(image, 4), get32(image, 8));
-    put_looped(out, word_at(image, 50), looped);
-    put_coefficients(out, 28, coefficients);
-    put_contexts(out, word_at(image, 48), first, context);
-}
+impl<'a> Opened<'a> {
+    // The counts and the rate: bytes 0 to 11.
+    fn put_counts(&self, header: &mut [u8; HEADER_BYTES])
+        ensures { header.new ≡ sets header.old 0 (be32 (total_in self.now) ++ (be32 (nibble_count (total_in self.now)) ++ be32 (rate_in self.now))) }
+    {
+        let total = self.total();
+        put32(header, 0, total);
+        put32(header, 4, nibble_count(total));
+        put32(header, 8, get32(self.bytes, 8));
+    }
 
-// The file of an image that opens: its header, and the bodies.
-pub(crate) fn put_file(image: &[u8], out: &mut [u8])
-    requires { Opens image.now × (file_bytes (total_in image.now) ≤ length out.old) }
-    ensures { out.new ≡ sets out.old 0 (exported image.now) }
-{
-    let shape = read_shape(image);
-    let bodies = bodies_place(shape);
-    let end = bodies + body_bytes(shape.total);
-    put_header(image, out);
-    copy(&image[bodies..end], out, HEADER_BYTES);
+    // The header of its file.
+    fn header(&self) -> [u8; HEADER_BYTES]
+        ensures { result ≡ header_bytes self.now }
+    {
+        let image = self.bytes;
+        let looped = read_loop(image);
+        let context = loop_context(image, looped);
+        let mut header = [0u8; HEADER_BYTES];
+        self.put_counts(&mut header);
+        put_looped(&mut header, word_at(image, 50), looped);
+        put_coefficients(&mut header, 28, read_coefficients(image));
+        put_contexts(
+            &mut header,
+            word_at(image, 48),
+            read_context(image, 0),
+            context,
+        );
+        header
+    }
+
+    // Its file: the header, and the bodies.
+    pub(crate) fn put_file(&self, out: &mut [u8])
+        requires { file_bytes (total_in self.now) ≤ length out.old }
+        ensures { out.new ≡ sets out.old 0 (exported self.now) }
+    {
+        let shape = read_shape(self.bytes);
+        let bodies = bodies_place(shape);
+        let end = bodies + body_bytes(shape.total);
+        copy(&self.header(), out, 0);
+        copy(&self.bytes[bodies..end], out, HEADER_BYTES);
+    }
 }

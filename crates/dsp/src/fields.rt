@@ -1,9 +1,9 @@
 // The fields of a .dsp file, and what they say.
-ghost use Rattle.std.specs.Prelude.{◌≡◌, ◌+◌, ◌≤◌, ◌<◌, length};
+ghost use Rattle.std.specs.Prelude.{◌≡◌, ◌≤◌};
 ghost use Rattle.layout.specs.Limits.{Limits};
 ghost use Rattle.layout.specs.Sizes.{image_size};
 ghost use Rattle.clip.specs.Image.{start_shape};
-ghost use Rattle.dsp.specs.File.{nibble_count, file_bytes, loop_of, coefficients_of, context_at};
+ghost use Rattle.dsp.specs.File.{nibble_count, total_of, rate_of, flag_of, start_address_of, last_address_of, loop_of, coefficients_of, context_at, bodies_of};
 ghost use Rattle.dsp.specs.Import.{clip_of};
 
 use block::{FrameContext, address_to_sample, sample_to_address};
@@ -12,7 +12,8 @@ use image::heading::{read_coefficients, signed_at, word_at};
 use image::loops::no_loop;
 use layout::Loop;
 use layout::fields::{get16, get32};
-use layout::sizes::{body_bytes, cut_down, image_size, loop_count, shape_of};
+use layout::sizes::{cut_down, image_size, loop_count, shape_of};
+use std::marker::Model;
 use whole::History;
 
 // The bytes of the header.
@@ -26,82 +27,123 @@ pub(crate) fn nibble_count(total: u32) -> u32
     (sample_to_address(total - 1) + 1) as u32
 }
 
-// The bytes of a clip's file.
-pub(crate) fn file_bytes(total: u32) -> u64
-    requires { (1 ≤ total) × (total ≤ 14680064) }
-    ensures { result ≡ file_bytes total }
-{
-    (HEADER_BYTES + body_bytes(total as usize)) as u64
+// A file that 25 and 4 do not refuse: it has its header, and the bodies that its count needs.
+// A clause sees its bytes.
+#[derive(Drop)]
+pub(crate) struct File<'a> {
+    pub(crate) bytes: &'a [u8],
 }
 
-// A header byte, the newest and the older history sample.
-pub(crate) fn context_at(file: &[u8], at: usize) -> FrameContext
-    requires { (at ≤ 68) × (at + 6 ≤ length file.now) }
-    ensures { result ≡ context_at file.now at }
-{
-    let header = word_at(file, at);
-    let newest = signed_at(file, at + 2);
-    let older = signed_at(file, at + 4);
-    let last_samples = History {
-        newest: newest,
-        older: older,
-    };
-    FrameContext {
-        predictor_and_scale: header,
-        last_samples: last_samples,
+impl<'a> Model for File<'a> {
+    ghost use Rattle.std.specs.Prelude.{ℕ, List};
+
+    ghost Value = { List ℕ };
+
+    ghost view = { λ file. file.bytes.now };
+
+    ghost use Rattle.dsp.specs.inner.Asked.{Whole};
+
+    ghost invariant = { λ file. Whole file.bytes.now };
+}
+
+impl<'a> File<'a> {
+    // The sample count.
+    pub(crate) fn total(&self) -> u32
+        ensures { result ≡ total_of self.now }
+    {
+        get32(self.bytes, 0)
     }
-}
 
-// The sixteen coefficients.
-pub(crate) fn coefficients_of(file: &[u8]) -> [i16; 16]
-    requires { 96 ≤ length file.now }
-    ensures { result ≡ coefficients_of file.now }
-{
-    read_coefficients(&file[12..])
-}
-
-// The loop, or none.
-pub(crate) fn loop_of(file: &[u8]) -> Loop
-    requires { 96 ≤ length file.now }
-    ensures { result ≡ loop_of file.now }
-{
-    if get16(file, 12) != 1 {
-        return no_loop();
+    // The rate.
+    pub(crate) fn rate(&self) -> u32
+        ensures { result ≡ rate_of self.now }
+    {
+        get32(self.bytes, 8)
     }
-    let start = address_to_sample(get32(file, 16));
-    let last = address_to_sample(get32(file, 20));
-    Loop {
-        start: start as u32,
-        end: (last + 1) as u32,
-        present: true,
-    }
-}
 
-// What the file says, at a block size that is cut down to a multiple of 8.
-pub(crate) fn clip_of(file: &[u8], size: u32) -> Start
-    requires { 96 ≤ length file.now }
-    ensures { result ≡ clip_of file.now size }
-{
-    let first = context_at(file, 62);
-    let history = first.last_samples;
-    let coefficients = coefficients_of(file);
-    let looped = loop_of(file);
-    Start {
-        total: get32(file, 0),
-        rate: get32(file, 8),
-        block: cut_down(size),
-        gain: word_at(file, 60),
-        coefficients: coefficients,
-        history: history,
-        looped: looped,
+    // The loop flag.
+    pub(crate) fn flag(&self) -> u32
+        ensures { result ≡ flag_of self.now }
+    {
+        get16(self.bytes, 12)
+    }
+
+    // The address of the loop's first sample.
+    pub(crate) fn start_address(&self) -> u32
+        ensures { result ≡ start_address_of self.now }
+    {
+        get32(self.bytes, 16)
+    }
+
+    // The address of the loop's last sample.
+    pub(crate) fn last_address(&self) -> u32
+        ensures { result ≡ last_address_of self.now }
+    {
+        get32(self.bytes, 20)
+    }
+
+    // The sixteen coefficients.
+    pub(crate) fn coefficients(&self) -> [i16; 16]
+        ensures { result ≡ coefficients_of self.now }
+    {
+        read_coefficients(&self.bytes[12..])
+    }
+
+    // A header byte, the newest and the older history sample.
+    pub(crate) fn context_at(&self, at: usize) -> FrameContext
+        requires { at ≤ 68 }
+        ensures { result ≡ context_at self.now at }
+    {
+        FrameContext {
+            predictor_and_scale: word_at(self.bytes, at),
+            last_samples: History {
+                newest: signed_at(self.bytes, at + 2),
+                older: signed_at(self.bytes, at + 4),
+            },
+        }
+    }
+
+    // The loop, or none.
+    pub(crate) fn looped(&self) -> Loop
+        ensures { result ≡ loop_of self.now }
+    {
+        if self.flag() != 1 {
+            return no_loop();
+        }
+        Loop {
+            start: address_to_sample(self.start_address()) as u32,
+            end: (address_to_sample(self.last_address()) + 1) as u32,
+            present: true,
+        }
+    }
+
+    // The bodies, and what stands behind them.
+    pub(crate) fn bodies(&self) -> &'a [u8]
+        ensures { result.now ≡ bodies_of self.now }
+    {
+        &self.bytes[HEADER_BYTES..]
+    }
+
+    // What the file says, at a block size that is cut down to a multiple of 8.
+    pub(crate) fn clip(&self, size: u32) -> Start
+        ensures { result ≡ clip_of self.now size }
+    {
+        Start {
+            total: self.total(),
+            rate: self.rate(),
+            block: cut_down(size),
+            gain: word_at(self.bytes, 60),
+            coefficients: self.coefficients(),
+            history: self.context_at(62).last_samples,
+            looped: self.looped(),
+        }
     }
 }
 
 // The bytes of the image of a clip that is started so.
-pub(crate) fn image_bytes(g: Start) -> usize
-    requires { Limits (start_shape g) }
-    ensures { result ≡ image_size (start_shape g) }
+pub(crate) fn image_bytes(given: Start) -> usize
+    requires { Limits (start_shape given) }
+    ensures { result ≡ image_size (start_shape given) }
 {
-    let looped = g.looped;
-    image_size(shape_of(g.total, g.block, loop_count(looped)))
+    image_size(shape_of(given.total, given.block, loop_count(given.looped)))
 }

@@ -3,6 +3,7 @@
 
 ghost use Rattle.std.specs.Prelude.{◌≡◌};
 ghost use Rattle.whole.specs.Outcome.{effect};
+ghost use Rattle.dsp.specs.declared.Refusal.TheVariants.{OfImage};
 ghost use Rattle.dsp.specs.Answers.{code, bad_block, written};
 ghost use Rattle.dsp.specs.Export.{export_image};
 ghost use Rattle.dsp.specs.Import.{room_for, import_file};
@@ -11,15 +12,15 @@ mod checks;
 mod exporting;
 mod fields;
 mod importing;
+mod opened;
 
-use checks::{export_answer, file_answer, import_answer};
-use exporting::put_file;
-use fields::{clip_of, image_bytes};
+use checks::{accept, exportable};
+use fields::image_bytes;
 use importing::put_image;
-use layout::fields::get32;
+use whole::Reason;
 
 // Why a call is refused; one of them names the block that another history stands before, and an image's may name the block whose entry is bad.
-#[derive(Clone, Copy)]
+#[derive(Clone, Copy, Debug, PartialEq, Eq)]
 pub enum Refusal {
     BadSampleCount,
     RateZero,
@@ -33,91 +34,71 @@ pub enum Refusal {
     OfImage(image::Refusal),
 }
 
-#[derive(Drop)]
-pub enum Answer {
-    Accepted,
-    Refused(Refusal),
-}
+impl From<image::Refusal> for Refusal {
+    ghost from_gives = { λ why refusal. refusal ≡ OfImage why };
 
-// The answer of export and of import: how many bytes, or the refusal.
-#[derive(Drop)]
-pub enum Written {
-    Done(u64),
-    Refused(Refusal),
-}
-
-// The number of a refusal in documents 01 and 02.
-pub fn code(refusal: Refusal) -> u32
-    ensures { result ≡ code refusal }
-{
-    match refusal {
-        Refusal::BadSampleCount => 4,
-        Refusal::RateZero => 5,
-        Refusal::BadBlockSize => 6,
-        Refusal::ImageTooShort => 8,
-        Refusal::LowestPair => 13,
-        Refusal::OutputTooShort => 14,
-        Refusal::FileTooShort => 25,
-        Refusal::BadField => 26,
-        Refusal::OtherHistory(_) => 35,
-        Refusal::OfImage(why) => image::code(why),
+    fn from(why: image::Refusal) -> Refusal {
+        Refusal::OfImage(why)
     }
 }
 
-// The block that a refusal names, or 0 where it names none.
-pub fn bad_block(refusal: Refusal) -> u32
-    ensures { result ≡ bad_block refusal }
-{
-    match refusal {
-        Refusal::BadSampleCount => 0,
-        Refusal::RateZero => 0,
-        Refusal::BadBlockSize => 0,
-        Refusal::ImageTooShort => 0,
-        Refusal::LowestPair => 0,
-        Refusal::OutputTooShort => 0,
-        Refusal::FileTooShort => 0,
-        Refusal::BadField => 0,
-        Refusal::OtherHistory(j) => j,
-        Refusal::OfImage(why) => image::bad_block(why),
+impl Reason for Refusal {
+    ghost number = { code };
+
+    ghost named = { bad_block };
+
+    fn code(self) -> u32 {
+        match self {
+            Refusal::BadSampleCount => 4,
+            Refusal::RateZero => 5,
+            Refusal::BadBlockSize => 6,
+            Refusal::ImageTooShort => 8,
+            Refusal::LowestPair => 13,
+            Refusal::OutputTooShort => 14,
+            Refusal::FileTooShort => 25,
+            Refusal::BadField => 26,
+            Refusal::OtherHistory(_) => 35,
+            Refusal::OfImage(why) => why.code(),
+        }
+    }
+
+    fn bad_block(self) -> u32 {
+        match self {
+            Refusal::OtherHistory(j) => j,
+            Refusal::OfImage(why) => why.bad_block(),
+            _ => 0,
+        }
     }
 }
 
-// Exports an image's clip: the .dsp file to the output.
-pub fn export(image: &[u8], out: &mut [u8]) -> Written
+// Exports an image's clip: the .dsp file to the output; how many bytes.
+pub fn export(image: &[u8], out: &mut [u8]) -> Result<u64, Refusal>
     ensures { effect (written result) out.new ≡ export_image image.now out.old }
 {
-    let answer = export_answer(image, out.len());
-    match answer {
-        Answer::Accepted => {
-            put_file(image, out);
-            Written::Done(fields::file_bytes(get32(image, 4)))
-        }
-        Answer::Refused(why) => Written::Refused(why),
-    }
+    let taken = exportable(image, out.len())?;
+    taken.put_file(out);
+    Ok(taken.file_bytes() as u64)
 }
 
 // How much room import needs for the image of a file, or its refusal before the room is asked for.
-pub fn room_for(file: &[u8], size: u32) -> Written
+pub fn room_for(file: &[u8], size: u32) -> Result<u64, Refusal>
     ensures { written result ≡ room_for file.now size }
 {
-    let answer = file_answer(file, size);
-    match answer {
-        Answer::Accepted => Written::Done(image_bytes(clip_of(file, size)) as u64),
-        Answer::Refused(why) => Written::Refused(why),
-    }
+    let accepted = accept(file, size)?;
+    Ok(image_bytes(accepted.clip(size)) as u64)
 }
 
-// Imports a .dsp file: the image, in blocks of the size given, to the buffer.
-pub fn import(file: &[u8], size: u32, image: &mut [u8]) -> Written
+// Imports a .dsp file: the image, in blocks of the size given, to the buffer; how many bytes.
+pub fn import(file: &[u8], size: u32, image: &mut [u8]) -> Result<u64, Refusal>
     ensures { effect (written result) image.new ≡ import_file file.now size image.old }
 {
-    let answer = import_answer(file, size, image.len());
-    match answer {
-        Answer::Accepted => {
-            let given = clip_of(file, size);
-            put_image(file, given, image);
-            Written::Done(image_bytes(given) as u64)
-        }
-        Answer::Refused(why) => Written::Refused(why),
+    let accepted = accept(file, size)?;
+    let given = accepted.clip(size);
+    let needed = image_bytes(given);
+    let short = image.len() < needed;
+    if short {
+        return Err(Refusal::ImageTooShort);
     }
+    put_image(&accepted, given, image);
+    Ok(needed as u64)
 }

@@ -1,13 +1,11 @@
 -- The encoded frame: header, nibbles, history, and the one-frame call. Definitions only.
-use Rattle.std.specs.Prelude.{Bool, true, cond, ◌&&◌, List, [], ◌∷◌, ◌++◌, ℕ, zero, suc, ◌+◌, ◌-◌, ◌*◌, ◌/◌, ◌%◌, eqb, leb, ℤ, pos, negsuc, nat_abs, get_or, replicate}
+use Rattle.std.specs.Prelude.{Bool, true, cond, ◌&&◌, List, [], ◌∷◌, ◌++◌, ℕ, zero, suc, ◌+◌, ◌-◌, ◌*◌, ◌/◌, ◌%◌, eqb, leb, ℤ, pos, negsuc, nat_abs, get_or, replicate, Result}
 use Rattle.whole.specs.declared.History.{History}
 use Rattle.frame.specs.declared.EncodedFrame.{EncodedFrame}
 use Rattle.frame.specs.declared.OneFrame.{OneFrame}
 use Rattle.frame.specs.declared.Refusal.{Refusal}
 use Rattle.frame.specs.declared.Refusal.TheVariants.{CoefficientOutside}
-use Rattle.frame.specs.declared.Verdict.{Verdict}
-use Rattle.frame.specs.declared.Verdict.TheVariants.{Encoded, Refused}
-use Rattle.whole.specs.Outcome.{Outcome, accepted, refused}
+use Rattle.whole.specs.Outcome.{Outcome, accepted, refused, answered, or_kept, without_values}
 use Rattle.frame.specs.Pass.{pair_limit}
 use Rattle.frame.specs.Choice.{c0_at, c1_at, candidate_at, winner, passes_up_to}
 
@@ -65,10 +63,9 @@ coefficients_ok cs = pairs_ok cs 8
 abbrev pub code : Refusal → ℕ
 code CoefficientOutside = 7
 
--- what a verdict says, by document 01's numbers
-abbrev pub outcome : Verdict → Outcome Unit
-outcome Encoded = accepted tt
-outcome (Refused r) = refused (code r)
+-- what an answer says, by document 01's numbers
+abbrev pub outcome : Result OneFrame Refusal → Outcome Unit
+outcome a = without_values (answered code (λ r. 0) a)
 
 -- what the one-frame call answers: its outcome, and the bytes, passes and history that come with it
 pub record FrameEffect : Type 0 where
@@ -77,9 +74,13 @@ pub record FrameEffect : Type 0 where
   pub passes : ℕ
   pub history : History
 
--- what an answer is, by document 01's numbers and values
-abbrev pub frame_effect : OneFrame → FrameEffect
-frame_effect o = record { outcome = outcome o.verdict; bytes = o.bytes; passes = o.passes; history = o.history }
+-- what a refused frame leaves: no bytes, no passes, and the history h that was given
+abbrev pub no_frame : History → OneFrame
+no_frame h = record { bytes = replicate 8 0; passes = 0; history = h }
+
+-- what an answer is after the history h, by document 01's numbers and values
+abbrev pub frame_effect : History → Result OneFrame Refusal → FrameEffect
+frame_effect h a = let o = or_kept a (no_frame h) in record { outcome = outcome a; bytes = o.bytes; passes = o.passes; history = o.history }
 
 -- "answers the eight bytes, the passes and the new history"; a refusal answers no bytes, no passes and the history given
 unfoldable pub encode_one_frame : History → List ℤ → List ℤ → FrameEffect

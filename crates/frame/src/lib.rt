@@ -7,19 +7,20 @@ ghost use Rattle.frame.specs.Frame.{code, coefficients_ok, encode_frame, encode_
 
 mod choice;
 mod estimate;
-mod narrow;
 mod nibbles;
+mod pair;
 mod pass;
 mod places;
 mod quantise;
 mod quick;
+mod room;
 mod search;
 mod seen;
 
-use choice::choose;
+use choice::{Held, choose};
 use nibbles::pack_frame;
-use quantise::magnitudes;
-use whole::History;
+use pair::magnitudes;
+use whole::{History, Reason};
 
 // A frame's eight bytes, the passes over all eight candidates, and the samples that the bytes play.
 #[derive(Clone, Copy)]
@@ -30,22 +31,31 @@ pub struct EncodedFrame {
 }
 
 // Why a frame is refused.
-#[derive(Drop)]
+#[derive(Clone, Copy, Debug, PartialEq, Eq)]
 pub enum Refusal {
     CoefficientOutside,
 }
 
-// Whether a frame was encoded.
-#[derive(Drop)]
-pub enum Verdict {
-    Encoded,
-    Refused(Refusal),
+// Document 01's number of a refusal.
+impl Reason for Refusal {
+    ghost number = { code };
+
+    ghost named = { λ r. 0 };
+
+    fn code(self) -> u32 {
+        match self {
+            Refusal::CoefficientOutside => 7,
+        }
+    }
+
+    fn bad_block(self) -> u32 {
+        0
+    }
 }
 
-// The one-frame call's answer.
-#[derive(Drop)]
+// A frame's eight bytes, the passes over all eight candidates, and the history after it.
+#[derive(Clone, Copy)]
 pub struct OneFrame {
-    pub verdict: Verdict,
     pub bytes: [u8; 8],
     pub passes: u32,
     pub history: History,
@@ -62,18 +72,12 @@ fn pair_ok(c0: i16, c1: i16) -> bool
 pub fn coefficients_ok(coefficients: [i16; 16]) -> bool
     ensures { result ≡ coefficients_ok coefficients }
 {
-    let mut ok = true;
-    let mut i: usize = 0;
-    while i < 8 {
-        let c0 = coefficients[2 * i];
-        let c1 = coefficients[2 * i + 1];
-        let good = pair_ok(c0, c1);
-        if !good {
-            ok = false;
+    for i in 0..8 {
+        if !pair_ok(coefficients[2 * i], coefficients[2 * i + 1]) {
+            return false;
         }
-        i = i + 1;
     }
-    ok
+    true
 }
 
 // The frame of fourteen samples after `history`, padding zeros among them. It is internal: crate clip calls it.
@@ -81,15 +85,17 @@ pub fn encode_frame(history: History, samples: [i16; 14], coefficients: [i16; 16
     requires { AllBounded coefficients }
     ensures { result ≡ encode_frame history samples coefficients }
 {
-    let held = choose(history, samples, coefficients);
-    let candidate = held.candidate;
-    let nibbles = candidate.nibbles;
-    let kept = candidate.samples;
-    let bytes = pack_frame(held.index * 16 + candidate.exponent, nibbles);
+    let Held {
+        candidate,
+        index,
+        passes,
+    } = choose(history, samples, coefficients);
+    let samples = candidate.samples;
+    let bytes = pack_frame(index * 16 + candidate.exponent, candidate.nibbles);
     EncodedFrame {
-        bytes: bytes,
-        passes: held.passes,
-        samples: kept,
+        bytes,
+        passes,
+        samples,
     }
 }
 
@@ -98,51 +104,38 @@ pub fn history_after(history: History, samples: [i16; 14], m: usize) -> History
     requires { m ≤ 14 }
     ensures { result ≡ history_after history samples m }
 {
-    if m == 0 {
-        return history;
-    }
-    let newest = samples[m - 1];
-    if m == 1 {
-        return History {
-            newest: newest,
+    match m {
+        0 => history,
+        1 => History {
+            newest: samples[0],
             older: history.newest,
-        };
-    }
-    let older = samples[m - 2];
-    History {
-        newest: newest,
-        older: older,
+        },
+        _ => History {
+            newest: samples[m - 1],
+            older: samples[m - 2],
+        },
     }
 }
 
 // Encodes one frame, or refuses its coefficients.
-pub fn encode_one_frame(history: History, samples: [i16; 14], coefficients: [i16; 16]) -> OneFrame
-    ensures { frame_effect result ≡ encode_one_frame history samples coefficients }
+pub fn encode_one_frame(
+    history: History,
+    samples: [i16; 14],
+    coefficients: [i16; 16],
+) -> Result<OneFrame, Refusal>
+    ensures { frame_effect history result ≡ encode_one_frame history samples coefficients }
 {
     if !coefficients_ok(coefficients) {
-        return OneFrame {
-            verdict: Verdict::Refused(Refusal::CoefficientOutside),
-            bytes: [0u8; 8],
-            passes: 0,
-            history: history,
-        };
+        return Err(Refusal::CoefficientOutside);
     }
-    let frame = encode_frame(history, samples, coefficients);
-    let bytes = frame.bytes;
-    let kept = frame.samples;
-    OneFrame {
-        verdict: Verdict::Encoded,
-        bytes: bytes,
-        passes: frame.passes,
+    let EncodedFrame {
+        bytes,
+        passes,
+        samples: kept,
+    } = encode_frame(history, samples, coefficients);
+    Ok(OneFrame {
+        bytes,
+        passes,
         history: history_after(history, kept, 14),
-    }
-}
-
-// Document 01's number of a refusal.
-pub fn code(refusal: Refusal) -> u32
-    ensures { result ≡ code refusal }
-{
-    match refusal {
-        Refusal::CoefficientOutside => 7,
-    }
+    })
 }

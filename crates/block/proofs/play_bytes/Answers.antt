@@ -19,17 +19,17 @@ returns-then-short c =
     let a = c.args in
     play-14 a.bytes.now a.len a.coefficients a.context a.out.now (sym c.bad_length.ensures ∙ c.if-bad_length.false)
     (sym c.lowest_pair.ensures ∙ c.if-lowest_pair.false)
-    (omega (arith, c.address_to_sample-samples.ensures))
+    (omega (arith, c.address_to_sample-count.ensures))
 
 pub play_into-after-requires : goal.play_into-after-requires
 play_into-after-requires c =
     let a = c.args in
     let good = good_length a.len (length a.bytes.now) (sym c.bad_length.ensures ∙ c.if-bad_length.false) in
-    (good.0, good.1, omega (arith, c.address_to_sample-samples.ensures))
+    (good.0, good.1, omega (arith, c.address_to_sample-count.ensures))
 
 pub returns : goal.returns
 returns c =
     let a = c.args in
     play-done a.bytes.now a.len a.coefficients a.context a.out.now _ _ (sym c.bad_length.ensures ∙ c.if-bad_length.false)
     (sym c.lowest_pair.ensures ∙ c.if-lowest_pair.false)
-    (omega (arith, c.address_to_sample-samples.ensures)) c.address_to_sample-samples.ensures c.play_into-after.ensures
+    (omega (arith, c.address_to_sample-count.ensures)) c.address_to_sample-count.ensures c.play_into-after.ensures

@@ -15,6 +15,10 @@ pub record Decoded : Type 0 where
 abbrev pub decoded : History → List ℤ → Decoded
 decoded h xs = record { history = h; samples = xs }
 
+-- the history after one nibble more: its newest is the nibble's sample
+abbrev pub advanced : ℤ → ℤ → ℕ → History → ℕ → History
+advanced c0 c1 scale h n = history_with (decode_sample c0 c1 h.newest h.older n scale) h.newest
+
 -- one nibble more
 unfoldable pub decode_nibble : ℤ → ℤ → ℕ → Decoded → ℕ → Decoded
 decode_nibble c0 c1 scale d n =

@@ -17,6 +17,13 @@ pub record Room (s : Shape) (q k len : ℕ) : Type 0 where
   pub body : 8 * q + k ≤ body_bytes s.total
   pub size : image_size s ≤ len
 
+-- frame q, the unfinished one, of which m samples count, is within the image, and the passes are not too many
+pub record Framed (e : Encoder) (q m len : ℕ) : Type 0 where
+  pub room : Room (encoder_shape e) q (1 + (m + 1) / 2) len
+  pub samples : m ≤ 14
+  pub within : coefficients_ok e.coefficients ≡ true
+  pub count : e.passes ≤ 104 * q
+
 -- of m samples i are in: the others fit the clip, and the image is large enough
 pub record Going (e : Encoder) (i m len : ℕ) : Type 0 where
   pub limits : Limits (encoder_shape e)
