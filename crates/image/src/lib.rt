@@ -53,7 +53,7 @@ pub enum Refusal {
 
 // What the head of an image says: N, rate, B, gain, coefficients and K.
 #[repr(C)]
-#[derive(Clone, Copy)]
+#[derive(Clone, Copy, Default)]
 pub struct Head {
     pub total: u32,
     pub rate: u32,
@@ -64,7 +64,7 @@ pub struct Head {
 }
 
 // What opening tells: the head's values, and the loop with the context at its start, zeros where there is none.
-#[derive(Drop)]
+#[derive(Clone, Copy, Default)]
 pub struct Opening {
     pub head: Head,
     pub looped: Loop,
@@ -72,7 +72,7 @@ pub struct Opening {
 }
 
 // What playing from a sample on gives: how many samples were played and how many blocks touched.
-#[derive(Drop)]
+#[derive(Clone, Copy, Default)]
 pub struct Part {
     pub samples: u64,
     pub blocks: u32,

@@ -1,5 +1,5 @@
 // The loop of an image: reading it, testing it, playing it.
-ghost use Rattle.std.specs.Prelude.{◌&&◌, ◌≡◌, ◌*◌, eqb, length};
+ghost use Rattle.std.specs.Prelude.{◌≡◌, ◌*◌, length};
 ghost use Rattle.std.proofs.lemmas.List.Edits.{sets};
 ghost use Rattle.whole.specs.Outcome.{effect};
 ghost use Rattle.layout.specs.Sizes.{no_loop};
@@ -26,11 +26,7 @@ use whole::{BYTES_PER_FRAME, SAMPLES_PER_FRAME};
 pub fn no_loop() -> Loop
     ensures { result ≡ no_loop }
 {
-    Loop {
-        start: 0,
-        end: 0,
-        present: false,
-    }
+    Loop::default()
 }
 
 // The loop that the entry after the blocks' says, or none. It is internal: crate dsp calls it.
@@ -42,11 +38,9 @@ pub fn read_loop(image: &[u8]) -> Loop
         return no_loop();
     }
     let at = entry_place(get32(image, 52) as usize);
-    let start = get32(image, at);
-    let end = get32(image, at + 4);
     Loop {
-        start: start,
-        end: end,
+        start: get32(image, at),
+        end: get32(image, at + 4),
         present: true,
     }
 }
@@ -56,19 +50,11 @@ pub fn loop_context(image: &[u8], looped: Loop) -> FrameContext
     requires { Headed image.now × (looped ≡ loop_in image.now) }
     ensures { result ≡ loop_context_in image.now }
 {
-    let present = looped.present;
-    if present {
-        return read_context(image, get32(image, 52) as usize);
+    if looped.present {
+        read_context(image, get32(image, 52) as usize)
+    } else {
+        FrameContext::new()
     }
-    FrameContext::new()
-}
-
-// Whether the header byte that is told is the frame's, and the zero bytes are zero.
-fn entry_told(told: u32, header: u32, zero: u32) -> bool
-    ensures { result ≡ eqb told header && eqb zero 0 }
-{
-    let same = told == header;
-    same && zero == 0
 }
 
 // Code 24 is not to be given: no loop, or one within N samples whose entry tells its frame's header byte and ends in zeros.
@@ -77,22 +63,19 @@ pub(crate) fn loop_fits(image: &[u8]) -> bool
     ensures { result ≡ loop_fits image.now }
 {
     let looped = read_loop(image);
-    let start = looped.start;
-    let present = looped.present;
     if !loop_ok(looped, get32(image, 4)) {
         return false;
     }
-    if !present {
+    if !looped.present {
         return true;
     }
     let at = entry_place(get32(image, 52) as usize);
     let frame = bodies_place(read_shape(image))
-        + BYTES_PER_FRAME * (start as usize / SAMPLES_PER_FRAME);
-    entry_told(
-        get16(image, at + 8),
-        u32::from(image[frame]),
-        get16(image, at + 14),
-    )
+        + BYTES_PER_FRAME * (looped.start as usize / SAMPLES_PER_FRAME);
+    let told = get16(image, at + 8);
+    let header = u32::from(image[frame]);
+    let same = told == header;
+    same && get16(image, at + 14) == 0
 }
 
 // The loop `times` times over to the output, each turn from the stored context.
@@ -109,12 +92,9 @@ fn play_turns(
 {
     let first = looped.start as usize;
     let count = looped.end as usize - first;
-    let mut done: usize = 0;
-    let mut turn: u32 = 0;
-    while turn < times {
+    for turn in 0..times {
+        let done = turn as usize * count;
         play_run(image, first, count, context, coefficients, &mut out[done..]);
-        done += count;
-        turn += 1;
     }
 }
 
@@ -125,10 +105,10 @@ pub(crate) fn play_loop_opened(image: &[u8], times: u32, out: &mut [i16]) -> Res
 {
     let coefficients = read_coefficients(image);
     let looped = read_loop(image);
-    let present = looped.present;
-    let samples = times as u64 * (looped.end - looped.start) as u64;
+    let once = looped.end - looped.start;
+    let samples = u64::from(times) * u64::from(once);
     room_answer(coefficients, samples, out.len())?;
-    if present {
+    if looped.present {
         let context = loop_context(image, looped);
         play_turns(image, looped, times, context, coefficients, out);
     }

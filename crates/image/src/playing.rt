@@ -31,11 +31,9 @@ fn play_block(
     requires { Playable image.now k (length out.old) × (entry ≡ read_entry image.now k) × (coefficients ≡ coefficients_in image.now) }
     ensures { playing result out.new ≡ play_into (body_in image.now k) (coefficients_in image.now) (length_in image.now k) (context_in image.now k) out.old }
 {
-    let offset = entry.offset as usize;
     let nibbles = entry.nibbles as usize;
-    let context = entry.context;
-    let body = find_body(image, offset, nibbles);
-    play_into(body, nibbles, coefficients, context, out)
+    let body = find_body(image, entry.offset as usize, nibbles);
+    play_into(body, nibbles, coefficients, entry.context, out)
 }
 
 // Plays block k of an image that has it.
@@ -59,13 +57,10 @@ fn play_blocks(image: &[u8], coefficients: [i16; 16], out: &mut [i16]) -> FrameC
     let blocks = get32(image, 52) as usize;
     let mut context = FrameContext::new();
     let mut at: usize = 0;
-    let mut k: usize = 0;
-    while k < blocks {
+    for k in 0..blocks {
         let entry = read_entry(image, k);
-        let nibbles = entry.nibbles;
         context = play_block(image, k, entry, coefficients, &mut out[at..]);
-        at += address_to_sample(nibbles) as usize;
-        k += 1;
+        at += address_to_sample(entry.nibbles) as usize;
     }
     context
 }

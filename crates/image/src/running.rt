@@ -1,5 +1,5 @@
 // Playing a run of an image's samples, from one of them on.
-ghost use Rattle.std.specs.Prelude.{◌≡◌, ◌+◌, ◌-◌, ◌*◌, ◌≤◌, ◌<◌, min, length, take};
+ghost use Rattle.std.specs.Prelude.{◌≡◌, ◌+◌, ◌-◌, ◌*◌, ◌≤◌, ◌<◌, length, take};
 ghost use Rattle.std.proofs.lemmas.List.Edits.{sets};
 ghost use Rattle.image.specs.inner.Asked.{Opens, Found, SomeOf, Later, Run};
 ghost use Rattle.image.specs.inner.Runs.{context_at_sample, part_of};
@@ -17,13 +17,6 @@ use block::part::{context_after, play_on};
 use block::{FrameContext, sample_to_address};
 use layout::fields::get32;
 use whole::{BYTES_PER_FRAME, SAMPLES_PER_FRAME};
-
-// The smaller of two numbers.
-fn least(a: usize, b: usize) -> usize
-    ensures { result ≡ min a b }
-{
-    if a < b { a } else { b }
-}
 
 // The samples of a whole block.
 fn per_block(image: &[u8]) -> usize
@@ -95,15 +88,13 @@ fn play_later_blocks(
     ensures stored { out.new ≡ sets out.old 0 (take count (samples_from image.now k (blocks_in image.now - k))) }
 {
     let per = per_block(image);
-    let mut done: usize = 0;
-    let mut j: usize = 0;
-    while done < count {
-        let here = least(per, count - done);
+    let blocks = count.div_ceil(per);
+    for j in 0..blocks {
+        let done = j * per;
+        let here = per.min(count - done);
         play_first(image, k + j, here, coefficients, &mut out[done..]);
-        done += here;
-        j += 1;
     }
-    j
+    blocks
 }
 
 // `count` samples from sample `first` of the clip on to the output: its block's under the context given, then the later blocks'. Answers the blocks visited.
@@ -122,7 +113,7 @@ pub(crate) fn play_run(
     let per = per_block(image);
     let k = first / per;
     let from = first % per;
-    let done = least(per - from, count);
+    let done = (per - from).min(count);
     play_in_block(image, k, from, done, context, coefficients, out);
     let later = play_later_blocks(image, k + 1, count - done, coefficients, &mut out[done..]);
     1 + later
@@ -134,7 +125,7 @@ pub(crate) fn play_part(image: &[u8], first: usize, out: &mut [i16]) -> Part
     ensures { effect (accepted (part_counts result)) out.new ≡ part_of image.now first out.old }
 {
     let left = get32(image, 4) as usize - first;
-    let count = least(out.len(), left);
+    let count = out.len().min(left);
     if count == 0 {
         return Part {
             samples: 0,

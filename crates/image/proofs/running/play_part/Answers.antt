@@ -14,14 +14,14 @@ pub returns-then-count-eq0 : goal.returns-then-count-eq0
 unfolding total_in
 returns-then-count-eq0 c =
     let a = c.args in
-    let n : c.least-count.result ≡ run_count a.image.now a.first (length a.out.now) = c.least-count.ensures ∙ ap (λ (n : ℕ). min (length a.out.now) (n - a.first)) c.get32.ensures in
+    let n : c.min-count.result ≡ run_count a.image.now a.first (length a.out.now) = c.min-count.ensures ∙ ap (λ (n : ℕ). min (length a.out.now) (n - a.first)) c.get32.ensures in
     part_none a.image.now a.first _ _ n (omega (arith, c.if-count-eq0.true))
 
 pub play_run-blocks-requires : goal.play_run-blocks-requires
 unfolding total_in
 play_run-blocks-requires c =
     let a = c.args in
-    let n : c.least-count.result ≡ run_count a.image.now a.first (length a.out.now) = c.least-count.ensures ∙ ap (λ (n : ℕ). min (length a.out.now) (n - a.first)) c.get32.ensures in (
+    let n : c.min-count.result ≡ run_count a.image.now a.first (length a.out.now) = c.min-count.ensures ∙ ap (λ (n : ℕ). min (length a.out.now) (n - a.first)) c.get32.ensures in (
       record { opens = c.requires.0; some = omega (arith, c.if-count-eq0.false); inside = omega (arith, n, c.requires.1) },
       c.read_coefficients-coefficients.ensures,
       omega (arith, n),
@@ -30,7 +30,7 @@ play_run-blocks-requires c =
 pub overflow_cast-result : goal.overflow_cast-result
 overflow_cast-result c =
     let l = c.args.image.now in
-    let t = touched-le (per_block l) c.args.first c.least-count.result (blocks_in l) in
+    let t = touched-le (per_block l) c.args.first c.min-count.result (blocks_in l) in
     let k = blocks-few l c.requires.0 in
     omega (arith, c.play_run-blocks.ensures.visited, t, k)
 
@@ -38,6 +38,6 @@ pub returns : goal.returns
 unfolding total_in
 returns c =
     let a = c.args in
-    let n : c.least-count.result ≡ run_count a.image.now a.first (length a.out.now) = c.least-count.ensures ∙ ap (λ (n : ℕ). min (length a.out.now) (n - a.first)) c.get32.ensures in
-    let r : Run a.image.now a.first c.least-count.result = record { opens = c.requires.0; some = omega (arith, c.if-count-eq0.false); inside = omega (arith, n, c.requires.1) } in
+    let n : c.min-count.result ≡ run_count a.image.now a.first (length a.out.now) = c.min-count.ensures ∙ ap (λ (n : ℕ). min (length a.out.now) (n - a.first)) c.get32.ensures in
+    let r : Run a.image.now a.first c.min-count.result = record { opens = c.requires.0; some = omega (arith, c.if-count-eq0.false); inside = omega (arith, n, c.requires.1) } in
     part-made a.image.now a.first _ _ _ _ r n c.play_run-blocks.ensures.visited (rw c.context_at_sample-context.ensures at c.play_run-blocks.ensures.stored)

@@ -13,8 +13,8 @@ use Rattle.image.proofs.running.play_run.Statement.{statement}
 use Rattle.image.proofs.running.play_run.Tie as tie
 
 -- the samples of the first block
-here : (c : tie.After-least-done) → let a = c.before.before.before.args in let p = per_block a.image.now in c.least-done.result ≡ min (p - a.first % p) a.count
-here c = c.least-done.ensures ∙ rw c.before.per_block-per.ensures
+here : (c : tie.After-min-done) → let a = c.before.before.before.args in let p = per_block a.image.now in c.min-done.result ≡ min (p - a.first % p) a.count
+here c = c.min-done.ensures ∙ rw c.before.per_block-per.ensures
 
 -- the blocks visited
 visited : (c : tie.After-play_later_blocks-later) → let a = c.before.before.before.before.before.before.before.before.args in
@@ -33,13 +33,13 @@ div-k c = search rules
 rem-from : tie.Need-nonzero_rem-from
 rem-from c = search rules
 
-sub-least : tie.Need-overflow_sub-per
-sub-least c = let s = c.before.before in
+sub-min : tie.Need-overflow_sub-per
+sub-min c = let s = c.before.before in
     let i = from-inside s.args.image.now s.args.first s.args.count s.requires.0 in
     rw c.per_block-per.ensures (omega (arith, i))
 
-least-requires : tie.Need-least-done-requires
-least-requires c κs = search rules
+min-requires : tie.Need-min-done-requires
+min-requires c κs = search rules
 
 play-in-block-requires : tie.Need-play_in_block-requires
 play-in-block-requires c κs = let m = c.before in
@@ -79,7 +79,7 @@ play-later-blocks-requires c κs = let m = c.before.before.before.before in
     let s = m.before.before.before in
     let h = here m in
     let left = c.before.before.play_in_block.new.out in
-    let d = ap length (part-all left m.least-done.result) ∙ length-drop m.least-done.result left in (
+    let d = ap length (part-all left m.min-done.result) ∙ length-drop m.min-done.result left in (
       rw m.before.per_block-per.ensures (later-run s.args.image.now s.args.first s.args.count s.requires.0 _ h),
       s.requires.1,
       omega (arith, d, c.before.out-1.given, s.requires.2),
@@ -114,8 +114,8 @@ play_run_spec =
     per-block-requires
     div-k
     rem-from
-    sub-least
-    least-requires
+    sub-min
+    min-requires
     play-in-block-requires
     add-play-later-blocks
     sub-play-later-blocks
