@@ -1,5 +1,5 @@
 -- A pattern taken apart, and the fused multiply-add of three of them. Assumes nothing.
-use Rattle.std.proofs.Common.{◌≡◌, ℕ, zero, suc, ◌+◌, ◌-◌, ◌*◌, ◌/◌, ◌%◌, ◌^◌, ◌<◌, ◌≤◌, Bool, true, cond, not, ◌&&◌, eqb, ltb, leb, sym, refl, ap, ◌∙◌, subst, inl, le_trans, le_of_eq, lt_of_lt_of_le, le-add_right, lt_of_le_of_lt, le_of_lt, mul-le-mul_right, mod-lt, mod-eq_of_lt, mul_assoc, mul_comm, div-lt_iff_lt-mul, lt_of_mul-lt-mul_right, mul-le-mul_left, mul-lt-mul_of_pos_right, lt_of_not-le, div-add-mod', mul-one, not-le_of_lt, le_of_mul-le-mul_right, mul_left_comm, arith, lit≤, eqb→eq, pow_pos, pow_mono, pow-add, shl_lt, ltb-false, ltb-true, lt-ltb}
+use Rattle.std.proofs.Common.{◌≡◌, ℕ, zero, suc, ◌+◌, ◌-◌, ◌*◌, ◌/◌, ◌%◌, ◌^◌, ◌<◌, ◌≤◌, Bool, true, cond, not, eqb, ltb, leb, sym, refl, ap, ◌∙◌, subst, inl, le_trans, le_of_eq, lt_of_lt_of_le, le-add_right, lt_of_le_of_lt, le_of_lt, mul-le-mul_right, mod-lt, mod-eq_of_lt, mul_assoc, mul_comm, div-lt_iff_lt-mul, lt_of_mul-lt-mul_right, mul-le-mul_left, mul-lt-mul_of_pos_right, lt_of_not-le, div-add-mod', mul-one, not-le_of_lt, le_of_mul-le-mul_right, mul_left_comm, arith, lit≤, eqb→eq, pow_pos, pow_mono, pow-add, shl_lt, ltb-false, ltb-true, lt-ltb}
 use native.Mathlib.Nat.{mul-mod_left}
 use lib.Dec.{not_T}
 use borrow.Author.Tests.{not-true}
@@ -131,7 +131,7 @@ module _ (b : ℕ) (P : Plain b) where
       at zero n h = absurd (n refl)
       at (suc x) n h = high_value (leb (2 ^ 63) b) x (b % 2 ^ 52) h
 
--- ---- the words
+-- ---- the two terms
 pub product-justified : (m n : ℕ) → 2 ^ 52 ≤ m → m < 2 ^ 53 → 2 ^ 52 ≤ n → n < 2 ^ 53 → LeftJustified (m * 1024 * (n * 1024))
 product-justified m n a b c d = record {
   least = le_trans (lit≤ tt) (le_trans (mul-le-mul_left (2 ^ 62) (up n c)) (mul-le-mul_right (n * 1024) (up m a)));

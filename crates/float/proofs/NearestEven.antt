@@ -1,5 +1,5 @@
--- What `sticky`, `nearest_even` and `nearest_even_53` compute, on plain numbers. Assumes nothing.
-use Rattle.std.proofs.Common.{◌≡◌, ℕ, zero, suc, ◌+◌, ◌-◌, ◌*◌, ◌/◌, ◌%◌, ◌^◌, ◌<◌, ◌≤◌, sym, refl, ap, ◌∙◌, lt_of_le_of_lt, mod-lt, mod-eq_of_lt, mul_assoc, suc-mul, pow-suc, div-add-mod', div-le_self, mul_right_comm, div-mul-le_self, arith, pow_pos}
+-- What `shift_right_sticky` and `nearest_even` compute, on plain numbers. Assumes nothing.
+use Rattle.std.proofs.Common.{◌≡◌, ℕ, zero, suc, ◌+◌, ◌-◌, ◌*◌, ◌/◌, ◌%◌, ◌^◌, ◌<◌, ◌≤◌, sym, refl, ap, ◌∙◌, lt_of_le_of_lt, mod-lt, mod-eq_of_lt, mul_assoc, suc-mul, pow-suc, div-add-mod', mul_right_comm, div-mul-le_self, arith}
 use Prim.Native.Nat.{compare, Ordering}
 use native.Mathlib.Nat.{div-div-eq-div-mul}
 use lib.Bits.{bit_or, bit_and, or_add_and, and_mask}

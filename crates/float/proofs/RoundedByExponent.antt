@@ -1,9 +1,9 @@
 -- What `rounded` computes. Assumes nothing.
-use Rattle.std.proofs.Common.{◌≡◌, ℕ, suc, ◌+◌, ◌-◌, ◌*◌, ◌/◌, ◌%◌, ◌^◌, ◌<◌, ◌≤◌, Bool, sym, refl, ap, ◌∙◌, le_trans, lt_of_lt_of_le, pow-suc, le-div_iff_mul-le, arith, pow_pos, pow_mono, shr_lt}
+use Rattle.std.proofs.Common.{◌≡◌, ℕ, suc, ◌+◌, ◌-◌, ◌*◌, ◌/◌, ◌%◌, ◌^◌, ◌<◌, ◌≤◌, Bool, sym, refl, ap, ◌∙◌, le_trans, lt_of_lt_of_le, pow-suc, arith, pow_pos, pow_mono, shr_lt}
 use native.Mathlib.Nat.{div-eq_of_lt}
 use lib.Ieee.{binary64, units, round, low}
 use lib.Ieee.Fits.{nearest-le}
-use lib.Ieee.Nearest.{closest, nearest-ge}
+use lib.Ieee.Nearest.{closest}
 use Prim.Native.Nat.{compare}
 use Rattle.float.specs.inner.Sticky.{Sticky}
 use Rattle.float.specs.inner.Rounded.{rounded}

@@ -1,11 +1,11 @@
 -- A number of 128 digits shifted down, or up to its highest place, with a mark of what is cut off. Assumes nothing.
-use Rattle.std.proofs.Common.{◌≡◌, ℕ, zero, suc, ◌+◌, ◌-◌, ◌*◌, ◌/◌, ◌%◌, ◌^◌, ◌<◌, ◌≤◌, Bool, sym, refl, ap, ◌∙◌, subst, inl, inr, le_trans, le_of_eq, lt_of_lt_of_le, lt_of_le_of_lt, lt_irrefl, add_assoc, le_of_lt, mul-le-mul_right, mul-le-mul_left, mul_assoc, mul_comm, lt_of_mul-lt-mul_right, mul-lt-mul_of_pos_right, one-mul, zero-mul, mod-eq_of_lt, div-add-mod', div-mul-le_self, div-lt_iff_lt-mul, le-div_iff_mul-le, arith, pow_pos, pow_mono, pow-add}
-use native.Mathlib.Nat.{eq_of_mul-eq-mul_right, pow-succ'}
-use lib.Count.{count_leading_zeros, leading_top, leading_unique}
+use Rattle.std.proofs.Common.{◌≡◌, ℕ, suc, ◌+◌, ◌-◌, ◌*◌, ◌/◌, ◌%◌, ◌^◌, ◌<◌, ◌≤◌, Bool, sym, ap, ◌∙◌, subst, inl, inr, le_trans, le_of_eq, lt_of_lt_of_le, lt_of_le_of_lt, lt_irrefl, add_assoc, le_of_lt, mul-le-mul_right, mul-le-mul_left, mul_assoc, mul_comm, lt_of_mul-lt-mul_right, mul-lt-mul_of_pos_right, one-mul, zero-mul, mod-eq_of_lt, div-add-mod', div-mul-le_self, arith, pow_pos, pow_mono, pow-add}
+use native.Mathlib.Nat.{eq_of_mul-eq-mul_right}
+use lib.Count.{count_leading_zeros, leading_top}
 use lib.Ieee.{binary64, low}
 use lib.Ieee.Scale.{round_same}
 use lib.Bits.{bit_or}
-use Rattle.float.specs.inner.Sticky.{Sticky, sticky, ExactOrSticky}
+use Rattle.float.specs.inner.Sticky.{Sticky, ExactOrSticky}
 use Rattle.float.specs.inner.Rounded.{rounded}
 use Rattle.float.proofs.Sticky.{sticky-is, sticky-least, sticky-cut, sticky-trans, sticky-scale}
 use Rattle.float.proofs.NearestEven.{sticky-law}
@@ -65,26 +65,6 @@ zeros-top k n p h =
 
     up : (l k j : ℕ) → l + suc j ≡ k → suc j + l ≡ k
     up l k j e = omega arith
-
--- the zeros above a number of more than 64 digits are those above its upper ones
-pub same-zeros : (w : ℕ) → (w / 2 ^ 64 ≡ 0 → ⊥) → w < 2 ^ 128 → count_leading_zeros 64 (w / 2 ^ 64) ≡ count_leading_zeros 128 w
-same-zeros w n W =
-    let h = w / 2 ^ 64 in
-    let t = leading_top 64 h (some h n) ((div-lt_iff_lt-mul (pow_pos 64)).1 W) in
-    let j = t.0 in
-    leading_unique 128 w (count_leading_zeros 64 h) (suc j + 64) (length (count_leading_zeros 64 h) j t.1)
-    (subst (λ (z : ℕ). w < z) (sym (pow-add 2 (suc j) 64)) ((div-lt_iff_lt-mul (pow_pos 64)).0 t.3))
-    (subst (λ (z : ℕ). z ≤ 2 * w + 1) (sym (pow-add 2 (suc j) 64 ∙ ap (λ (z : ℕ). z * 2 ^ 64) (pow-succ' 2 j) ∙ mul_assoc 2 (2 ^ j) (2 ^ 64)))
-    (least (2 ^ j * 2 ^ 64) w ((le-div_iff_mul-le (pow_pos 64)).0 t.2)))
-  where
-    some : (h : ℕ) → (h ≡ 0 → ⊥) → 0 < h
-    some h n = omega arith
-
-    length : (l j : ℕ) → l + suc j ≡ 64 → l + (suc j + 64) ≡ 128
-    length l j e = omega arith
-
-    least : (p w : ℕ) → p ≤ w → 2 * p ≤ 2 * w + 1
-    least p w h = omega arith
 
 -- more than 64 digits leave fewer than 64 zeros above them
 zeros-few : (n : ℕ) → 2 ^ 64 ≤ n → n < 2 ^ 128 → count_leading_zeros 128 n ≤ 64
@@ -163,30 +143,6 @@ module _ (w r : ℕ) (P : 0 < w) (W : w < 2 ^ 128) (j : Sticky ((w * 2 ^ count_l
   pub finish : (m e : ℕ) → ExactOrSticky m w (2 ^ e) → Sticky (m * 2 ^ 64) r (2 ^ (e + 128 - count_leading_zeros 128 w))
   finish m e (inl x) = finish-exact m w r e (count_leading_zeros 128 w) (zeros-lt 128 w P W) shifted x
   finish m e (inr x) = finish-sticky m w r e (count_leading_zeros 128 w) (zeros-lt 128 w P W) shifted (zeros-few w x.0 W) x.1
-
--- ---- the same for a number of at most 64 digits
-pub one-word : (w : ℕ) → w / 2 ^ 64 ≡ 0 → w < 2 ^ 64
-one-word w e = omega arith
-
-module _ (w : ℕ) (P : 0 < w) (W : w < 2 ^ 64) where
-  low-kept : (w * 2 ^ count_leading_zeros 64 w) % 2 ^ 64 ≡ w * 2 ^ count_leading_zeros 64 w
-  low-kept = mod-eq_of_lt (zeros-top 64 w P W).1
-
-  pub low-least : 2 ^ 63 ≤ (w * 2 ^ count_leading_zeros 64 w) % 2 ^ 64
-  low-least = subst (λ (z : ℕ). 2 ^ 63 ≤ z) (sym low-kept) (zeros-top 64 w P W).0
-
-  pub finish-low : (m e : ℕ) → ExactOrSticky m w (2 ^ e) → Sticky (m * 2 ^ 64) ((w * 2 ^ count_leading_zeros 64 w) % 2 ^ 64) (2 ^ (e + 64 - count_leading_zeros 64 w))
-  finish-low m e (inl x) =
-      let l = count_leading_zeros 64 w in
-      subst (λ (z : ℕ). Sticky (m * 2 ^ 64) z (2 ^ (e + 64 - l))) (sym low-kept)
-      (sticky-is (m * 2 ^ 64) (w * 2 ^ l) (2 ^ (e + 64 - l)) (pow_pos (e + 64 - l))
-      (ap (λ (z : ℕ). z * 2 ^ 64) x ∙ mul_assoc w (2 ^ e) (2 ^ 64)
-      ∙ ap (λ (z : ℕ). w * z) (sym (pow-add 2 e 64) ∙ ap (λ (z : ℕ). 2 ^ z) (fill e l (zeros-lt 64 w P W)) ∙ pow-add 2 l (e + 64 - l))
-      ∙ sym (mul_assoc w (2 ^ l) (2 ^ (e + 64 - l)))))
-    where
-      fill : (e l : ℕ) → l < 64 → e + 64 ≡ l + (e + 64 - l)
-      fill e l h = omega arith
-  finish-low m e (inr x) = absurd (lt_irrefl w (lt_of_lt_of_le W x.0))
 
 -- above 0 also where a shift is known only as what it leaves
 pub shifted-pos : (w : ℕ) → 0 < w → w < 2 ^ 128 → 0 < (w * 2 ^ count_leading_zeros 128 w) % 2 ^ 128

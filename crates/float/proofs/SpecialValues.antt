@@ -2,7 +2,7 @@
 use Rattle.std.proofs.Common.{◌≡◌, ℕ, zero, suc, ◌+◌, ◌-◌, ◌*◌, ◌/◌, ◌%◌, ◌^◌, ◌<◌, ◌≤◌, Bool, true, false, cond, not, ◌&&◌, ◌||◌, T, eqb, ltb, leb, ℤ, pos, ◌+ℤ◌, sym, refl, ap, ◌∙◌, subst, ap₂, inl, inr, true≢false, zero-le, le_of_eq, lt_of_lt_of_le, le_of_suc-le-suc, add-zero, lt_irrefl, mod-lt, zero-lt-suc, mul_assoc, mul_comm, div-lt_iff_lt-mul, eq-zero-or-pos, le_antisymm, mul-pos, lt_of_not-le, mul-zero, le-div_iff_mul-le, zero-mul, mul-one, arith, pow_pos, ltb-false, ltb-true, le-ltb, lt-ltb, ne_eqb}
 use mathlib.Core.Bool.{beq}
 use lib.Pow.{mod-mod-pow}
-use lib.Ieee.{Float, nan, inf, fin, Format, binary64, prec, emax, low, unlike, up, down, odd, units, round, sum, neg, add, mul, lt, eq, ne, is_nan, of_fields, of_bits, nan_bits, to_bits, fits}
+use lib.Ieee.{Float, nan, inf, fin, Format, binary64, prec, emax, low, unlike, up, down, odd, units, round, sum, add, mul, eq, ne, is_nan, of_fields, of_bits, nan_bits, to_bits, fits}
 use lib.Ieee.Fits.{up_pos, down_pos, round_is, add-fits}
 use lib.Ieee.Bits.{of_bits-to_bits, nan_bits_is}
 use lib.Ieee.Exact.{HasValue, round_exact}

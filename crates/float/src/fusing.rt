@@ -56,6 +56,7 @@ fn field(n: u64) -> u64
 }
 
 // Whether a pattern is a normal number's.
+// Stays: the library's `is_normal` is of an f64, and the field of the pattern is needed here in any case.
 #[tactic(auto, unfolding(crate::specs::inner::Operands::is_normal))]
 fn is_normal(n: u64) -> bool
     ensures { result ≡ is_normal n }
@@ -129,6 +130,7 @@ pub(crate) fn are_near(x: u64, y: u64, z: u64) -> bool
 }
 
 // The same as `fused` for three numbers that are near: no digit is cut off before the sum is rounded.
+// Stays: `fused` holds of these too; this one, without its shift by any distance, is for speed (docs/PROVING.md, "Speed").
 pub(crate) fn fused_near(x: u64, y: u64, z: u64) -> u64
     requires { are_near x y z ≡ true }
     ensures { result ≡ to_bits binary64 (fused_multiply_add binary64 (from_bits binary64 x) (from_bits binary64 y) (from_bits binary64 z)) }

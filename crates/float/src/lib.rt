@@ -29,6 +29,10 @@ fn mul_add_any(a: f64, b: f64, c: f64) -> f64
 }
 
 // a * b + c, rounded once: IEEE 754-2019's fusedMultiplyAdd, to the nearest, a tie to the even one.
+// Stays: docs/TRACE.md asks for whole numbers and a shift by leading zeros (`normalised`), and the edits of must-fail/ and
+// more-must-fail/ turn the roundings of this crate; the library's `mul_add` has neither.
+// Stays: three numbers, here and by their patterns in `fusing`, as the standard has them: a struct of the three would be made
+// only to be taken apart.
 pub fn mul_add(a: f64, b: f64, c: f64) -> f64
     ensures { result ≡ fused_multiply_add binary64 a b c }
 {
@@ -53,6 +57,7 @@ pub fn abs(x: f64) -> f64
 }
 
 // Whether a is less than b, where -0 is less than +0.
+// Stays: the library's `total_cmp` takes no NaN, and its `max` and `min` leave open which of two zeros they give.
 fn is_less(a: f64, b: f64) -> bool
     ensures { result ≡ Op.is_less a b }
 {
@@ -72,6 +77,7 @@ pub fn max(a: f64, b: f64) -> f64
 }
 
 // The smaller of a and b: of a NaN and a number the number, of -0 and +0 the former.
+// Stays: beside `max` it is one line; one function for both, told which by an argument, would be no plainer.
 pub fn min(a: f64, b: f64) -> f64
     ensures { result ≡ Op.minimum_number a b }
 {

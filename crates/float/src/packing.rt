@@ -25,6 +25,7 @@ fn nearest_even(w: u64, d: u64) -> u64
 }
 
 // w / 2^11 to the nearest, a tie to the even one.
+// Stays: `nearest_even(w, 11)` in its place was tried, and a `mul_add` of near numbers then takes a quarter longer.
 fn nearest_even_53(w: u64) -> u64
     ensures { result ≡ closest w (2 ^ 11) }
 {
@@ -78,13 +79,11 @@ pub(crate) fn normalised(number: Term) -> u64
     requires { (0 < number.size) × (number.exponent < 8000) }
     ensures { (m : ℕ) → ExactOrSticky m number.size (2 ^ number.exponent) → result ≡ to_bits binary64 (rounded 1198 number.negative m) }
 {
-    let high = (number.size >> 64) as u64;
-    if high == 0 {
-        let low = number.size as u64;
-        let zeros = u64::from(low.leading_zeros());
-        return rounded(number.negative, low << zeros, number.exponent + 64 - zeros);
-    }
-    let zeros = u64::from(high.leading_zeros());
+    let zeros = number.size.leading_zeros();
     let top = shift_right_sticky(number.size << zeros, 64) as u64;
-    rounded(number.negative, top, number.exponent + 128 - zeros)
+    rounded(
+        number.negative,
+        top,
+        number.exponent + 128 - u64::from(zeros),
+    )
 }

@@ -1,4 +1,4 @@
-use Rattle.std.proofs.Common.{◌≡◌, true, sym, ◌∙◌, rules}
+use Rattle.std.proofs.Common.{◌≡◌, true, ◌∙◌, rules}
 use lib.Ieee.{binary64, to_bits}
 use Rattle.float.specs.inner.Operands.{are_near}
 use Rattle.float.proofs.Decomposition.{near-is}

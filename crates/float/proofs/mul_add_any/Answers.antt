@@ -1,6 +1,5 @@
-use Rattle.std.proofs.Common.{◌≡◌, true, false, T, sym, ap, ◌∙◌, subst, rules}
-use lib.Ieee.{binary64, eq, fits, to_bits}
-use Rattle.float.specs.FusedMultiplyAdd.{fused_multiply_add}
+use Rattle.std.proofs.Common.{◌≡◌, true, false, sym, ap, ◌∙◌, rules}
+use lib.Ieee.{eq}
 use Rattle.float.specs.inner.Operands.{is_plain}
 use Rattle.float.proofs.SpecialValues.{zero_is, special-left, special-right, zero-third, other-third, plain-no-nan, plain-bits, plain-finite, fma-read, fma-bits, read_back, held}
 use Rattle.float.proofs.mul_add_any.Goals.{then-not-is_plain-via-then-not-is_plain, then-not-is_plain-via-else-not-is_plain+then-not-is_plain-2}

@@ -1,9 +1,9 @@
-use Rattle.std.proofs.Common.{◌≡◌, ℕ, ◌+◌, ◌*◌, ◌%◌, ◌^◌, ◌<◌, ◌≤◌, ap, lt_of_lt_of_le, mod-eq_of_lt, arith, lit≤}
+use Rattle.std.proofs.Common.{◌≡◌, ℕ, ◌*◌, ◌%◌, ◌^◌, ◌<◌, ◌≤◌, ap, lt_of_lt_of_le, mod-eq_of_lt, arith, lit≤}
 use lib.Ieee.{binary64, to_bits, of_bits}
 use Rattle.float.proofs.Decomposition.{product-justified, addend-justified, fused-law}
 use Rattle.float.proofs.fusing.fused.Goals as goal
 
--- the third number's digits stay within the two words
+-- the third number's digits stay within 128
 kept : (m : ℕ) → 2 ^ 52 ≤ m → m < 2 ^ 53 → (m * 512 * 2 ^ 64) % 2 ^ 128 ≡ m * 512 * 2 ^ 64
 kept m h k = let most = (addend-justified m h k).most in mod-eq_of_lt (lt_of_lt_of_le most (lit≤ tt))
 

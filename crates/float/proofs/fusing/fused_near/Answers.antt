@@ -1,6 +1,4 @@
-use Rattle.std.proofs.Common.{◌≡◌, ℕ, ◌+◌, ◌*◌, ◌^◌, refl, subst, arith}
-use lib.Ieee.{binary64, of_bits}
-use Rattle.float.specs.inner.Sticky.{Aligned}
+use Rattle.std.proofs.Common.{refl, arith}
 use Rattle.float.proofs.Decomposition.{near-is, near-normals, near-under, near-above, near-product, near-addend, near-kept, near-law}
 use Rattle.float.proofs.fusing.fused_near.Goals as goal
 

@@ -1,4 +1,4 @@
-use Rattle.std.proofs.Common.{ℕ, ◌-◌, ◌^◌, ◌≤◌, sym, refl, ap, ◌∙◌, subst, inl, inr, arith}
+use Rattle.std.proofs.Common.{ℕ, ◌-◌, ◌^◌, ◌≤◌, sym, refl, ap, ◌∙◌, subst, inl, arith}
 use lib.Ieee.{binary64, units, to_bits}
 use Rattle.float.proofs.RoundedByExponent.{closest-le, at-normal, at_low, at_none}
 use Rattle.float.proofs.packing.rounded.Goals as goal
