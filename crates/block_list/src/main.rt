@@ -68,7 +68,11 @@ fn play(writer: &mut impl Write, line: &[u8; 357]) -> io::Result<()> {
     });
     write_answer(writer, code, samples)?;
     let History { newest, older } = context.last_samples;
-    write!(writer, "{:04x}{newest:04x}{older:04x} ", context.predictor_and_scale)?;
+    write!(
+        writer,
+        "{:04x}{newest:04x}{older:04x} ",
+        context.predictor_and_scale
+    )?;
     write!(writer, "{}", Digits(out))
 }
 

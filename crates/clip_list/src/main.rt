@@ -12,204 +12,111 @@
 mod record;
 mod text;
 
-use clip::starting::Start;
-use clip::{Answer, Encoder, Encoding};
-use layout::Loop;
-use record::{add, coefficients_of, context_of, encoder_of, history_of, loop_of, no_loop};
-use replay::{byte, double_word, least, read_line, word};
-use std::io::{self, BufReader, BufWriter, Read, Write};
+use clip::Encoder;
+use record::{context_of, encoder_of, loop_of, no_encoder, start_of};
+use replay::{Number, Piece, buffers, numbers, read_line, told};
+use std::io::{self, BufReader, BufWriter, Write};
 use text::write_line;
 
-// The encoding state, the samples of the piece that is to come, and whether the list goes on.
+// A call on the clip.
+enum Call {
+    Start,
+    Feed,
+    Close,
+}
+
+// What a line asks for.
+enum Step {
+    Fill,
+    PutState,
+    PutLoop,
+    Add,
+    Make(Call),
+}
+
+impl From<u8> for Step {
+    fn from(letter: u8) -> Step {
+        match letter {
+            b'n' => Step::Fill,
+            b'p' => Step::PutState,
+            b'l' => Step::PutLoop,
+            b's' => Step::Make(Call::Start),
+            b'f' => Step::Make(Call::Feed),
+            b'c' => Step::Make(Call::Close),
+            _ => Step::Add,
+        }
+    }
+}
+
+// The encoding state, the samples of the piece that is to come, and the image buffer.
 #[derive(Drop)]
 struct State {
     encoder: Encoder,
-    pending: usize,
-    more: bool,
+    piece: Piece<2048>,
+    image: [u8; 4096],
 }
 
-// A new image buffer.
-fn fill(image: &mut [u8; 4096]) {
-    for i in 0..4096 {
-        image[i] = (i % 251) as u8;
+impl State {
+    // Adds the samples of a line to the piece.
+    fn add(&mut self, line: &[u8; 182]) {
+        let count = usize::from(u8::read(line, 7)).min(43);
+        let samples: [i16; 43] = numbers(line, 9);
+        self.piece.add(&samples[..count]);
     }
-}
 
-// Writes what a call answers and leaves; the next piece is empty.
-fn answered(
-    writer: &mut impl Write,
-    done: Encoding,
-    image: &[u8],
-    shown: bool,
-) -> io::Result<State> {
-    let answer = done.answer;
-    let encoder = done.encoder;
-    let code = match answer {
-        Answer::Accepted => 0,
-        Answer::Refused(why) => clip::code(why),
-    };
-    let mut text = [0u8; 8704];
-    write_line(writer, &mut text, code, encoder, image, shown)?;
-    Ok(State {
-        encoder,
-        pending: 0,
-        more: true,
-    })
-}
-
-// The loop that the clip of a line is started with: the state's, or none.
-fn given_loop(line: &[u8; 182], encoder: Encoder) -> Loop {
-    if byte(line, 7) != 0 {
-        let looped = encoder.looped;
-        return looped;
+    // Makes a call on the first bytes of the buffer and writes what it answers and leaves; the next piece is empty.
+    fn make(&mut self, call: Call, writer: &mut impl Write, line: &[u8; 182]) -> io::Result<()> {
+        let all = &mut self.image[..];
+        let image = &mut all[..usize::from(u16::read(line, 1)).min(4096)];
+        let given = self.encoder;
+        let (done, kept) = match call {
+            Call::Start => (
+                clip::start(start_of(line, given.looped), image),
+                no_encoder(),
+            ),
+            Call::Feed => (clip::feed(given, self.piece.as_slice(), image), given),
+            Call::Close => (clip::close(given, image), given),
+        };
+        let (code, _) = told(&done);
+        self.encoder = done.unwrap_or(kept);
+        self.piece = Piece::new();
+        write_line(writer, code, &self.encoder, image, u8::read(line, 5) != 0)
     }
-    no_loop()
-}
 
-// Starts the clip of a line.
-fn start(
-    writer: &mut impl Write,
-    line: &[u8; 182],
-    encoder: Encoder,
-    image: &mut [u8],
-    shown: bool,
-) -> io::Result<State> {
-    let looped = given_loop(line, encoder);
-    let coefficients = coefficients_of(line);
-    let history = history_of(line);
-    let given = Start {
-        total: double_word(line, 9),
-        rate: double_word(line, 17),
-        block: double_word(line, 25),
-        gain: word(line, 33),
-        coefficients: coefficients,
-        history: history,
-        looped: looped,
-    };
-    let done = clip::start(given, image);
-    answered(writer, done, image, shown)
-}
-
-// Feeds the piece.
-fn feed(
-    writer: &mut impl Write,
-    encoder: Encoder,
-    piece: &[i16],
-    pending: usize,
-    image: &mut [u8],
-    shown: bool,
-) -> io::Result<State> {
-    let n = least(pending, piece.len());
-    let done = clip::feed(encoder, &piece[..n], image);
-    answered(writer, done, image, shown)
-}
-
-// Closes the clip.
-fn close(
-    writer: &mut impl Write,
-    encoder: Encoder,
-    image: &mut [u8],
-    shown: bool,
-) -> io::Result<State> {
-    let done = clip::close(encoder, image);
-    answered(writer, done, image, shown)
-}
-
-// Makes the call of a letter on the first bytes of the buffer.
-fn call(
-    writer: &mut impl Write,
-    letter: u8,
-    line: &[u8; 182],
-    encoder: Encoder,
-    piece: &[i16],
-    pending: usize,
-    image: &mut [u8],
-) -> io::Result<State> {
-    let room = least(word(line, 1) as usize, image.len());
-    let shown = byte(line, 5) != 0;
-    if letter == b's' {
-        return start(writer, line, encoder, &mut image[..room], shown);
-    }
-    if letter == b'f' {
-        return feed(writer, encoder, piece, pending, &mut image[..room], shown);
-    }
-    close(writer, encoder, &mut image[..room], shown)
-}
-
-// Replays a line.
-fn turn(
-    writer: &mut impl Write,
-    letter: u8,
-    line: &[u8; 182],
-    state: State,
-    piece: &mut [i16; 2048],
-    image: &mut [u8; 4096],
-) -> io::Result<State> {
-    let mut encoder = state.encoder;
-    let mut pending = state.pending;
-    if letter == b's' || letter == b'c' {
-        return call(writer, letter, line, encoder, piece, pending, image);
-    }
-    if letter == b'n' {
-        fill(image);
-    } else if letter == b'p' {
-        encoder = encoder_of(line);
-    } else if letter == b'l' {
-        let looped = loop_of(line);
-        let context = context_of(line);
-        encoder.looped = looped;
-        encoder.context = context;
-    } else {
-        pending = add(line, piece, pending);
-        if letter == b'f' {
-            return call(writer, letter, line, encoder, piece, pending, image);
+    // Replays a line.
+    fn replay(&mut self, writer: &mut impl Write, line: &[u8; 182]) -> io::Result<()> {
+        match Step::from(line[0]) {
+            Step::Fill => buffers::fill(&mut self.image),
+            Step::PutState => self.encoder = encoder_of(line),
+            Step::PutLoop => {
+                self.encoder.looped = loop_of(line);
+                self.encoder.context = context_of(line);
+            }
+            Step::Add => self.add(line),
+            Step::Make(Call::Feed) => {
+                self.add(line);
+                self.make(Call::Feed, writer, line)?;
+            }
+            Step::Make(call) => self.make(call, writer, line)?,
         }
+        Ok(())
     }
-    Ok(State {
-        encoder,
-        pending,
-        more: true,
-    })
-}
-
-// Reads a line and replays it.
-fn replay(
-    reader: &mut impl Read,
-    writer: &mut impl Write,
-    state: State,
-    piece: &mut [i16; 2048],
-    image: &mut [u8; 4096],
-) -> io::Result<State> {
-    let mut line = [0u8; 182];
-    if !read_line(reader, &mut line)? {
-        let encoder = state.encoder;
-        return Ok(State {
-            encoder,
-            pending: 0,
-            more: false,
-        });
-    }
-    turn(writer, line[0], &line, state, piece, image)
 }
 
 // Replays every line of the list.
 fn main(rt: HostRuntime) -> io::Result<()> {
     let mut reader = BufReader::new(rt.alloc(), rt.reader())?;
     let mut writer = BufWriter::new(rt.alloc(), io::writer(&rt))?;
-    let mut piece = [0i16; 2048];
-    let mut image = [0u8; 4096];
-    let nothing = [0u8; 182];
-    let encoder = encoder_of(&nothing);
     let mut state = State {
-        encoder,
-        pending: 0,
-        more: true,
+        encoder: no_encoder(),
+        piece: Piece::new(),
+        image: [0; 4096],
     };
     for _ in 0..4_000_000_000u32 {
-        if !state.more {
+        let Some(line) = read_line(&mut reader)? else {
             break;
-        }
-        state = replay(&mut reader, &mut writer, state, &mut piece, &mut image)?;
+        };
+        state.replay(&mut writer, &line)?;
     }
     writer.flush()
 }

@@ -1,86 +1,76 @@
 // What a line has.
+ghost use Rattle.std.specs.Prelude.{◌+◌, ◌≤◌};
+
 use block::FrameContext;
 use clip::Encoder;
+use clip::starting::Start;
 use layout::Loop;
-use replay::{add_samples, byte, double_word, least, read_samples, sample, word};
+use replay::{Number, numbers};
 use whole::History;
 
-// The history of a line.
-pub(crate) fn history_of(line: &[u8; 182]) -> History {
+// The two samples at a place, the newest first.
+fn history_at(line: &[u8; 182], at: usize) -> History
+    requires { at + 8 ≤ 182 }
+{
     History {
-        newest: sample(line, 101),
-        older: sample(line, 105),
+        newest: i16::read(line, at),
+        older: i16::read(line, at + 4),
     }
-}
-
-// The coefficients of a line.
-pub(crate) fn coefficients_of(line: &[u8; 182]) -> [i16; 16] {
-    let mut cs = [0i16; 16];
-    read_samples(line, 37, &mut cs);
-    cs
-}
-
-// The unfinished frame of a line.
-fn frame_of(line: &[u8; 182]) -> [i16; 14] {
-    let mut xs = [0i16; 14];
-    read_samples(line, 125, &mut xs);
-    xs
 }
 
 // The loop of a line.
 pub(crate) fn loop_of(line: &[u8; 182]) -> Loop {
     Loop {
-        start: double_word(line, 9),
-        end: double_word(line, 17),
-        present: byte(line, 7) != 0,
-    }
-}
-
-// No loop.
-pub(crate) fn no_loop() -> Loop {
-    Loop {
-        start: 0,
-        end: 0,
-        present: false,
+        start: u32::read(line, 9),
+        end: u32::read(line, 17),
+        present: u8::read(line, 7) != 0,
     }
 }
 
 // The context at the loop start of a line.
 pub(crate) fn context_of(line: &[u8; 182]) -> FrameContext {
-    let last_samples = History {
-        newest: sample(line, 29),
-        older: sample(line, 33),
-    };
     FrameContext {
-        predictor_and_scale: word(line, 25),
-        last_samples: last_samples,
+        predictor_and_scale: u16::read(line, 25),
+        last_samples: history_at(line, 29),
+    }
+}
+
+// What the clip of a line is started with: where the line says so, with the loop that is given.
+pub(crate) fn start_of(line: &[u8; 182], looped: Loop) -> Start {
+    Start {
+        total: u32::read(line, 9),
+        rate: u32::read(line, 17),
+        block: u32::read(line, 25),
+        gain: u16::read(line, 33),
+        coefficients: numbers(line, 37),
+        history: history_at(line, 101),
+        looped: if u8::read(line, 7) != 0 {
+            looped
+        } else {
+            Loop::default()
+        },
     }
 }
 
 // The state of a line, with no loop.
 pub(crate) fn encoder_of(line: &[u8; 182]) -> Encoder {
-    let coefficients = coefficients_of(line);
-    let history = history_of(line);
-    let frame = frame_of(line);
-    let looped = no_loop();
-    let context = FrameContext::new();
     Encoder {
-        total: double_word(line, 9),
-        rate: double_word(line, 17),
-        block: double_word(line, 25),
-        gain: word(line, 33),
-        coefficients: coefficients,
-        fed: double_word(line, 109),
-        history: history,
-        frame: frame,
-        passes: double_word(line, 117),
-        closed: byte(line, 7) != 0,
-        looped: looped,
-        context: context,
+        total: u32::read(line, 9),
+        rate: u32::read(line, 17),
+        block: u32::read(line, 25),
+        gain: u16::read(line, 33),
+        coefficients: numbers(line, 37),
+        fed: u32::read(line, 109),
+        history: history_at(line, 101),
+        frame: numbers(line, 125),
+        passes: u32::read(line, 117),
+        closed: u8::read(line, 7) != 0,
+        looped: Loop::default(),
+        context: FrameContext::default(),
     }
 }
 
-// Adds the samples of a line to the piece, and answers its length.
-pub(crate) fn add(line: &[u8; 182], piece: &mut [i16; 2048], pending: usize) -> usize {
-    add_samples(line, 9, least(byte(line, 7) as usize, 43), piece, pending)
+// The state of no clip: zeros.
+pub(crate) fn no_encoder() -> Encoder {
+    encoder_of(&[b'0'; 182])
 }

@@ -72,7 +72,10 @@ impl State {
 
     // Measures the piece, after which the next one is empty.
     fn measure(&mut self, writer: &mut impl Write) -> io::Result<()> {
-        match self.calculator.process(self.piece.as_slice(), &mut self.store) {
+        match self
+            .calculator
+            .process(self.piece.as_slice(), &mut self.store)
+        {
             Ok(next) => self.calculator = next,
             Err(why) => write_refusal(writer, why)?,
         }
@@ -88,7 +91,10 @@ impl State {
         }
         match self.calculator.finish(&mut self.store) {
             Ok(coefficients) => {
-                let filled = self.store.get(2 * measured).is_some_and(|x| *x != NO_RECORD);
+                let filled = self
+                    .store
+                    .get(2 * measured)
+                    .is_some_and(|x| *x != NO_RECORD);
                 let n = measured + usize::from(filled);
                 write!(writer, "{n}")?;
                 write_records(writer, &self.store, n)?;

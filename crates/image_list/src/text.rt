@@ -15,13 +15,27 @@ fn write_told<T>(writer: &mut impl Write, answer: &Result<T, Refusal>) -> io::Re
 // Writes a context's header and its two samples.
 fn write_context(writer: &mut impl Write, context: FrameContext) -> io::Result<()> {
     let History { newest, older } = context.last_samples;
-    write!(writer, " {:04x} {newest:04x}{older:04x}", context.predictor_and_scale)
+    write!(
+        writer,
+        " {:04x} {newest:04x}{older:04x}",
+        context.predictor_and_scale
+    )
 }
 
 // Writes a head's values, in the image's order.
 fn write_head(writer: &mut impl Write, head: Head) -> io::Result<()> {
-    write!(writer, " {:08x} {:08x} {:08x}", head.total, head.rate, head.block)?;
-    write!(writer, " {} {:04x} {:08x}", Digits(&head.coefficients), head.gain, head.blocks)
+    write!(
+        writer,
+        " {:08x} {:08x} {:08x}",
+        head.total, head.rate, head.block
+    )?;
+    write!(
+        writer,
+        " {} {:04x} {:08x}",
+        Digits(&head.coefficients),
+        head.gain,
+        head.blocks
+    )
 }
 
 // Writes the values of a head, zeros where the image is refused, and its loop where it has one.
@@ -30,7 +44,11 @@ pub(crate) fn write_opening(
     opened: Result<Opening, Refusal>,
 ) -> io::Result<()> {
     write_told(writer, &opened)?;
-    let Opening { head, looped, context } = opened.unwrap_or(Opening {
+    let Opening {
+        head,
+        looped,
+        context,
+    } = opened.unwrap_or(Opening {
         head: Head {
             total: 0,
             rate: 0,

@@ -1,7 +1,7 @@
 -- Coefficients that are not refused are bounded.
-use Rattle.std.proofs.Common.{◌≡◌, Bool, true, false, cond, List, ℤ, Ok, refl, ap, ◌∙◌}
+use Rattle.std.proofs.Common.{◌≡◌, Bool, true, false, cond, List, ℤ, Ok, refl, ap}
 use Rattle.whole.specs.declared.History.{History}
-use Rattle.whole.specs.Outcome.{Outcome, accepted, refused}
+use Rattle.whole.specs.Outcome.{accepted, refused}
 use Rattle.frame.specs.declared.OneFrame.{OneFrame}
 use Rattle.frame.specs.Frame.{coefficients_ok, FrameEffect, frame_effect, encode_one_frame}
 use Rattle.frame.proofs.LawsFrame.{limits-bounded}

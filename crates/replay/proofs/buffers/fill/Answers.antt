@@ -1,4 +1,4 @@
-use Rattle.std.proofs.Common.{ℕ, ◌≡◌, ◌%◌, length, arith, rules}
+use Rattle.std.proofs.Common.{ℕ, ◌%◌, length, arith}
 use Rattle.std.proofs.lemmas.List.FromFn.{fill_by_all}
 use Rattle.replay.specs.Buffers.{filled}
 use Rattle.replay.proofs.buffers.fill.Goals as goal

@@ -1,9 +1,9 @@
-use Rattle.std.proofs.Common.{ℕ, ◌≡◌, ◌+◌, ◌-◌, ◌*◌, ◌≤◌, length, take, arith, rules, ap, ◌∙◌}
+use Rattle.std.proofs.Common.{ℕ, ◌≡◌, ◌+◌, ◌-◌, ◌*◌, length, take, arith, rules, ap, ◌∙◌}
 use Prim.Native.Nat.{min}
 use Rattle.std.proofs.lemmas.List.{length-take-le}
 use Rattle.std.proofs.lemmas.List.FromFn.{length-map-range_with_len}
 use Rattle.layout.proofs.Stored.{part-stored}
-use Rattle.replay.specs.Digits.{byte, word, numbers_at}
+use Rattle.replay.specs.Digits.{byte, word}
 use Rattle.replay.specs.Buffers.{put}
 use Rattle.replay.proofs.buffers.put.Goals as goal
 
