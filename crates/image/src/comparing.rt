@@ -7,9 +7,8 @@ ghost use Rattle.image.specs.inner.ByFrames.{frame_samples, context_before, play
 ghost use Rattle.image.specs.Sameness.{equal_samples, samples_in, same_sound};
 
 use crate::Head;
-use crate::bodies::read_entry;
+use crate::bodies::read_context;
 use crate::heading::{read_head, read_shape};
-use block::coefficients::equal;
 use block::{FrameContext, play_frame};
 use layout::sizes::{bodies_place, frame_count, last_samples};
 use whole::{BYTES_PER_FRAME, SAMPLES_PER_FRAME};
@@ -27,11 +26,11 @@ fn frame_samples(total: usize, i: usize) -> usize
     ensures same { result ≡ frame_samples total i }
     ensures most { result ≤ 14 }
 {
-    let f = frame_count(total);
-    if i + 1 < f {
-        return SAMPLES_PER_FRAME;
+    if i + 1 < frame_count(total) {
+        SAMPLES_PER_FRAME
+    } else {
+        last_samples(total)
     }
-    last_samples(total)
 }
 
 // What frame i is played from: its block's entry's context, or what the frame before left, under its own header.
@@ -48,9 +47,7 @@ fn context_before(
     let per = block / BYTES_PER_FRAME;
     let begins = i % per == 0;
     if begins {
-        let entry = read_entry(image, i / per);
-        let context = entry.context;
-        return context;
+        return read_context(image, i / per);
     }
     before.with_header(image[bodies + BYTES_PER_FRAME * i])
 }
@@ -66,12 +63,9 @@ fn played_frame(
     requires { (2 * at + 2 + count ≤ 2 * length image.now) × (count ≤ 14) }
     ensures { result ≡ played_frame image.now at count coefficients context }
 {
-    let mut out = [0i16; 14];
-    let after = play_frame(image, at, count, coefficients, context, &mut out, 0);
-    Frame {
-        samples: out,
-        context: after,
-    }
+    let mut samples = [0i16; 14];
+    let context = play_frame(image, at, count, coefficients, context, &mut samples, 0);
+    Frame { samples, context }
 }
 
 // Frame i, after what the frame before left.
@@ -79,15 +73,13 @@ fn next_frame(image: &[u8], head: Head, i: usize, count: usize, before: FrameCon
     requires { Turn image.now head i count }
     ensures { result ≡ next_frame image.now i before }
 {
-    let block = head.block as usize;
     let bodies = bodies_place(read_shape(image));
-    let coefficients = head.coefficients;
-    let context = context_before(image, block, bodies, i, before);
+    let context = context_before(image, head.block as usize, bodies, i, before);
     played_frame(
         image,
         bodies + BYTES_PER_FRAME * i,
         count,
-        coefficients,
+        head.coefficients,
         context,
     )
 }
@@ -97,14 +89,7 @@ fn equal_part(xs: [i16; 14], ys: [i16; 14], count: usize) -> bool
     requires { count ≤ 14 }
     ensures { result ≡ equal_up_to xs ys count }
 {
-    let mut i: usize = 0;
-    while i < count {
-        if !equal(xs[i], ys[i]) {
-            return false;
-        }
-        i += 1;
-    }
-    true
+    xs[..count] == ys[..count]
 }
 
 // Whether the samples of two images that open and have the same N are equal.
@@ -113,22 +98,17 @@ pub(crate) fn equal_frames(a: &[u8], b: &[u8], first: Head, second: Head) -> boo
     ensures { result ≡ equal_samples (samples_in a.now) (samples_in b.now) }
 {
     let total = first.total as usize;
-    let f = frame_count(total);
     let mut one = FrameContext::new();
     let mut other = FrameContext::new();
-    let mut i: usize = 0;
-    while i < f {
+    for i in 0..frame_count(total) {
         let count = frame_samples(total, i);
         let x = next_frame(a, first, i, count, one);
         let y = next_frame(b, second, i, count, other);
-        let xs = x.samples;
-        let ys = y.samples;
-        if !equal_part(xs, ys, count) {
+        if !equal_part(x.samples, y.samples, count) {
             return false;
         }
         one = x.context;
         other = y.context;
-        i += 1;
     }
     true
 }
@@ -140,8 +120,5 @@ pub(crate) fn same_sound(a: &[u8], b: &[u8]) -> bool
 {
     let first = read_head(a);
     let second = read_head(b);
-    if first.total != second.total {
-        return false;
-    }
-    equal_frames(a, b, first, second)
+    first.total == second.total && equal_frames(a, b, first, second)
 }
