@@ -36,29 +36,6 @@ fn put_filled(image: &mut [u8], at: usize, entry: Entry)
     zeros(image, at + 14, 2);
 }
 
-// The contents: each block's entry, its context worked out by playing the blocks before it.
-fn put_contents(file: &File, shape: Shape, image: &mut [u8])
-    requires { Tabled file.now shape (length image.old) }
-    ensures { image.new ≡ sets image.old 56 (table_bytes (context_before file.now shape.block) shape 0 (block_count shape)) }
-{
-    let bodies = bodies_place(shape);
-    let coefficients = file.coefficients();
-    let mut context = file.context_at(62);
-    for k in 0..block_count(shape) {
-        let place = k * shape.block;
-        let nibbles = block_length(shape, k);
-        let body = &file.bodies()[place..];
-        let current = context.with_header(body[0]);
-        let entry = Entry {
-            offset: (bodies + place) as u32,
-            nibbles: nibbles as u32,
-            context: current,
-        };
-        put_filled(image, entry_place(k), entry);
-        context = context_after(body, nibbles, coefficients, current);
-    }
-}
-
 // The head with its mark.
 fn put_marked(image: &mut [u8], given: Start, blocks: u32)
     requires { (56 ≤ length image.old) × (blocks ≡ block_count (start_shape given)) }
@@ -68,24 +45,49 @@ fn put_marked(image: &mut [u8], given: Start, blocks: u32)
     put_mark(image);
 }
 
-// The image of a file that is accepted.
-pub(crate) fn put_image(file: &File, given: Start, image: &mut [u8])
-    requires { Imports file.now given (length image.old) }
-    ensures { image.new ≡ sets image.old 0 (laid_out file.now given) }
-{
-    let shape = shape_of(given.total, given.block, loop_count(given.looped));
-    let blocks = block_count(shape);
-    put_marked(image, given, blocks as u32);
-    put_contents(file, shape, image);
-    put_loop(
-        image,
-        entry_place(blocks),
-        given.looped,
-        file.context_at(68),
-    );
-    copy(
-        &file.bodies()[..body_bytes(shape.total)],
-        image,
-        bodies_place(shape),
-    );
+impl<'a> File<'a> {
+    // The contents: each block's entry, its context worked out by playing the blocks before it.
+    fn put_contents(&self, shape: Shape, image: &mut [u8])
+        requires { Tabled self.now shape (length image.old) }
+        ensures { image.new ≡ sets image.old 56 (table_bytes (context_before self.now shape.block) shape 0 (block_count shape)) }
+    {
+        let bodies = bodies_place(shape);
+        let coefficients = self.coefficients();
+        let mut context = self.context_at(62);
+        for k in 0..block_count(shape) {
+            let place = k * shape.block;
+            let nibbles = block_length(shape, k);
+            let body = &self.bodies()[place..];
+            let current = context.with_header(body[0]);
+            let entry = Entry {
+                offset: (bodies + place) as u32,
+                nibbles: nibbles as u32,
+                context: current,
+            };
+            put_filled(image, entry_place(k), entry);
+            context = context_after(body, nibbles, coefficients, current);
+        }
+    }
+
+    // Its image, where import accepts it.
+    pub(crate) fn put_image(&self, given: Start, image: &mut [u8])
+        requires { Imports self.now given (length image.old) }
+        ensures { image.new ≡ sets image.old 0 (laid_out self.now given) }
+    {
+        let shape = shape_of(given.total, given.block, loop_count(given.looped));
+        let blocks = block_count(shape);
+        put_marked(image, given, blocks as u32);
+        self.put_contents(shape, image);
+        put_loop(
+            image,
+            entry_place(blocks),
+            given.looped,
+            self.context_at(68),
+        );
+        copy(
+            &self.bodies()[..body_bytes(shape.total)],
+            image,
+            bodies_place(shape),
+        );
+    }
 }

@@ -16,7 +16,6 @@ mod opened;
 
 use checks::{accept, exportable};
 use fields::image_bytes;
-use importing::put_image;
 use whole::Reason;
 
 // Why a call is refused; one of them names the block that another history stands before, and an image's may name the block whose entry is bad.
@@ -99,6 +98,6 @@ pub fn import(file: &[u8], size: u32, image: &mut [u8]) -> Result<u64, Refusal>
     if short {
         return Err(Refusal::ImageTooShort);
     }
-    put_image(&accepted, given, image);
+    accepted.put_image(given, image);
     Ok(needed as u64)
 }

@@ -1,4 +1,4 @@
-use Rattle.std.proofs.Common.{List, ℕ, ◌≤◌, length, refl, ap, ap₂, ◌∙◌, arith}
+use Rattle.std.proofs.Common.{List, ℕ, ◌≤◌, length, ap, ap₂, ◌∙◌, arith}
 use Rattle.std.proofs.lemmas.Result.{err_from_is_err_and}
 use borrow.Author.Tests.{lt-ltb, le-ltb}
 use Rattle.whole.specs.Outcome.{accepted, effect}
@@ -14,7 +14,7 @@ use Rattle.dsp.proofs.import.Goals as goal
 -- what writing the image asks
 given : (f : List ℕ) (size room : ℕ) → FileFits f size → imported_bytes f size ≤ room → Imports f (clip_of f size) room
 unfolding clip_of
-given f size room F h = record { limits = clip-limits f size F; bodies = F.bodies; coefficients = refl; header = F.header; enough = h }
+given f size room F h = record { limits = clip-limits f size F; bodies = F.bodies; header = F.header; enough = h }
 
 pub returns-in_err-accepted : goal.returns-in_err-accepted
 unfolding import_file import_answer

@@ -12,7 +12,7 @@ use Rattle.clip.proofs.Tables.{table-length}
 use Rattle.dsp.specs.File.{bodies_of, context_at}
 use Rattle.dsp.specs.Import.{context_before, laid_out}
 use Rattle.dsp.proofs.Contents.{context-six}
-use Rattle.dsp.proofs.importing.put_image.Goals as goal
+use Rattle.dsp.proofs.fields.File.put_image.Goals as goal
 
 size_is : (g : Start) → image_size (start_shape g) ≡ bodies_place (start_shape g) + body_bytes g.total
 unfolding image_size
@@ -51,13 +51,13 @@ pub slice_bounds-copy-end : goal.slice_bounds-copy-end
 slice_bounds-copy-end c =
     let made = c.shape_of-shape.ensures ∙ ap (shape c.args.given.total c.args.given.block) c.loop_count.ensures in
     let counted = c.body_bytes.ensures.same ∙ ap (λ (z : Shape). body_bytes z.total) made in
-    sym (copied c.args.file.now c.bodies.result.now c.body_bytes.result (body_bytes c.args.given.total) c.bodies.ensures counted c.requires.bodies)
+    sym (copied c.args.self.now c.bodies.result.now c.body_bytes.result (body_bytes c.args.given.total) c.bodies.ensures counted c.requires.bodies)
 
 pub copy-requires : goal.copy-requires
 copy-requires c =
     let made = c.shape_of-shape.ensures ∙ ap (shape c.args.given.total c.args.given.block) c.loop_count.ensures in
     let counted = c.body_bytes.ensures.same ∙ ap (λ (z : Shape). body_bytes z.total) made in
-    let n = copied c.args.file.now c.bodies.result.now c.body_bytes.result (body_bytes c.args.given.total) c.bodies.ensures counted c.requires.bodies in
+    let n = copied c.args.self.now c.bodies.result.now c.body_bytes.result (body_bytes c.args.given.total) c.bodies.ensures counted c.requires.bodies in
     let to = c.bodies_place.ensures ∙ ap bodies_place made in
     omega (arith, to, n, counted, c.requires.enough, size_is c.args.given, c.put_marked.auto.image, c.put_contents.auto.image, c.put_loop.auto.image)
 
@@ -65,7 +65,7 @@ pub returns : goal.returns
 unfolding laid_out
 returns c =
     let g = c.args.given in
-    let f = c.args.file.now in
+    let f = c.args.self.now in
     let k = block_count (start_shape g) in
     let made = c.shape_of-shape.ensures ∙ ap (shape g.total g.block) c.loop_count.ensures in
     let counted = c.body_bytes.ensures.same ∙ ap (λ (z : Shape). body_bytes z.total) made in

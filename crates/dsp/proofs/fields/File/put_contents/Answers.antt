@@ -8,31 +8,31 @@ use Rattle.clip.proofs.Tables.{table_none, table-turn}
 use Rattle.dsp.specs.File.{bodies_of}
 use Rattle.dsp.specs.Import.{history_before, context_before}
 use Rattle.dsp.proofs.Contents.{context-six, part-is, part-there, first_byte, history-start, history-turn, lent, offset-is}
-use Rattle.dsp.proofs.importing.put_contents.Goals as goal
+use Rattle.dsp.proofs.fields.File.put_contents.Goals as goal
 
 pub loop-k-init : goal.loop-k-init
 loop-k-init c =
     let a = c.args in (
-      table_none (context_before a.file.now a.shape.block) a.image.now a.shape,
-      λ h. ap (λ (x : FrameContext). x.last_samples) c.context_at-context.ensures ∙ history-start a.file.now (a.shape.block / 8),
+      table_none (context_before a.self.now a.shape.block) a.image.now a.shape,
+      λ h. ap (λ (x : FrameContext). x.last_samples) c.context_at-context.ensures ∙ history-start a.self.now (a.shape.block / 8),
     )
 
 pub slice_bounds-body-count : goal.slice_bounds-body-count
 slice_bounds-body-count c =
     let below : c.loop-k.k < block_count c.args.shape = omega (arith, c.loop-k-test.true, c.block_count-k-end.ensures.same) in
-    rw c.bodies.ensures (omega (arith, part-there c.args.file.now c.args.shape _ c.requires c.loop-k.k below))
+    rw c.bodies.ensures (omega (arith, part-there c.args.self.now c.args.shape _ c.requires c.loop-k.k below))
 
 pub slice_bounds-body-start : goal.slice_bounds-body-start
 slice_bounds-body-start c =
     let below : c.loop-k.k < block_count c.args.shape = omega (arith, c.loop-k-test.true, c.block_count-k-end.ensures.same) in
-    let there = part-there c.args.file.now c.args.shape _ c.requires c.loop-k.k below in
+    let there = part-there c.args.self.now c.args.shape _ c.requires c.loop-k.k below in
     let e = ap length c.bodies.ensures in
     omega (arith, there, e)
 
 pub bounds-body-0 : goal.bounds-body-0
 bounds-body-0 c =
     let below : c.loop-k.k < block_count c.args.shape = omega (arith, c.loop-k-test.true, c.block_count-k-end.ensures.same) in
-    let p = lent c.args.file.now c.args.shape _ c.requires c.loop-k.k below in
+    let p = lent c.args.self.now c.args.shape _ c.requires c.loop-k.k below in
     let e = rw (← c.bodies.ensures) at p.1 in
     omega (arith, p.0, e)
 
@@ -46,12 +46,12 @@ overflow_cast-entry c =
 pub context_after-context-requires : goal.context_after-context-requires
 context_after-context-requires c =
     let below : c.loop-k.k < block_count c.args.shape = omega (arith, c.loop-k-test.true, c.block_count-k-end.ensures.same) in
-    rw (c.block_length-nibbles.ensures.same, c.bodies.ensures) (lent c.args.file.now c.args.shape _ c.requires c.loop-k.k below)
+    rw (c.block_length-nibbles.ensures.same, c.bodies.ensures) (lent c.args.self.now c.args.shape _ c.requires c.loop-k.k below)
 
 pub loop-k-preserved : goal.loop-k-preserved
 unfolding context_before with_header
 loop-k-preserved c =
-    let f = c.args.file.now in
+    let f = c.args.self.now in
     let s = c.args.shape in
     let k = c.loop-k.k in
     let per = s.block / 8 in
