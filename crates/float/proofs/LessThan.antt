@@ -45,15 +45,15 @@ less-minus x y h s = subst (λ (b : Bool). b && not (is_sign_negative y) ≡ is_
 pub less-plus : (x y : Float) → eq x y ≡ true → is_sign_negative x ≡ false → false ≡ is_less x y
 less-plus x y h s = subst (λ (b : Bool). b && not (is_sign_negative y) ≡ is_less x y) s (less-level x y h)
 
-pub equal-number : (x y : Float) → eq x y ≡ true → T (not (is_nan y))
+pub equal_number : (x y : Float) → eq x y ≡ true → T (not (is_nan y))
 unfolding eq is_nan
-equal-number nan y h = never h
-equal-number (inf s) nan h = never h
-equal-number (inf s) (inf t) h = tt
-equal-number (inf s) (fin t n d) h = tt
-equal-number (fin s m e) nan h = never h
-equal-number (fin s m e) (inf t) h = tt
-equal-number (fin s m e) (fin t n d) h = tt
+equal_number nan y h = never h
+equal_number (inf s) nan h = never h
+equal_number (inf s) (inf t) h = tt
+equal_number (inf s) (fin t n d) h = tt
+equal_number (fin s m e) nan h = never h
+equal_number (fin s m e) (inf t) h = tt
+equal_number (fin s m e) (fin t n d) h = tt
 
 -- ---- not equal
 

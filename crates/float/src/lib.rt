@@ -29,8 +29,9 @@ fn mul_add_any(a: f64, b: f64, c: f64) -> f64
 }
 
 // a * b + c, rounded once: IEEE 754-2019's fusedMultiplyAdd, to the nearest, a tie to the even one.
-// Stays: docs/TRACE.md asks for whole numbers and a shift by leading zeros (`normalised`), and the edits of must-fail/ and
-// more-must-fail/ turn the roundings of this crate; the library's `mul_add` has neither.
+// Stays: docs/TRACE.md asks for whole numbers and a shift by leading zeros (`normalised`), and edits of must-fail/ and
+// more-must-fail/ turn the roundings of this crate. The library's `mul_add` takes another way, through floats, and has its
+// roundings to itself.
 // Stays: three numbers, here and by their patterns in `fusing`, as the standard has them: a struct of the three would be made
 // only to be taken apart.
 pub fn mul_add(a: f64, b: f64, c: f64) -> f64
@@ -58,6 +59,7 @@ pub fn abs(x: f64) -> f64
 
 // Whether a is less than b, where -0 is less than +0.
 // Stays: the library's `total_cmp` takes no NaN, and its `max` and `min` leave open which of two zeros they give.
+#[tactic(auto, using(crate::proofs::LessThan::equal_number))]
 fn is_less(a: f64, b: f64) -> bool
     ensures { result ≡ Op.is_less a b }
 {

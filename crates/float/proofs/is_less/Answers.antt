@@ -1,9 +1,6 @@
 use Rattle.std.proofs.Common.{sym, ◌∙◌}
-use Rattle.float.proofs.LessThan.{less-minus, less-plus, less-apart, equal-number}
+use Rattle.float.proofs.LessThan.{less-minus, less-plus, less-apart}
 use Rattle.float.proofs.is_less.Goals as goal
-
-pub is_sign_positive-requires : goal.is_sign_positive-requires
-is_sign_positive-requires c = equal-number c.args.a c.args.b c.if-a-b.true
 
 pub returns-then-is_sign_negative : goal.returns-then-is_sign_negative
 returns-then-is_sign_negative c = c.is_sign_positive.ensures ∙ less-minus c.args.a c.args.b c.if-a-b.true (sym c.is_sign_negative.ensures ∙ c.if-is_sign_negative.true)
