@@ -2,7 +2,7 @@
 ghost use Rattle.std.specs.Prelude.{◌≡◌, ◌*◌, length};
 ghost use Rattle.std.proofs.lemmas.List.Edits.{sets};
 ghost use Rattle.whole.specs.Outcome.{effect};
-ghost use Rattle.image.specs.inner.Asked.{Headed, Opens, Turns};
+ghost use Rattle.image.specs.inner.Asked.{Headed, Turns};
 ghost use Rattle.image.specs.inner.Played.{play_loop_by};
 ghost use Rattle.image.specs.Reading.{coefficients_in, loop_in, loop_context_in};
 ghost use Rattle.image.specs.Opening.{outcome, loop_fits};
@@ -12,8 +12,8 @@ ghost use Rattle.image.specs.Looping.{loop_length, loop_once, repeated};
 use crate::Refusal;
 use crate::bodies::read_context;
 use crate::checks::room_answer;
-use crate::heading::{read_coefficients, read_shape};
-use crate::running::play_run;
+use crate::heading::read_shape;
+use crate::opened::Opened;
 use block::FrameContext;
 use layout::Loop;
 use layout::fields::{get16, get32};
@@ -70,39 +70,32 @@ pub(crate) fn loop_fits(image: &[u8]) -> bool
     same && get16(image, at + 14) == 0
 }
 
-// The loop `times` times over to the output, each turn from the stored context.
-fn play_turns(
-    image: &[u8],
-    looped: Loop,
-    times: u32,
-    context: FrameContext,
-    coefficients: [i16; 16],
-    out: &mut [i16],
-)
-    requires { Turns image.now times (length out.old) × (looped ≡ loop_in image.now) × (context ≡ loop_context_in image.now) × (coefficients ≡ coefficients_in image.now) }
-    ensures { out.new ≡ sets out.old 0 (repeated times (loop_once image.now)) }
-{
-    let first = looped.start as usize;
-    let count = looped.end as usize - first;
-    for turn in 0..times {
-        let done = turn as usize * count;
-        play_run(image, first, count, context, coefficients, &mut out[done..]);
+impl<'a> Opened<'a> {
+    // The loop `times` times over to the output, each turn from the stored context.
+    fn play_turns(&self, looped: Loop, times: u32, context: FrameContext, out: &mut [i16])
+        requires { Turns self.now times (length out.old) × (looped ≡ loop_in self.now) × (context ≡ loop_context_in self.now) }
+        ensures { out.new ≡ sets out.old 0 (repeated times (loop_once self.now)) }
+    {
+        let first = looped.start as usize;
+        let count = looped.end as usize - first;
+        for turn in 0..times {
+            let done = turn as usize * count;
+            self.play_run(first, count, context, &mut out[done..]);
+        }
     }
-}
 
-// Plays the loop of an image that opens.
-pub(crate) fn play_loop_opened(image: &[u8], times: u32, out: &mut [i16]) -> Result<u64, Refusal>
-    requires { Opens image.now }
-    ensures { effect (outcome result) out.new ≡ play_loop_by (room_answer (coefficients_in image.now) (times * loop_length image.now) (length out.old)) image.now times out.old }
-{
-    let coefficients = read_coefficients(image);
-    let looped = read_loop(image);
-    let once = looped.end - looped.start;
-    let samples = u64::from(times) * u64::from(once);
-    room_answer(coefficients, samples, out.len())?;
-    if looped.present {
-        let context = loop_context(image, looped);
-        play_turns(image, looped, times, context, coefficients, out);
+    // Plays the loop so many times over.
+    pub(crate) fn play_loop(&self, times: u32, out: &mut [i16]) -> Result<u64, Refusal>
+        ensures { effect (outcome result) out.new ≡ play_loop_by (room_answer (coefficients_in self.now) (times * loop_length self.now) (length out.old)) self.now times out.old }
+    {
+        let looped = self.looped();
+        let once = looped.end - looped.start;
+        let samples = u64::from(times) * u64::from(once);
+        room_answer(self.coefficients(), samples, out.len())?;
+        if looped.present {
+            let context = self.loop_context(looped);
+            self.play_turns(looped, times, context, out);
+        }
+        Ok(samples)
     }
-    Ok(samples)
 }
