@@ -1,11 +1,13 @@
 // One pass over a frame at a given exponent.
 ghost use Rattle.std.specs.Prelude.{◌≡◌, ◌≤◌};
 ghost use Rattle.frame.specs.Pass.{code_sample, squared_difference, run_pass};
+ghost use Rattle.frame.specs.Search.{finished};
 ghost use Rattle.frame.specs.inner.Places.{history_of, samples_of};
 
 use crate::pair::Pair;
 use crate::places::Frame;
 use crate::quantise::quantise;
+use crate::search::Coded;
 
 // One sample: its nibble, the reconstructed sample, and how far the nibble was out of range.
 #[derive(Clone, Copy)]
@@ -22,6 +24,27 @@ pub(crate) struct Pass {
     pub samples: [i16; 14],
     pub overflow: u64,
     pub distance: u64,
+}
+
+impl Pass {
+    // The candidate that this pass finishes.
+    pub(crate) fn finished(self, exponent: u8, passes: u32) -> Coded
+        ensures { result ≡ finished self exponent passes }
+    {
+        let Pass {
+            nibbles,
+            samples,
+            distance,
+            ..
+        } = self;
+        Coded {
+            nibbles,
+            samples,
+            distance,
+            exponent,
+            passes,
+        }
+    }
 }
 
 // Sample x after the reconstructed samples s0 and s1.
@@ -43,7 +66,7 @@ fn code_sample(pair: Pair, s0: i16, s1: i16, x: i16, p: u8) -> Step
 pub(crate) fn squared_difference(x: i16, y: i16) -> u32
     ensures { result ≡ squared_difference x y }
 {
-    let d = u32::from(x.abs_diff(y));
+    let d = (i32::from(x) - i32::from(y)).unsigned_abs();
     d * d
 }
 

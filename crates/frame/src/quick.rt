@@ -32,12 +32,10 @@ impl Scales {
     {
         if w < 0 {
             w
+        } else if w < self.all {
+            w & self.mask
         } else {
-            if w < self.all {
-                ((w as u64) & (self.mask as u64)) as i64
-            } else {
-                w - self.top
-            }
+            w - self.top
         }
     }
 }
@@ -83,6 +81,7 @@ fn begun(y: i64, e: i64, c1: i64, older: i64) -> i64
 }
 
 // Whether s has more than 16 bits.
+// Stays: the wrong program `sample_32768_kept` moves this bound, which `i16::try_from` would have in itself.
 fn is_beyond(s: i64) -> bool
     ensures { result ≡ is_beyond s }
 {

@@ -1,13 +1,13 @@
 // The scale search for one pair of coefficients.
 ghost use Rattle.std.specs.Prelude.{◌≡◌, ◌≤◌, IfSome};
 ghost use Rattle.frame.specs.Pass.{run_pass};
-ghost use Rattle.frame.specs.Search.{raise, is_last, finished, try_coefficients};
+ghost use Rattle.frame.specs.Search.{raise, is_last, try_coefficients};
 ghost use Rattle.frame.specs.inner.Places.{history_of, samples_of};
 ghost use Rattle.frame.specs.inner.Seen.{pass_of};
 
 use crate::estimate::first_exponent;
 use crate::pair::Pair;
-use crate::pass::{Pass, run_pass};
+use crate::pass::run_pass;
 use crate::places::Frame;
 use crate::quick::run_quick;
 use crate::room::Room;
@@ -57,25 +57,6 @@ fn quick_pass(pair: Pair, frame: &Frame, p: u8, room: &mut Room) -> Option<Seen>
     show(frame, room, p)
 }
 
-// The candidate that a pass finishes.
-fn finished(pass: Pass, exponent: u8, passes: u32) -> Coded
-    ensures { result ≡ finished pass exponent passes }
-{
-    let Pass {
-        nibbles,
-        samples,
-        distance,
-        ..
-    } = pass;
-    Coded {
-        nibbles,
-        samples,
-        distance,
-        exponent,
-        passes,
-    }
-}
-
 // Passes at rising exponents: the first that meets the test ends the search, with the finished candidate.
 pub(crate) fn try_coefficients(pair: Pair, frame: &Frame) -> Coded
     ensures { result ≡ try_coefficients pair.c0 pair.c1 (history_of frame.now.samples) (samples_of frame.now.samples) }
@@ -88,14 +69,14 @@ pub(crate) fn try_coefficients(pair: Pair, frame: &Frame) -> Coded
         if let Some(seen) = quick_pass(pair, frame, p, &mut room) {
             // Its overflow is 248 at most, which raises nothing.
             if is_last(p, seen.overflow) {
-                break finished(seen.pass(&room), p, passes);
+                break seen.finished(&room, p, passes);
             }
             p += 1;
         } else {
             let pass = run_pass(pair, frame, p);
             let q = raise(p, pass.overflow);
             if is_last(q, pass.overflow) {
-                break finished(pass, q, passes);
+                break pass.finished(q, passes);
             }
             p = q + 1;
         }

@@ -1,6 +1,6 @@
 -- `code_sample` meets its contract: each value of the code with its number and its size.
-use Rattle.std.proofs.Common.{◌≡◌, ℕ, ◌+◌, ◌*◌, ◌^◌, ◌%◌, ◌≤◌, rules, sym, ap, ◌∙◌, ap₂, arith, w8, w16, w32, w64}
-use Rattle.std.proofs.Math.Facts.{to_z-of_z, sfits_widen}
+use Rattle.std.proofs.Common.{◌≡◌, ℕ, ◌*◌, ◌^◌, ◌%◌, ◌≤◌, sym, ap, ◌∙◌, ap₂, arith, w8, w16, w32, w64}
+use Rattle.std.proofs.Math.Facts.{to_z-of_z}
 use lib.IntN.{ℤ, pos, nat_abs, ◌+ℤ◌, ◌-ℤ◌, ◌*ℤ◌}
 use lib.Signed.{shr_z}
 use mir.Val.{SFits, to_z, of_z}

@@ -1,5 +1,5 @@
 -- `run_pass` meets its contract.
-use Rattle.std.proofs.Common.{◌≡◌, ◌+◌, refl, sym, ap, ◌∙◌, length-set, rules, arith, w8, w16}
+use Rattle.std.proofs.Common.{◌+◌, refl, ◌∙◌, length-set, rules, arith, w8, w16}
 use Rattle.std.proofs.Math.Facts.{to_z-of_z}
 use mir.Val.{SFits}
 use Rattle.frame.specs.Pass.{upto}

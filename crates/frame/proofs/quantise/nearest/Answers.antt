@@ -1,8 +1,8 @@
 -- `nearest` meets its contract: half the scale is added, less one above zero, and the sum shifted.
-use Rattle.std.proofs.Common.{ℕ, ◌≤◌, ◌+◌, ◌*◌, ◌^◌, ◌%◌, rules, arith, ap, ◌∙◌, w64}
+use Rattle.std.proofs.Common.{ℕ, ◌≤◌, ◌+◌, ◌*◌, ◌^◌, ◌%◌, arith, ap, ◌∙◌, w64}
 use Rattle.std.proofs.Math.Facts.{to_z-of_z}
 use lib.Pow.{pow_pos}
-use lib.IntN.{ℤ, pos, ◌+ℤ◌, ◌-ℤ◌, ◌*ℤ◌}
+use lib.IntN.{pos, ◌+ℤ◌, ◌-ℤ◌, ◌*ℤ◌}
 use lib.Signed.{shr_z}
 use mir.Val.{to_z, of_z}
 use Rattle.whole.proofs.SignedLocals.{Is, is-sized, is-lit, is-one-shl, is_mul, is-add, is-sub, is-shr}

@@ -1,10 +1,10 @@
 -- `run_quick` meets its contract.
-use Rattle.std.proofs.Common.{◌≡◌, ℕ, ◌+◌, ◌-◌, ◌*◌, ◌^◌, ◌≤◌, ◌<◌, rules, sym, ap, ap₂, ◌∙◌, subst, arith, w16, w32, w64}
+use Rattle.std.proofs.Common.{◌≡◌, ℕ, ◌+◌, ◌*◌, ◌^◌, ◌≤◌, ◌<◌, rules, sym, ap, ap₂, ◌∙◌, subst, arith, w16, w32, w64}
 use Rattle.std.proofs.Math.Facts.{to_z-of_z}
 use mathlib.Core.List.{List}
 use native.Mathlib.Nat.{mul-le-mul, le_refl}
 use lib.IntN.{ℤ, pos, nat_abs, ◌+ℤ◌, ◌-ℤ◌, ◌*ℤ◌}
-use lib.ListN.{get_or, set}
+use lib.ListN.{get_or}
 use mir.Val.{SFits, to_z, of_z}
 use Rattle.whole.proofs.SignedLocals.{Is, is-lit, is_mul, is-add, chk-add, is_call, is-size, abs-sfits, abs-sub, abs-mul}
 use Rattle.frame.specs.declared.quick.Traced.{Traced}

@@ -1,5 +1,5 @@
 -- `raise` meets its contract.
-use Rattle.std.proofs.Common.{◌≡◌, ◌+◌, refl, min, rules, arith}
+use Rattle.std.proofs.Common.{refl, rules, arith}
 use Rattle.frame.specs.Search.{raise}
 use Rattle.frame.proofs.LawsSearch.{left-more, left-done}
 use Rattle.frame.proofs.search.raise.Goals as goal

@@ -1,5 +1,5 @@
 -- `try_coefficients` meets its contract.
-use Rattle.std.proofs.Common.{◌≡◌, ℕ, ◌+◌, ◌≤◌, sym, ap, ◌∙◌, subst, arith}
+use Rattle.std.proofs.Common.{ℕ, ◌+◌, sym, ap, ◌∙◌, subst, arith}
 use lib.IntN.{pos}
 use lib.ListN.{get_or}
 use lib.Seq.{get_or-take}
@@ -26,8 +26,8 @@ loop-seen-init c =
 
 -- ---- a pass that is sure: it is the pass at p, and its overflow raises nothing
 
-pub pass-requires : goal.pass-requires
-pass-requires c =
+pub finished-requires : goal.finished-requires
+finished-requires c =
     let a = c.args.pair in
     let d = c.args.frame.now in
     let h = history_of d.samples in
@@ -79,7 +79,7 @@ returns-then-is_last c =
     let o = ap (λ (t : Pass). t.overflow) told.0 in
     let same = sym (raise-same (run_pass a.c0 a.c1 h xs l.p).overflow l.p (omega (arith, o, told.1))) in
     let test = c.is_last.ensures ∙ ap (is_last l.p) o in
-    c.finished.ensures ∙ ap (λ (v : Pass). finished v l.p (l.passes + 1)) (c.pass.ensures ∙ told.0)
+    c.finished.ensures ∙ ap (λ (v : Pass). finished v l.p (l.passes + 1)) told.0
     ∙ search-last a.c0 a.c1 h xs l.p l.passes l.p _ (omega arith) same l.invariant.2 (sym test ∙ c.if-is_last.true)
 
 -- ---- a pass that is not

@@ -1,11 +1,10 @@
 -- `narrowed_steps` meets its contract: eight steps are taken off before the shift.
-use Rattle.std.proofs.Common.{◌≡◌, ℕ, ◌+◌, ◌*◌, ◌%◌, ◌^◌, sym, ap, ◌∙◌, rules, w16, w32}
+use Rattle.std.proofs.Common.{ℕ, ◌+◌, ◌*◌, ◌^◌, ap, ◌∙◌, w16, w32}
 use Rattle.std.proofs.Math.Facts.{to_z-of_z, sfits_widen}
-use lib.IntN.{ℤ, pos, ◌-ℤ◌}
+use lib.IntN.{pos, ◌-ℤ◌}
 use lib.Signed.{shr_z}
-use mir.Val.{SFits, to_z, of_z}
 use Rattle.whole.proofs.Clamping.{clamp-fits, clamp-library}
-use Rattle.whole.proofs.SignedLocals.{Is, is-sized, is-sub, chk-sub, is-shr}
+use Rattle.whole.proofs.SignedLocals.{is-sized, is-sub, chk-sub, is-shr}
 use Rattle.frame.specs.inner.Quick.{steps_of}
 use Rattle.frame.proofs.LawsQuantise.{scale-is}
 use Rattle.frame.proofs.LawsQuick.{is-shl}

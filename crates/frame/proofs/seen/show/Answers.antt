@@ -1,14 +1,12 @@
 -- `show` meets its contract.
 use Rattle.std.proofs.Common.{◌≡◌, ℕ, ◌+◌, ◌-◌, refl, ap, ◌∙◌, subst, rules, arith, w16, w32}
 use Rattle.std.proofs.Math.Facts.{to_z-of_z}
-use lib.IntN.{ℤ, pos}
+use lib.IntN.{pos}
 use lib.ListN.{get_or}
-use mir.Val.{SFits, to_z, of_z}
-use Rattle.whole.proofs.Clamping.{clamp-fits, clamp-library, clamp-size}
-use Rattle.whole.proofs.SignedLocals.{sfits-abs}
+use mir.Val.{SFits, to_z}
+use Rattle.whole.proofs.Clamping.{clamp-library}
 use Rattle.frame.specs.inner.Seen.{most_of, distance_of}
 use Rattle.frame.proofs.LawsEnds.{library-max}
-use Rattle.frame.proofs.LawsFloor.{fits-call, mag-16}
 use Rattle.frame.proofs.LawsOrder.{none_below}
 use Rattle.frame.proofs.LawsShow.{SeenTo, seen_more, seen_all}
 use Rattle.frame.proofs.seen.show.Goals as goal

@@ -7,7 +7,7 @@ use Rattle.whole.specs.Whole.{clamp16, floored, signed_nibble}
 use Rattle.whole.proofs.SignedLocals.{Is, is-lit, is-add, chk-add, is_mul, chk-mul, is_call, abs-shr, abs-sfits}
 use Rattle.block.specs.Sample.{decode_sample}
 use Rattle.block.proofs.LawsSample.{nibble-size}
-use Rattle.block.proofs.sample.Filter.sample.Goals as goal
+use Rattle.block.proofs.sample.Filter.decode_sample.Goals as goal
 
 -- an i16 as i64
 of_16 : {z r : ℤ} → r ≡ to_z w16 (of_z w16 z) → SFits w16 z → Is w64 (of_z w64 r) z 32768

@@ -3,20 +3,20 @@ use Rattle.std.proofs.Common.{ℕ, ap, ◌∙◌, drop, length-drop, length-take
 use Rattle.coefficients.specs.Measure.{padded_count, padded_store}
 use Rattle.coefficients.proofs.AcceptedCalls.{measurable-padded}
 use Rattle.coefficients.proofs.OneSample.{padded-is}
-use Rattle.coefficients.proofs.measuring.padded_record.Goals as goal
+use Rattle.coefficients.proofs.CoefficientCalculator.padded_record.Goals as goal
 
 pub returns-then-k-eq0 : goal.returns-then-k-eq0
 unfolding padded_count padded_store
 returns-then-k-eq0 c = record { count = simp (eq-eqb _ _ c.if-k-eq0.true); store = simp (eq-eqb _ _ c.if-k-eq0.true) }
 
 pub process_frame-requires : goal.process_frame-requires
-process_frame-requires c = measurable-padded c.args.c.samples c.args.c.records (length c.args.s.now) c.requires c.if-k-eq0.false
+process_frame-requires c = measurable-padded c.args.self.samples c.args.self.records (length c.args.s.now) c.requires c.if-k-eq0.false
 
 pub returns : goal.returns
 unfolding padded_count padded_store
 returns c =
-    let h = c.args.c.history in
-    let k = c.args.c.samples % 14 in
+    let h = c.args.self.history in
+    let k = c.args.self.samples % 14 in
     let l : length h ≡ 28 = search rules in
     let z : c.fill.new.self ≡ replicate (28 - (14 + k)) (pos 0) =
     c.fill.ensures.after (λ y e. search rules)

@@ -3,7 +3,7 @@ use Rattle.std.proofs.Common.{◌≡◌, ◌-◌, length, take}
 use mathlib.Core.List.{foldl}
 use Rattle.coefficients.specs.Measure.{measuring, push}
 use Rattle.coefficients.specs.inner.Measurable.{Measurable}
-use Rattle.coefficients.proofs.measuring.push_all.Given as goal
+use Rattle.coefficients.proofs.CoefficientCalculator.push_all.Given as goal
 
 abbrev pub invariant-loop-x : goal.invariant-loop-x
 invariant-loop-x l =

@@ -3,7 +3,7 @@ use mir.Facts.{to_z-of_z}
 use mir.Syntax.{w16}
 use mir.Val.{SFits}
 use Rattle.block.proofs.LawsFrame.{even-played, odd-played}
-use Rattle.block.proofs.sample.Filter.play_whole.Goals as goal
+use Rattle.block.proofs.sample.Filter.play_nibbles.Goals as goal
 
 pub returns-then-count-eq0 : goal.returns-then-count-eq0
 returns-then-count-eq0 c =
