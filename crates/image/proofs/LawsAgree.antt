@@ -9,14 +9,14 @@ use borrow.Author.Tests.{eqb-true, eqb-false, eq-eqb}
 use lib.Dec.{eqb}
 use Rattle.block.specs.Refusals.{equal_coefficients}
 use Rattle.layout.specs.declared.Loop.{Loop}
-use Rattle.layout.specs.Sizes.{block_count, image_size}
+use Rattle.layout.specs.Sizes.{block_count}
 use Rattle.layout.proofs.LimitLaws.{both_true}
 use Rattle.whole.specs.Frames.{frame_count}
 use Rattle.image.specs.Reading.{total_in, rate_in, block_in, gain_in, blocks_in, coefficients_in, head_in, loops_in, context_in, loop_in, loop_context_in}
 use Rattle.image.specs.Sameness.{same_head, same_context, same_contexts, same_loop}
-use Rattle.image.specs.inner.Asked.{Headed, Opens, Tables}
+use Rattle.image.specs.inner.Asked.{Headed}
 use Rattle.image.proofs.LawsEqual.{never, all-stop}
-use Rattle.image.proofs.LawsLoop.{blocks-small, loop-one, loop-stored}
+use Rattle.image.proofs.LawsLoop.{loop-one, loop-stored}
 
 -- what heads that agree have in common
 pub record OneHead (a b : List ℕ) : Type 0 where
@@ -56,19 +56,6 @@ head-agrees a b h =
 pub one-count : (a b : List ℕ) → Headed a → Headed b → OneHead a b → blocks_in a ≡ blocks_in b
 unfolding block_count
 one-count a b p q h = p.blocks ∙ ap₂ (λ (n k : ℕ). (8 * frame_count n + k - 1) / k) h.total h.block ∙ sym q.blocks
-
--- the entries of all blocks stand in both images
-pub same_tables : (a b : List ℕ) (kk : ℕ) → Opens a → Opens b → same_head (head_in a) (head_in b) ≡ true → kk ≡ blocks_in a → Tables a b kk
-unfolding image_size
-same_tables a b kk p q e k =
-    let h = one-head a b e in
-    let c = one-count a b p.head q.head h in
-    let s = blocks-small a p.head in
-    record {
-      few = omega (arith, s, k);
-      first = omega (arith, k, p.head.blocks, p.head.size);
-      second = omega (arith, k, c, q.head.blocks, q.head.size);
-    }
 
 module _ (a b : List ℕ) where
   -- a block more

@@ -2,15 +2,13 @@
 ghost use Rattle.std.specs.Prelude.{◌≡◌, ◌+◌, ◌*◌, ◌≤◌, ◌<◌, length};
 ghost use Rattle.block.specs.Refusals.{equal_up_to};
 ghost use Rattle.whole.specs.Frames.{frame_count};
-ghost use Rattle.image.specs.inner.Asked.{Opens, Source, Turn, Pair};
 ghost use Rattle.image.specs.inner.ByFrames.{frame_samples, context_before, played_frame, next_frame};
-ghost use Rattle.image.specs.Sameness.{equal_samples, samples_in, same_sound};
+ghost use Rattle.image.specs.Reading.{total_in};
+ghost use Rattle.image.specs.Sameness.{same_sound};
 
-use crate::Head;
-use crate::bodies::read_context;
-use crate::heading::{read_head, read_shape};
+use crate::opened::Opened;
 use block::{FrameContext, play_frame};
-use layout::sizes::{bodies_place, frame_count, last_samples};
+use layout::sizes::{frame_count, last_samples};
 use whole::{BYTES_PER_FRAME, SAMPLES_PER_FRAME};
 
 // A frame's samples, and the context after them.
@@ -33,25 +31,6 @@ fn frame_samples(total: usize, i: usize) -> usize
     }
 }
 
-// What frame i is played from: its block's entry's context, or what the frame before left, under its own header.
-fn context_before(
-    image: &[u8],
-    block: usize,
-    bodies: usize,
-    i: usize,
-    before: FrameContext,
-) -> FrameContext
-    requires { Source image.now block bodies i }
-    ensures { result ≡ context_before image.now i before }
-{
-    let per = block / BYTES_PER_FRAME;
-    let begins = i % per == 0;
-    if begins {
-        return read_context(image, i / per);
-    }
-    before.with_header(image[bodies + BYTES_PER_FRAME * i])
-}
-
 // `count` samples of the frame at a byte.
 fn played_frame(
     image: &[u8],
@@ -68,22 +47,6 @@ fn played_frame(
     Frame { samples, context }
 }
 
-// Frame i, after what the frame before left.
-fn next_frame(image: &[u8], head: Head, i: usize, count: usize, before: FrameContext) -> Frame
-    requires { Turn image.now head i count }
-    ensures { result ≡ next_frame image.now i before }
-{
-    let bodies = bodies_place(read_shape(image));
-    let context = context_before(image, head.block as usize, bodies, i, before);
-    played_frame(
-        image,
-        bodies + BYTES_PER_FRAME * i,
-        count,
-        head.coefficients,
-        context,
-    )
-}
-
 // Whether the first `count` samples are equal.
 fn equal_part(xs: [i16; 14], ys: [i16; 14], count: usize) -> bool
     requires { count ≤ 14 }
@@ -92,33 +55,58 @@ fn equal_part(xs: [i16; 14], ys: [i16; 14], count: usize) -> bool
     xs[..count] == ys[..count]
 }
 
-// Whether the samples of two images that open and have the same N are equal.
-pub(crate) fn equal_frames(a: &[u8], b: &[u8], first: Head, second: Head) -> bool
-    requires { Pair a.now b.now first second }
-    ensures { result ≡ equal_samples (samples_in a.now) (samples_in b.now) }
-{
-    let total = first.total as usize;
-    let mut one = FrameContext::new();
-    let mut other = FrameContext::new();
-    for i in 0..frame_count(total) {
-        let count = frame_samples(total, i);
-        let x = next_frame(a, first, i, count, one);
-        let y = next_frame(b, second, i, count, other);
-        if !equal_part(x.samples, y.samples, count) {
+impl<'a> Opened<'a> {
+    // What frame i is played from: its block's entry's context, or what the frame before left, under its own header.
+    fn context_before(&self, i: usize, before: FrameContext) -> FrameContext
+        requires { i < frame_count (total_in self.now) }
+        ensures { result ≡ context_before self.now i before }
+    {
+        let per = self.block() / BYTES_PER_FRAME;
+        let begins = i % per == 0;
+        if begins {
+            return self.context(i / per);
+        }
+        let bodies = self.bodies();
+        before.with_header(self.bytes()[bodies + BYTES_PER_FRAME * i])
+    }
+
+    // Frame i, after what the frame before left.
+    fn next_frame(&self, i: usize, count: usize, before: FrameContext) -> Frame
+        requires { (i < frame_count (total_in self.now)) × (count ≡ frame_samples (total_in self.now) i) }
+        ensures { result ≡ next_frame self.now i before }
+    {
+        let context = self.context_before(i, before);
+        let bodies = self.bodies();
+        played_frame(
+            self.bytes(),
+            bodies + BYTES_PER_FRAME * i,
+            count,
+            self.coefficients(),
+            context,
+        )
+    }
+
+    // Whether N and the played samples of two images are equal.
+    pub(crate) fn same_sound(&self, other: &Opened) -> bool
+        ensures { result ≡ same_sound self.now other.now }
+    {
+        let total = self.total();
+        let differ = total != other.total();
+        if differ {
             return false;
         }
-        one = x.context;
-        other = y.context;
+        let mut one = FrameContext::new();
+        let mut two = FrameContext::new();
+        for i in 0..frame_count(total as usize) {
+            let count = frame_samples(total as usize, i);
+            let x = self.next_frame(i, count, one);
+            let y = other.next_frame(i, count, two);
+            if !equal_part(x.samples, y.samples, count) {
+                return false;
+            }
+            one = x.context;
+            two = y.context;
+        }
+        true
     }
-    true
-}
-
-// Whether N and the played samples of two images that open are equal.
-pub(crate) fn same_sound(a: &[u8], b: &[u8]) -> bool
-    requires { Opens a.now × Opens b.now }
-    ensures { result ≡ same_sound a.now b.now }
-{
-    let first = read_head(a);
-    let second = read_head(b);
-    first.total == second.total && equal_frames(a, b, first, second)
 }

@@ -25,11 +25,9 @@ mod opened;
 mod playing;
 mod running;
 
-use agreeing::agree;
 use block::{FrameContext, Playback};
 use bodies::{find_body, read_entry};
 use checks::{both_answer, from_answer, open_answer};
-use comparing::same_sound;
 use heading::read_head;
 use layout::Loop;
 use layout::fields::get32;
@@ -183,7 +181,7 @@ pub fn same(a: &[u8], b: &[u8]) -> Result<bool, Refusal>
     ensures { outcome result ≡ same a.now b.now }
 {
     both_answer(a, b)?;
-    Ok(agree(a, b))
+    Ok(Opened::of(a).agree(&Opened::of(b)))
 }
 
 // Whether two images sound the same: N is equal and the played samples are equal, whatever else differs.
@@ -191,5 +189,5 @@ pub fn sounds_same(a: &[u8], b: &[u8]) -> Result<bool, Refusal>
     ensures { outcome result ≡ sounds_same a.now b.now }
 {
     both_answer(a, b)?;
-    Ok(same_sound(a, b))
+    Ok(Opened::of(a).same_sound(&Opened::of(b)))
 }

@@ -1,17 +1,20 @@
 // An image that opens: what it says, read without testing it again.
-ghost use Rattle.std.specs.Prelude.{◌≡◌};
+ghost use Rattle.std.specs.Prelude.{◌≡◌, ◌<◌};
+ghost use Rattle.layout.specs.Sizes.{bodies_place};
 ghost use Rattle.image.specs.inner.Asked.{Opens, Found};
-ghost use Rattle.image.specs.Reading.{total_in, blocks_in, coefficients_in, loop_in, loop_context_in};
+ghost use Rattle.image.specs.Reading.{total_in, block_in, shape_in, blocks_in, coefficients_in, head_in, context_in, loop_in, loop_context_in};
 ghost use Rattle.image.specs.Bodies.{body_in};
 ghost use Rattle.image.specs.Part.{per_block};
 ghost use Rattle.image.specs.Playing.{read_entry};
 
-use crate::bodies::{Entry, find_body, read_entry};
-use crate::heading::read_coefficients;
+use crate::Head;
+use crate::bodies::{Entry, find_body, read_context, read_entry};
+use crate::heading::{read_coefficients, read_head, read_shape};
 use crate::loops::{loop_context, read_loop};
 use block::FrameContext;
 use layout::Loop;
 use layout::fields::get32;
+use layout::sizes::bodies_place;
 use std::marker::Model;
 use whole::{BYTES_PER_FRAME, SAMPLES_PER_FRAME};
 
@@ -48,12 +51,43 @@ impl<'a> Opened<'a> {
         }
     }
 
+    // The bytes.
+    pub(crate) fn bytes(&self) -> &'a [u8]
+        ensures { result.now ≡ self.now }
+    {
+        self.bytes
+    }
+
+    // The head's values.
+    pub(crate) fn head(&self) -> Head
+        ensures read { result ≡ head_in self.now }
+        ensures opens { Opens self.now }
+    {
+        read_head(self.bytes)
+    }
+
     // N.
     pub(crate) fn total(&self) -> u32
         ensures read { result ≡ total_in self.now }
         ensures opens { Opens self.now }
     {
         get32(self.bytes, 4)
+    }
+
+    // B.
+    pub(crate) fn block(&self) -> usize
+        ensures read { result ≡ block_in self.now }
+        ensures opens { Opens self.now }
+    {
+        get32(self.bytes, 12) as usize
+    }
+
+    // Where the bodies begin.
+    pub(crate) fn bodies(&self) -> usize
+        ensures read { result ≡ bodies_place (shape_in self.now) }
+        ensures opens { Opens self.now }
+    {
+        bodies_place(read_shape(self.bytes))
     }
 
     // K.
@@ -83,6 +117,14 @@ impl<'a> Opened<'a> {
         ensures { result ≡ read_entry self.now k }
     {
         read_entry(self.bytes, k)
+    }
+
+    // The context of block k's entry.
+    pub(crate) fn context(&self, k: usize) -> FrameContext
+        requires { k < blocks_in self.now }
+        ensures { result ≡ context_in self.now k }
+    {
+        read_context(self.bytes, k)
     }
 
     // Block k's body.

@@ -61,17 +61,25 @@ told : (l : List ℕ) (p : Loop) (t h z : ℕ) → p ≡ loop_in l → p.present
 told l p t h z e f g q r s =
     rw (q, r, s) (fits_told l (sym (ap (λ (x : Loop). x.present) e) ∙ f) (sym (ap (λ (x : Loop). loop_ok x (total_in l)) e) ∙ g))
 
+-- where the header is the frame's, and where it is another
+zeros-left : (l : List ℕ) (t h z : ℕ) → eqb t h && eqb z 0 ≡ loop_fits l → t ≡ h → eqb z 0 ≡ loop_fits l
+zeros-left l t h z e p = rw (eq-eqb t h p) at e
+
+other-header : (l : List ℕ) (t h z : ℕ) → eqb t h && eqb z 0 ≡ loop_fits l → (t ≡ h → ⊥) → eqb t h ≡ loop_fits l
+other-header l t h z e n = rw (ne_eqb t h n) (rw (ne_eqb t h n) at e)
+
 pub returns-then-same : goal.returns-then-same
 unfolding blocks_in header_in entry_zero_in total_in
 returns-then-same c =
     let l = c.args.image.now in
     let e = c.read_loop-looped.ensures in
     let g = ap (loop_ok c.read_loop-looped.result) (sym c.get32.ensures) ∙ sym c.loop_ok.ensures ∙ c.if-not-loop_ok.false in
-    rw (eq-eqb _ _ c.if-same.true)
-    at (told l _ c.get16-told.result c.from-header.result c.get16.result e (not-false _ c.if-not-looped.false) g
+    zeros-left l c.get16-told.result c.from-header.result c.get16.result
+    (told l _ c.get16-told.result c.from-header.result c.get16.result e (not-false _ c.if-not-looped.false) g
     (c.get16-told.ensures ∙ rw (c.entry_place-at.ensures, c.get32-2.ensures))
     (c.from-header.ensures ∙ ap (λ (i : ℕ). get_or l i 0) (frame l _ _ _ e c.read_shape.ensures c.bodies_place.ensures))
     (c.get16.ensures ∙ rw (c.entry_place-at.ensures, c.get32-2.ensures)))
+    c.if-same.true
 
 pub returns-else-same : goal.returns-else-same
 unfolding blocks_in header_in entry_zero_in total_in
@@ -80,8 +88,8 @@ returns-else-same c =
     let e = c.read_loop-looped.ensures in
     let g = ap (loop_ok c.read_loop-looped.result) (sym c.get32.ensures) ∙ sym c.loop_ok.ensures ∙ c.if-not-loop_ok.false in
     let z = entry_zero_in l (blocks_in l) in
-    let n = ne_eqb _ _ c.if-same.false in
-    n
-    ∙ (rw n
-    at (told l _ c.get16-told.result c.from-header.result z e (not-false _ c.if-not-looped.false) g (c.get16-told.ensures ∙ rw (c.entry_place-at.ensures, c.get32-2.ensures))
-    (c.from-header.ensures ∙ ap (λ (i : ℕ). get_or l i 0) (frame l _ _ _ e c.read_shape.ensures c.bodies_place.ensures)) refl))
+    other-header l c.get16-told.result c.from-header.result z
+    (told l _ c.get16-told.result c.from-header.result z e (not-false _ c.if-not-looped.false) g
+    (c.get16-told.ensures ∙ rw (c.entry_place-at.ensures, c.get32-2.ensures))
+    (c.from-header.ensures ∙ ap (λ (i : ℕ). get_or l i 0) (frame l _ _ _ e c.read_shape.ensures c.bodies_place.ensures)) refl)
+    c.if-same.false

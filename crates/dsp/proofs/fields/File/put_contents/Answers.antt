@@ -14,7 +14,7 @@ pub loop-k-init : goal.loop-k-init
 loop-k-init c =
     let a = c.args in (
       table_none (context_before a.self.now a.shape.block) a.image.now a.shape,
-      λ h. ap (λ (x : FrameContext). x.last_samples) c.context_at-context.ensures ∙ history-start a.self.now (a.shape.block / 8),
+      λ h. ap (λ (x : FrameContext). x.last_samples) c.first-context.ensures ∙ history-start a.self.now (a.shape.block / 8),
     )
 
 pub slice_bounds-body-count : goal.slice_bounds-body-count
@@ -36,8 +36,8 @@ bounds-body-0 c =
     let e = rw (← c.bodies.ensures) at p.1 in
     omega (arith, p.0, e)
 
-pub overflow_cast-entry : goal.overflow_cast-entry
-overflow_cast-entry c =
+pub overflow_cast-bodies : goal.overflow_cast-bodies
+overflow_cast-bodies c =
     let below : c.loop-k.k < block_count c.args.shape = omega (arith, c.loop-k-test.true, c.block_count-k-end.ensures.same) in
     let near = start-most c.args.shape c.loop-k.k c.requires.limits below in
     let few = blocks-most c.args.shape c.requires.limits in
@@ -61,10 +61,10 @@ loop-k-preserved c =
     let current : c.with_header-current.result ≡ context_with (get_or (bodies_of f) (k * s.block) 0) (history_before f (k * per)) =
     c.with_header-current.ensures
     ∙ rw c.bodies.ensures (ap₂ context_with (first_byte f s _ c.requires k) (c.loop-k.invariant.1 below)) in (
-      table-turn (context_before f s.block) (context-six f s.block) c.args.image.now c.loop-k.image c.put_filled.new.image s k
+      table-turn (context_before f s.block) (context-six f s.block) c.args.image.now c.loop-k.image c.put_entry.new.image s k
           (c.bodies_place-bodies.result + k * s.block) c.block_length-nibbles.result (context_bytes c.with_header-current.result.predictor_and_scale c.with_header-current.result.last_samples)
           (offset-is s k c.bodies_place-bodies.result c.bodies_place-bodies.ensures) n
-          (ap (λ (x : FrameContext). context_bytes x.predictor_and_scale x.last_samples) current) c.loop-k.invariant.0 (c.put_filled.ensures ∙ rw c.entry_place.ensures),
+          (ap (λ (x : FrameContext). context_bytes x.predictor_and_scale x.last_samples) current) c.loop-k.invariant.0 (c.put_entry.ensures ∙ rw c.entry_place.ensures),
       λ h.
           ap (λ (x : FrameContext). x.last_samples) c.context_after-context.ensures
           ∙ rw (c.bodies.ensures, part, n, current, c.coefficients-coefficients.ensures)
