@@ -65,10 +65,6 @@ differ xs ys h = go (equal_samples xs ys) refl
 
 -- ---- the first samples
 
-pub upto-none : (xs ys : List ℤ) → equal_up_to xs ys 0 ≡ true
-unfolding equal_up_to
-upto-none xs ys = refl
-
 pub upto-more : (xs ys : List ℤ) (i : ℕ) → equal_up_to xs ys i ≡ true → equal (get_or xs i (pos 0)) (get_or ys i (pos 0)) ≡ true → equal_up_to xs ys (i + 1) ≡ true
 unfolding equal_up_to
 upto-more xs ys i e f = rw (add-one i, e, f)

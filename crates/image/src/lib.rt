@@ -185,6 +185,7 @@ pub fn same(a: &[u8], b: &[u8]) -> Result<bool, Refusal>
 }
 
 // Whether two images sound the same: N is equal and the played samples are equal, whatever else differs.
+// Stays: a function beside `same`, of the same three lines, since C calls each by its name.
 pub fn sounds_same(a: &[u8], b: &[u8]) -> Result<bool, Refusal>
     ensures { outcome result ≡ sounds_same a.now b.now }
 {
