@@ -8,6 +8,7 @@ ghost use Rattle.frame.specs.Frame.{code, coefficients_ok, encode_frame, encode_
 mod bank;
 mod choice;
 mod estimate;
+mod exponent;
 mod nibbles;
 mod pair;
 mod pass;

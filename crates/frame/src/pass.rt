@@ -4,6 +4,7 @@ ghost use Rattle.frame.specs.Pass.{code_sample, squared_difference, run_pass};
 ghost use Rattle.frame.specs.Search.{finished};
 ghost use Rattle.frame.specs.inner.Places.{history_of, samples_of};
 
+use crate::exponent::Exponent;
 use crate::pair::Pair;
 use crate::places::Frame;
 use crate::quantise::quantise;
@@ -28,8 +29,8 @@ pub(crate) struct Pass {
 
 impl Pass {
     // The candidate that this pass finishes.
-    pub(crate) fn finished(self, exponent: u8, passes: u32) -> Coded
-        ensures { result ≡ finished self exponent passes }
+    pub(crate) fn finished(self, exponent: Exponent, passes: u32) -> Coded
+        ensures { result ≡ finished self exponent.value passes }
     {
         let Pass {
             nibbles,
@@ -41,23 +42,22 @@ impl Pass {
             nibbles,
             samples,
             distance,
-            exponent,
+            exponent: exponent.value,
             passes,
         }
     }
 }
 
 // Sample x after the reconstructed samples s0 and s1.
-fn code_sample(pair: Pair, s0: i16, s1: i16, x: i16, p: u8) -> Step
-    requires { p ≤ 12 }
-    ensures { result ≡ code_sample pair.c0 pair.c1 s0 s1 x p }
+fn code_sample(pair: Pair, s0: i16, s1: i16, x: i16, p: Exponent) -> Step
+    ensures { result ≡ code_sample pair.c0 pair.c1 s0 s1 x p.value }
 {
     let q = i64::from(pair.weigh(s0, s1));
     let u = quantise(2048 * i64::from(x) - q, p);
     let n = u.clamp(-8, 7);
     Step {
         nibble: n as i8,
-        sample: whole::clamp_i16(((q + 1024) >> 11) + n * (1i64 << p)),
+        sample: whole::clamp_i16(((q + 1024) >> 11) + n * (1i64 << p.value)),
         overflow: u.abs_diff(n),
     }
 }
@@ -71,9 +71,8 @@ pub(crate) fn squared_difference(x: i16, y: i16) -> u32
 }
 
 // A pass over the fourteen samples.
-pub(crate) fn run_pass(pair: Pair, frame: &Frame, p: u8) -> Pass
-    requires { p ≤ 12 }
-    ensures { result ≡ run_pass pair.c0 pair.c1 (history_of frame.now.samples) (samples_of frame.now.samples) p }
+pub(crate) fn run_pass(pair: Pair, frame: &Frame, p: Exponent) -> Pass
+    ensures { result ≡ run_pass pair.c0 pair.c1 (history_of frame.now.samples) (samples_of frame.now.samples) p.value }
 {
     let mut nibbles = [0i8; 14];
     let mut samples = [0i16; 14];

@@ -3,6 +3,7 @@ ghost use Rattle.std.specs.Prelude.{◌≡◌, ◌+◌, ◌*◌, ◌≤◌, IfSo
 ghost use Rattle.frame.specs.inner.Places.{history_of, samples_of};
 ghost use Rattle.frame.specs.inner.Quick.{Roomy, ScalesOf, Steps, Traces, is_beyond, rest_of, traced_by};
 
+use crate::exponent::Exponent;
 use crate::pair::Pair;
 use crate::places::Frame;
 use crate::room::Room;
@@ -41,11 +42,10 @@ impl Scales {
 }
 
 // The scales at exponent p.
-fn scales_at(p: u8) -> Scales
-    requires { p ≤ 12 }
-    ensures { ScalesOf p result }
+fn scales_at(p: Exponent) -> Scales
+    ensures { ScalesOf p.value result }
 {
-    let u = 4294967296i64 << p;
+    let u = 4294967296i64 << p.value;
     Scales {
         mask: 2048 * u - 1,
         all: 32768 * u,
@@ -89,10 +89,9 @@ fn is_beyond(s: i64) -> bool
 }
 
 // A pass at exponent p into `room`; none where a sample has more than 16 bits.
-pub(crate) fn run_quick(pair: Pair, frame: &Frame, p: u8, room: &mut Room) -> Option<()>
-    requires roomy { Roomy pair.c0 pair.c1 }
-    requires p_bound { p ≤ 12 }
-    ensures { IfSome result (λ _. Traces pair.c0 pair.c1 (history_of frame.now.samples) (samples_of frame.now.samples) p room.new.w room.new.s) }
+pub(crate) fn run_quick(pair: Pair, frame: &Frame, p: Exponent, room: &mut Room) -> Option<()>
+    requires { Roomy pair.c0 pair.c1 }
+    ensures { IfSome result (λ _. Traces pair.c0 pair.c1 (history_of frame.now.samples) (samples_of frame.now.samples) p.value room.new.w room.new.s) }
 {
     let a = 4294967295 * i64::from(pair.c0);
     let b = 4294967295 * i64::from(pair.c1);

@@ -6,6 +6,7 @@ ghost use Rattle.frame.specs.inner.Places.{history_of, samples_of};
 ghost use Rattle.frame.specs.inner.Seen.{pass_of};
 
 use crate::estimate::first_exponent;
+use crate::exponent::Exponent;
 use crate::pair::Pair;
 use crate::pass::run_pass;
 use crate::places::Frame;
@@ -24,31 +25,29 @@ pub(crate) struct Coded {
 }
 
 // While y is above 256 it is halved, and p rises, to 11 at most.
-fn raise(first: u8, overflow: u64) -> u8
-    requires first_bound { first ≤ 12 }
-    requires overflow_bound { overflow ≤ 4294967288 }
-    ensures { result ≡ raise overflow first }
+fn raise(first: Exponent, overflow: u64) -> Exponent
+    requires { overflow ≤ 4294967288 }
+    ensures { result.value ≡ raise overflow first.value }
 {
-    let mut p = first;
+    let mut p = first.value;
     let mut y = overflow + 8;
     while 256 < y {
         p = (p + 1).min(11);
         y /= 2;
     }
-    p
+    Exponent { value: p }
 }
 
 // Whether a pass ends the search.
-fn is_last(p: u8, overflow: u64) -> bool
-    ensures { result ≡ is_last p overflow }
+fn is_last(p: Exponent, overflow: u64) -> bool
+    ensures { result ≡ is_last p.value overflow }
 {
-    p == 12 || overflow <= 1
+    p.value == 12 || overflow <= 1
 }
 
 // What a quick pass at exponent p shows, where it is sure.
-fn quick_pass(pair: Pair, frame: &Frame, p: u8, room: &mut Room) -> Option<Seen>
-    requires { p ≤ 12 }
-    ensures { IfSome result (λ seen. (pass_of seen room.new.s ≡ run_pass pair.c0 pair.c1 (history_of frame.now.samples) (samples_of frame.now.samples) p) × (seen.overflow ≤ 248)) }
+fn quick_pass(pair: Pair, frame: &Frame, p: Exponent, room: &mut Room) -> Option<Seen>
+    ensures { IfSome result (λ seen. (pass_of seen room.new.s ≡ run_pass pair.c0 pair.c1 (history_of frame.now.samples) (samples_of frame.now.samples) p.value) × (seen.overflow ≤ 248)) }
 {
     if !pair.is_roomy() {
         return None;
@@ -71,14 +70,14 @@ pub(crate) fn try_coefficients(pair: Pair, frame: &Frame) -> Coded
             if is_last(p, seen.overflow) {
                 break seen.finished(&room, p, passes);
             }
-            p += 1;
+            p = p.next();
         } else {
             let pass = run_pass(pair, frame, p);
             let q = raise(p, pass.overflow);
             if is_last(q, pass.overflow) {
                 break pass.finished(q, passes);
             }
-            p = q + 1;
+            p = q.next();
         }
     }
 }

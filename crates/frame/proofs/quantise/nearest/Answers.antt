@@ -15,15 +15,15 @@ half_is p h = is_mul (is-lit w64 1024 tt) (is-one-shl w64 p 12 h tt) tt
 pub returns-then-above : goal.returns-then-above
 returns-then-above c =
     let d = c.args.d in
-    let p = c.args.p in
-    let s = is-add (is-sized {w = w64} d c.requires.d_bound tt) (half_is p c.requires.p_bound) tt in
+    let p = c.args.p.value in
+    let s = is-add (is-sized {w = w64} d c.requires tt) (half_is p c.args.p.most) tt in
     (is-shr (is-sub s (is-lit w64 1 tt) tt) (2 ^ (p + 11)) tt).is ∙ ap (λ (m : ℕ). shr_z (d +ℤ pos (1024 * 2 ^ p) -ℤ pos 1) m) (scale-is p)
     ∙ down_pos d (2048 * 2 ^ p) (1024 * 2 ^ p) (omega (arith, pow_pos p)) (omega arith) (rw (to_z-of_z c.ranges.d) at c.if-above.true)
 
 pub returns-else-above : goal.returns-else-above
 returns-else-above c =
     let d = c.args.d in
-    let p = c.args.p in
-    let s = is-add (is-sized {w = w64} d c.requires.d_bound tt) (half_is p c.requires.p_bound) tt in
+    let p = c.args.p.value in
+    let s = is-add (is-sized {w = w64} d c.requires tt) (half_is p c.args.p.most) tt in
     (is-shr s (2 ^ (p + 11)) tt).is ∙ ap (λ (m : ℕ). shr_z (d +ℤ pos (1024 * 2 ^ p)) m) (scale-is p)
     ∙ down-neg d (2048 * 2 ^ p) (1024 * 2 ^ p) (omega (arith, pow_pos p)) (omega arith) (rw (to_z-of_z c.ranges.d) at c.if-above.false)

@@ -12,13 +12,13 @@ use Rattle.frame.proofs.LawsShow.{steps-is}
 use Rattle.frame.proofs.seen.narrowed_steps.Goals as goal
 
 pub overflow_sub-w : goal.overflow_sub-w
-overflow_sub-w c = chk-sub (is-sized c.args.w c.requires.w_bound tt) (is-shl 16384 c.args.p c.requires.p_bound tt) tt
+overflow_sub-w c = chk-sub (is-sized c.args.w c.requires tt) (is-shl 16384 c.args.p.value c.args.p.most tt) tt
 
 pub returns : goal.returns
 returns c =
     let w = c.args.w in
-    let p = c.args.p in
-    let v = (is-shr (is-sub (is-sized w c.requires.w_bound tt) (is-shl 16384 p c.requires.p_bound tt) tt) (2 ^ (p + 11)) tt).is ∙ ap (λ (m : ℕ). shr_z (w -ℤ pos (16384 * 2 ^ p)) m) (scale-is p) ∙ steps-is w p in
+    let p = c.args.p.value in
+    let v = (is-shr (is-sub (is-sized w c.requires tt) (is-shl 16384 p c.args.p.most tt) tt) (2 ^ (p + 11)) tt).is ∙ ap (λ (m : ℕ). shr_z (w -ℤ pos (16384 * 2 ^ p)) m) (scale-is p) ∙ steps-is w p in
     let e = rw v at c.clamp.ensures.value in
     let f = clamp-fits (steps_of w p) in
     rw (e ∙ clamp-library 32767 (steps_of w p), to_z-of_z {w = w32} (sfits_widen tt f), to_z-of_z {w = w16} f)
