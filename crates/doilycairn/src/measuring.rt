@@ -60,6 +60,6 @@ pub extern "C" fn doilycairn_finish(
     Finished {
         code: code_of(&answer),
         coefficients: answer.unwrap_or([0; 16]),
-        calculator: calculator,
+        calculator,
     }
 }

@@ -108,7 +108,7 @@ pub extern "C" fn doilycairn_open(image: &[u8]) -> Opening
     Opening {
         code: code_of(&answer),
         entry: entry_of(&answer),
-        head: head,
+        head,
         looped: opening.looped,
         context: opening.context,
     }

@@ -54,12 +54,12 @@ pub extern "C" fn doilycairn_encode_frame(
     let frame = answer.unwrap_or(OneFrame {
         bytes: [0; 8],
         passes: 0,
-        history: history,
+        history,
     });
     let bytes = frame.bytes;
     Frame {
         code: code_of(&answer),
-        bytes: bytes,
+        bytes,
         passes: frame.passes,
         history: frame.history,
     }
@@ -86,12 +86,12 @@ pub extern "C" fn doilycairn_start(
     ensures { effect result image.new ≡ clip_seen (start (given total rate block_size gain coefficients.now history no_loop) image.old) }
 {
     let given = Start {
-        total: total,
-        rate: rate,
+        total,
+        rate,
         block: block_size,
-        gain: gain,
+        gain,
         coefficients: *coefficients,
-        history: history,
+        history,
         looped: Loop::default(),
     };
     start(given, image)
@@ -113,12 +113,12 @@ pub extern "C" fn doilycairn_start_loop(
     ensures { effect result image.new ≡ clip_seen (start (given total rate block_size gain coefficients.now history (between loop_start loop_end)) image.old) }
 {
     let given = Start {
-        total: total,
-        rate: rate,
+        total,
+        rate,
         block: block_size,
-        gain: gain,
+        gain,
         coefficients: *coefficients,
-        history: history,
+        history,
         looped: Loop {
             start: loop_start,
             end: loop_end,
