@@ -1,5 +1,5 @@
 -- What a derived default tells: arrays of zeros, and the state of no clip.
-use Rattle.std.proofs.Common.{◌≡◌, ℕ, false, List, length, get_or, replicate, ℤ, pos, sym, ◌∙◌}
+use Rattle.std.proofs.Common.{◌≡◌, ℕ, false, List, replicate, ℤ, pos, sym, ◌∙◌}
 use Rattle.std.specs.Array.{AllOfLen}
 use Rattle.std.proofs.lemmas.List.{same_lists, length-replicate, get_or-replicate}
 use Rattle.clip.specs.declared.Encoder.{Encoder}

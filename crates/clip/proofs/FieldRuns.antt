@@ -2,16 +2,14 @@
 use mathlib.Core.Path.{◌≡◌, refl, sym, ap, ap₂, ◌∙◌}
 use mathlib.Core.Bool.{Bool, true, false, cond}
 use mathlib.Core.List.{List, [], ◌∷◌, ◌++◌}
-use Prim.Native.Nat.{ℕ, ◌+◌, ◌*◌, ◌<◌, ◌^◌}
+use Prim.Native.Nat.{ℕ, ◌+◌, ◌*◌, ◌<◌}
 use native.Mathlib.Omega.{arith}
 use native.Mathlib.Numerals.{add-one}
 use lib.IntN.{ℤ, pos}
 use lib.ListN.{length, take, get_or, length-append}
 use lib.Seq.{sets, take-suc, length-take-le}
-use lib.Signed.{mag}
-use mir.Facts.{to_z-of_z}
 use mir.Syntax.{w16}
-use mir.Val.{of_z, to_z, SFits}
+use mir.Val.{of_z}
 use Rattle.whole.proofs.Stores.{sets_then}
 use Rattle.layout.specs.declared.Loop.{Loop}
 use Rattle.block.specs.declared.FrameContext.{FrameContext}
@@ -46,14 +44,13 @@ unfolding coefficient_bytes
 coefficient-none l at cs = refl
 
 -- a coefficient more
-pub coefficient-turn : (l₀ l out : List ℕ) (at : ℕ) (cs : List ℤ) (i r : ℕ) → i < length cs → mag (get_or cs i (pos 0)) < 2 ^ 15
-    → l ≡ sets l₀ at (coefficient_bytes (take i cs)) → r ≡ of_z w16 (to_z w16 (of_z w16 (get_or cs i (pos 0)))) → out ≡ sets l (at + 2 * i) (be16 r)
+pub coefficient-turn : (l₀ l out : List ℕ) (at : ℕ) (cs : List ℤ) (i r : ℕ) → i < length cs
+    → l ≡ sets l₀ at (coefficient_bytes (take i cs)) → r ≡ of_z w16 (get_or cs i (pos 0)) → out ≡ sets l (at + 2 * i) (be16 r)
     → out ≡ sets l₀ at (coefficient_bytes (take (i + 1) cs))
-coefficient-turn l₀ l out at cs i r lt hm e q eo =
+coefficient-turn l₀ l out at cs i r lt e q eo =
     let k : at + 2 * i ≡ at + length (coefficient_bytes (take i cs)) = omega (arith, coefficient-length (take i cs), length-take-le i cs (omega arith)) in
-    let f : SFits w16 (get_or cs i (pos 0)) = record { sfits = hm } in
     eo
-    ∙ ap₂ (λ (m : List ℕ) (z : ℕ). sets m (at + 2 * i) (be16 z)) e (q ∙ ap (of_z w16) (to_z-of_z f))
+    ∙ ap₂ (λ (m : List ℕ) (z : ℕ). sets m (at + 2 * i) (be16 z)) e q
     ∙ sets_then l₀ at (at + 2 * i) (coefficient_bytes (take i cs)) (sample16 (get_or cs i (pos 0))) k
     ∙ ap (λ (v : List ℕ). sets l₀ at v)
     (sym (coefficient-snoc (take i cs) (get_or cs i (pos 0))) ∙ ap coefficient_bytes (sym (take-suc cs i (pos 0) lt) ∙ ap (λ (a : ℕ). take a cs) (sym (add-one i))))

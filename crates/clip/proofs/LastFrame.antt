@@ -14,7 +14,7 @@ use Rattle.layout.specs.Sizes.{last_frame_samples, body_bytes}
 use Rattle.clip.specs.declared.Encoder.{Encoder}
 use Rattle.clip.specs.Encoding.{Left, left, encoder_shape, store, ended, moved, no_frame, finish}
 use Rattle.clip.specs.Unheard.{framed}
-use Rattle.clip.specs.inner.Asked.{Room, Framed, Whole}
+use Rattle.clip.specs.inner.Asked.{Framed, Whole}
 use Rattle.clip.specs.inner.Encoded.{encoded, last_encoded}
 
 -- the short last frame's bytes are the image's last ones

@@ -9,7 +9,7 @@ use lib.ListN.{length, length-append}
 use lib.Seq.{sets}
 use Rattle.whole.proofs.Stores.{sets_then, sets-part, sets-right-at}
 use Rattle.layout.specs.declared.Shape.{Shape}
-use Rattle.layout.specs.Sizes.{entry_place, block_offset, block_length, block_count, last_frame_samples}
+use Rattle.layout.specs.Sizes.{entry_place, bodies_place, block_offset, block_length, block_count, last_frame_samples}
 use Rattle.layout.specs.Fields.{be32}
 use Rattle.clip.specs.Image.{no_context, entry_bytes, table_bytes}
 use Rattle.whole.specs.Frames.{frame_count}
@@ -38,6 +38,11 @@ bare j = no_context
 pub table_none : (f : ℕ → List ℕ) (l : List ℕ) (s : Shape) → l ≡ sets l 56 (table_bytes f s 0 0)
 unfolding table_bytes
 table_none f l s = refl
+
+-- where block k's body begins
+pub offset-is : (s : Shape) (k p : ℕ) → p ≡ bodies_place s → p + k * s.block ≡ block_offset s k
+unfolding block_offset block_count frame_count
+offset-is s k p e = ap (λ (x : ℕ). x + k * s.block) e
 
 -- an entry more, with its context
 pub table-turn : (f : ℕ → List ℕ) → ((i : ℕ) → length (f i) ≡ 6) → (l₀ l out : List ℕ) (s : Shape) (k o v : ℕ) (c : List ℕ) → o ≡ block_offset s k → v ≡ block_length s k → c ≡ f k

@@ -1,15 +1,15 @@
 // The head and the contents of an image.
-ghost use Rattle.std.specs.Prelude.{◌≡◌, ◌++◌, ◌+◌, ◌*◌, ◌≤◌, ◌<◌, length, replicate};
+ghost use Rattle.std.specs.Prelude.{◌≡◌, [], ◌∷◌, ◌++◌, ◌+◌, ◌*◌, ◌≤◌, length};
 ghost use Rattle.std.proofs.lemmas.List.Edits.{sets};
 ghost use Rattle.layout.specs.Limits.{Limits};
 ghost use Rattle.layout.specs.Fields.{be16, be32, mark, no_mark};
-ghost use Rattle.clip.specs.Image.{no_context, context_bytes, coefficient_bytes, start_shape, head_bytes, table_bytes, loop_bytes, fresh_bytes};
 ghost use Rattle.layout.specs.Sizes.{loop_count, block_count, bodies_place, image_size};
+ghost use Rattle.clip.specs.Image.{no_context, context_bytes, coefficient_bytes, start_shape, head_bytes, table_bytes, loop_bytes, fresh_bytes};
 
 use crate::starting::Start;
 use block::FrameContext;
-use layout::fields::{bits16, put16, put32, zeros};
-use layout::sizes::{block_count, block_length, bodies_place, body_bytes, entry_place, loop_count};
+use layout::fields::{put16, put32, zeros};
+use layout::sizes::{block_count, block_length, bodies_place, body_bytes, entry_place};
 use layout::{ENTRY_BYTES, Loop, MARK, Shape};
 use whole::History;
 
@@ -18,11 +18,7 @@ pub fn put_mark(image: &mut [u8])
     requires { 4 ≤ length image.old }
     ensures { image.new ≡ sets image.old 0 mark }
 {
-    let m = MARK;
-    image[0] = m[0];
-    image[1] = m[1];
-    image[2] = m[2];
-    image[3] = m[3];
+    image[..4].copy_from_slice(&MARK);
 }
 
 // A block's context: its first header byte, and the history before it. It is internal: crate dsp calls it.
@@ -31,8 +27,8 @@ pub fn put_context(image: &mut [u8], at: usize, header: u16, history: History)
     ensures { image.new ≡ sets image.old at (context_bytes header history) }
 {
     put16(image, at, header);
-    put16(image, at + 2, bits16(history.newest));
-    put16(image, at + 4, bits16(history.older));
+    put16(image, at + 2, history.newest.cast_unsigned());
+    put16(image, at + 4, history.older.cast_unsigned());
 }
 
 // The coefficients, two bytes each. It is internal: crate dsp calls it.
@@ -40,37 +36,43 @@ pub fn put_coefficients(image: &mut [u8], at: usize, coefficients: [i16; 16])
     requires { at + 32 ≤ length image.old }
     ensures { image.new ≡ sets image.old at (coefficient_bytes coefficients) }
 {
-    let mut i: usize = 0;
-    while i < 16 {
-        put16(image, at + 2 * i, bits16(coefficients[i]));
-        i += 1;
+    for i in 0..16 {
+        put16(image, at + 2 * i, coefficients[i].cast_unsigned());
     }
 }
 
-// An entry with no context.
-pub(crate) fn put_entry(image: &mut [u8], at: usize, offset: u32, nibbles: u32)
+// An entry: where a block's body begins and how long it is, or where a loop starts and ends; and the context there.
+fn put_entry(image: &mut [u8], at: usize, first: u32, second: u32, context: FrameContext)
     requires { at + 16 ≤ length image.old }
-    ensures { image.new ≡ sets image.old at (be32 offset ++ (be32 nibbles ++ replicate 8 0)) }
+    ensures { image.new ≡ sets image.old at (be32 first ++ (be32 second ++ (context_bytes context.predictor_and_scale context.last_samples ++ (0 ∷ 0 ∷ [])))) }
 {
-    put32(image, at, offset);
-    put32(image, at + 4, nibbles);
-    zeros(image, at + 8, 8);
+    put32(image, at, first);
+    put32(image, at + 4, second);
+    put_context(
+        image,
+        at + 8,
+        context.predictor_and_scale,
+        context.last_samples,
+    );
+    zeros(image, at + 14, 2);
 }
 
 // The contents: an entry with no context for each block.
-pub(crate) fn put_table(image: &mut [u8], shape: Shape)
+fn put_table(image: &mut [u8], shape: Shape)
     requires { Limits shape × (bodies_place shape ≤ length image.old) }
     ensures { image.new ≡ sets image.old 56 (table_bytes (λ j. no_context) shape 0 (block_count shape)) }
 {
     let bodies = bodies_place(shape);
-    let blocks = block_count(shape);
-    let block = shape.block;
-    let mut k: usize = 0;
-    while k < blocks {
-        let offset = bodies + k * block;
+    for k in 0..block_count(shape) {
+        let offset = bodies + k * shape.block;
         let nibbles = block_length(shape, k);
-        put_entry(image, entry_place(k), offset as u32, nibbles as u32);
-        k += 1;
+        put_entry(
+            image,
+            entry_place(k),
+            offset as u32,
+            nibbles as u32,
+            FrameContext::default(),
+        );
     }
 }
 
@@ -99,12 +101,10 @@ pub fn put_head(image: &mut [u8], g: Start, blocks: u32)
     requires { (56 ≤ length image.old) × (blocks ≡ block_count (start_shape g)) }
     ensures { image.new ≡ sets image.old 0 (head_bytes no_mark g) }
 {
-    let coefficients = g.coefficients;
-    let looped = g.looped;
     zeros(image, 0, 4);
     put_numbers(image, g.total, g.rate, g.block);
-    put_coefficients(image, 16, coefficients);
-    put_rest(image, g.gain, loop_count(looped) as u16, blocks);
+    put_coefficients(image, 16, g.coefficients);
+    put_rest(image, g.gain, u16::from(g.looped.present), blocks);
 }
 
 // All the bytes of a clip's start.
@@ -128,12 +128,7 @@ pub fn put_loop(image: &mut [u8], at: usize, looped: Loop, context: FrameContext
     requires { at + 16 * loop_count looped ≤ length image.old }
     ensures { image.new ≡ sets image.old at (loop_bytes looped context) }
 {
-    let present = looped.present;
-    if present {
-        let history = context.last_samples;
-        put32(image, at, looped.start);
-        put32(image, at + 4, looped.end);
-        put_context(image, at + 8, context.predictor_and_scale, history);
-        zeros(image, at + 14, 2);
+    if looped.present {
+        put_entry(image, at, looped.start, looped.end, context);
     }
 }

@@ -7,7 +7,7 @@ use Rattle.float.proofs.Sizes.{Number}
 use Rattle.float.proofs.Bounds.{Upto, upto-fma}
 use Rattle.coefficients.specs.Constants.{f0, f1, fma}
 use Rattle.coefficients.specs.Analysis.{within_one, finish_record, quotient, merge_finish_record}
-use Rattle.coefficients.specs.Clusters.{blank, mean, with_one, made, gather, vectors}
+use Rattle.coefficients.specs.Clusters.{blank, blank_cluster, mean, with_one, made, gather, vectors}
 use Rattle.coefficients.specs.CoefficientLimits.{Within, OfPair}
 use Rattle.coefficients.specs.Finish.{coefficient, record_coefficients}
 use Rattle.coefficients.proofs.Bounded.{Under, within-one-under, under-upto, quotient_fits, coefficient-size}
@@ -77,7 +77,7 @@ OfVec v = Either v.x1 v.x2
 
 made-any : (rs : List Record) (ws : List Vec3) (i : ℕ) → i < 8 → OfVec (made (gather ws 8 rs) i)
 unfolding made with_one
-made-any rs ws i s = merge-any (mean (get_or (gather ws 8 rs).sums i blank) (get_or (gather ws 8 rs).counts i 0))
+made-any rs ws i s = merge-any (let c = get_or (gather ws 8 rs) i blank_cluster in mean c.sum c.count)
 
 -- a limit or -32768, at each pair
 pub finish-any-store : (rs : List Record) (i : ℕ) → i < 8 → OfPair (λ (c : ℤ). Within c 4096) (λ (c : ℤ). Within c 2048) (record_coefficients rs) i

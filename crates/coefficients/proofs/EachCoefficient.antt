@@ -1,42 +1,22 @@
 -- What holds of every vector that the last round makes, and of every coefficient, holds of finish's answer.
-use Rattle.std.proofs.Common.{◌≡◌, ℕ, zero, suc, ◌+◌, ◌*◌, ◌/◌, ◌%◌, ◌<◌, ◌≤◌, Bool, true, false, cond, eqb, List, length, get_or, set, replicate, ℤ, pos, sym, refl, ap, ◌∙◌, subst, le_refl, lt_of_not-le, arith, lit<, length-set, get_or-set_other, get_or-set_same, w16, SFits}
+use Rattle.std.proofs.Common.{◌≡◌, ℕ, zero, suc, ◌+◌, ◌*◌, ◌/◌, ◌%◌, ◌<◌, ◌≤◌, Bool, true, false, cond, eqb, List, length, get_or, set, replicate, ℤ, pos, sym, refl, ◌∙◌, subst, le_refl, lt_of_not-le, arith, lit<, length-set, get_or-set_other, get_or-set_same, w16, SFits}
 use native.Mathlib.Decide.{ℕ_discrete, dec_le}
 use lib.Arith.{lt_of_le-ne}
 use lib.Ieee.{Float}
 use lib.Ieee.Casts.{to_signed_in}
 use lib.ListN.{length-replicate, get_or-replicate, get_or-eq_default}
 use Rattle.coefficients.specs.Store.{first_vector}
-use Rattle.coefficients.specs.Clusters.{blank, none, gather, with_one, made, renewed, filter_round, doubled, grown, vectors, beside}
+use Rattle.coefficients.specs.Clusters.{blank, none, gather, with_one, made, renewed, filter_round, doubled, grown, vectors}
 use Rattle.coefficients.specs.CoefficientLimits.{OfPair}
 use Rattle.coefficients.specs.Finish.{coefficient, pairs, record_coefficients}
-use Rattle.coefficients.proofs.RenewedVectors.{renewed-next}
+use Rattle.coefficients.proofs.RenewedVectors.{renewed-next, renewed-length, round-length, doubled-length, grown-length}
 use Rattle.coefficients.specs.declared.merging.Vec3.{Vec3}
 use Rattle.coefficients.specs.declared.merging.Record.{Record}
-use Rattle.coefficients.specs.declared.clusters.Tally.{Tally}
-
--- ---- lengths
-
-renewed-length : (vs : List Vec3) (t : Tally) (k : ℕ) → length (renewed vs t k) ≡ length vs
-unfolding renewed
-renewed-length vs t zero = refl
-renewed-length vs t (suc k) = ap length (renewed-next vs t k) ∙ length-set (renewed vs t k) k (made t k) ∙ renewed-length vs t k
-
-round-length : (vs : List Vec3) (m : ℕ) (rs : List Record) → length (filter_round vs m rs) ≡ length vs
-unfolding filter_round
-round-length vs m rs = renewed-length vs (gather vs m rs) m
-
-doubled-length : (vs : List Vec3) (m k : ℕ) → length (doubled vs m k) ≡ length vs
-unfolding doubled
-doubled-length vs m zero = refl
-doubled-length vs m (suc k) = length-set (doubled vs m k) (m + k) (beside (get_or (doubled vs m k) k blank)) ∙ doubled-length vs m k
-
-grown-length : (vs : List Vec3) (m : ℕ) (rs : List Record) → length (grown vs m rs) ≡ length vs
-unfolding grown
-grown-length vs m rs = round-length (filter_round (doubled vs m m) (m + m) rs) (m + m) rs ∙ round-length (doubled vs m m) (m + m) rs ∙ doubled-length vs m m
+use Rattle.coefficients.specs.declared.clusters.Cluster.{Cluster}
 
 -- ---- the vectors
 
-renewed-each : (P : Vec3 → Type 0) (vs : List Vec3) (t : Tally) (k : ℕ) → ((i : ℕ) → i < 8 → P (made t i)) → length vs ≡ 8 → k ≤ 8
+renewed-each : (P : Vec3 → Type 0) (vs : List Vec3) (t : List Cluster) (k : ℕ) → ((i : ℕ) → i < 8 → P (made t i)) → length vs ≡ 8 → k ≤ 8
     → (j : ℕ) → j < k → P (get_or (renewed vs t k) j blank)
 renewed-each P vs t zero h e l j s = absurd (none_below j s)
   where

@@ -4,8 +4,8 @@ use native.Mathlib.Decide.{ℕ_discrete}
 use lib.Arith.{lt_of_le-ne}
 use lib.Ieee.{Float, binary64, lt}
 use Rattle.float.proofs.InUnits.{InUnits, over, under, lt-true, lt-false}
-use Rattle.coefficients.specs.declared.clusters.Best.{Best}
-use Rattle.coefficients.specs.declared.filter.Lead.{Lead}
+use Rattle.coefficients.specs.declared.contrasts.Best.{Best}
+use Rattle.coefficients.specs.declared.contrasts.Lead.{Lead}
 use Rattle.coefficients.specs.Clusters.{better}
 use Rattle.coefficients.specs.inner.PlainContrasts.{closer, lower}
 

@@ -3,7 +3,6 @@ mod SampleSizes
 mod StoredRecords
 mod ChosenVector
 mod RenewedVectors
-mod CastToSixteenBits
 mod SharedTerms
 mod PlainContrasts
 mod LeastAndNext

@@ -1,36 +1,18 @@
 -- Plain contrasts that leave no doubt choose the vector that exact ones choose.
-use Rattle.std.proofs.Common.{◌≡◌, ℕ, zero, suc, ◌+◌, ◌*◌, ◌^◌, ◌<◌, ◌≤◌, Bool, true, false, not, T, List, get_or, pos, sym, refl, subst, mul-le-mul_right, add-one, arith, lit<, lit≤}
+use Rattle.std.proofs.Common.{◌≡◌, ℕ, zero, suc, ◌+◌, ◌*◌, ◌^◌, ◌<◌, ◌≤◌, true, List, get_or, pos, sym, refl, mul-le-mul_right, arith, lit<, lit≤}
 use native.Mathlib.Decide.{ℕ_discrete}
-use lib.Arith.{lt_of_le-ne}
 use lib.Ieee.{Float, binary64, of_bits, neg, lt, fits}
 use Rattle.float.specs.Operations.{negative}
 use Rattle.float.proofs.InUnits.{AtMost, InUnits, over, under, mag, at-most-sides, at-most-between, at-most-literal, neg-at-most, lt-true, true-lt}
 use Rattle.float.proofs.RoundingDistance.{RoundingsApart, apart-same, add-at-most, mul-at-most, fma-at-most, mul-apart, fma-apart, add-near}
 use Rattle.float.proofs.RoundingError.{ample64, slack}
-use Rattle.coefficients.specs.declared.filter.Lead.{Lead}
+use Rattle.coefficients.specs.declared.contrasts.Lead.{Lead}
 use Rattle.coefficients.specs.declared.merging.Record.{Record}
-use Rattle.coefficients.specs.declared.merging.Side.{Side}
 use Rattle.coefficients.specs.declared.merging.VectorTerms.{VectorTerms}
 use Rattle.coefficients.specs.Constants.{f2, f_e30, ◌*f◌, ◌+f◌, fma}
-use Rattle.coefficients.specs.inner.SharedTerms.{record_side, terms_contrast, least_by_terms, blank_terms}
+use Rattle.coefficients.specs.inner.SharedTerms.{record_side, terms_contrast, least_by_terms, gone_through, blank_terms}
 use Rattle.coefficients.proofs.LeastAndNext.{Below, Finds, Leads, finds-first, finds-next, leads-first, leads-next}
-use Rattle.coefficients.specs.inner.PlainContrasts.{f16, Small, Smalls, SmallTerms, AllSmall, plain_side, plain_contrast, closer, leading}
-
-pub never : {P : Type 0} → false ≡ true → P
-never e = absurd (subst (λ (b : Bool). T (not b)) e tt)
-
-pub unless : (b : Bool) → not b ≡ false → b ≡ true
-unless true e = refl
-unless false e = never (sym e)
-
--- ---- one vector more
-
-pub small-more : (ts : List VectorTerms) (k : ℕ) → AllSmall ts k → SmallTerms (get_or ts k blank_terms) → AllSmall ts (k + 1)
-small-more ts k h s i l = elim (ℕ_discrete i k) [ yes p ↦ rw p s | no q ↦ h i (lt_of_le-ne (omega arith) q) ]
-
-pub lead-more : (ts : List VectorTerms) (s : Side) (k : ℕ) → leading ts s (k + 1) ≡ closer (leading ts s k) (plain_contrast (get_or ts k blank_terms) s) k
-unfolding leading
-lead-more ts s k = rw add-one
+use Rattle.coefficients.specs.inner.PlainContrasts.{f16, Small, Smalls, SmallTerms, AllSmall, plain_side, plain_contrast, leading}
 
 -- ---- the numbers that the code names
 
@@ -144,12 +126,12 @@ module _ (ts : List VectorTerms) (n : ℕ) (b : Record) (val : Float) (sv : AllS
   plain_at j h = plain-at-most (get_or ts j blank_terms) b val (sv j h) sb
 
   finds : (k : ℕ) → k < n → Finds exact n (λ j h. (exact-at j h).is) (suc k) (least_by_terms ts (record_side b val) (suc k))
-  unfolding least_by_terms
+  unfolding gone_through
   finds zero h = finds-first exact n (λ j h. (exact-at j h).is) _ (far (exact-at 0 h) (lit≤ tt))
   finds (suc k) h = finds-next exact n (λ j h. (exact-at j h).is) (suc k) _ h (finds k (omega arith))
 
   leads : (k : ℕ) → k < n → Leads plain n (λ j h. (plain_at j h).is) (suc k) (leading ts (plain_side b val) (suc k))
-  unfolding leading
+  unfolding gone_through
   leads zero h = leads-first plain n (λ j h. (plain_at j h).is) _ far-own far-own (far (plain_at 0 h) (lit≤ tt))
   leads (suc k) h = leads-next plain n (λ j h. (plain_at j h).is) (suc k) _ h (leads k (omega arith))
 
@@ -180,7 +162,7 @@ module _ (ts : List VectorTerms) (n : ℕ) (b : Record) (val : Float) (sv : AllS
 
   pub clear : (g : Float) → Wide g → lt ((leading ts (plain_side b val) n).least +f g) (leading ts (plain_side b val) n).second ≡ true
       → (leading ts (plain_side b val) n).index ≡ (least_by_terms ts (record_side b val) n).index
-  unfolding leading least_by_terms
+  unfolding gone_through
   clear g w d = go n refl d
     where
       go : (m : ℕ) → m ≡ n → lt ((lead m).least +f g) (lead m).second ≡ true → (lead m).index ≡ least m

@@ -1,13 +1,11 @@
 -- What is worked out once is what the plain definitions work out.
-use Rattle.std.proofs.Common.{◌≡◌, ℕ, zero, suc, ◌+◌, ◌*◌, ◌<◌, ◌≤◌, Bool, true, false, cond, not, eqb, List, length, get_or, set, ◌+ℤ◌, sym, refl, ap, ◌∙◌, ap₂, mul-one, add-one, arith, length-set, get_or-set_other, get_or-set_same}
-use native.Mathlib.Decide.{ℕ_discrete}
-use lib.Arith.{lt_of_le-ne}
+use Rattle.std.proofs.Common.{◌≡◌, ℕ, zero, suc, ◌+◌, ◌*◌, ◌≤◌, Bool, true, false, cond, not, eqb, List, length, get_or, set, map, le_refl, ◌+ℤ◌, refl, ap, ◌∙◌, ap₂, mul-one, arith}
 use lib.Ieee.{Float, nan, inf, fin, binary64, unlike, neg, add, of_bits}
 use lib.IntN.{+ℤ_idr}
-use lib.ListN.{length-replicate}
+use Rattle.std.proofs.lemmas.List.{get_or-map}
 use Rattle.float.specs.FusedMultiplyAdd.{times, fused_multiply_add}
-use Rattle.coefficients.specs.declared.clusters.Best.{Best}
-use Rattle.coefficients.specs.declared.clusters.Tally.{Tally}
+use Rattle.coefficients.specs.declared.contrasts.Best.{Best}
+use Rattle.coefficients.specs.declared.clusters.Cluster.{Cluster}
 use Rattle.coefficients.specs.declared.merging.Record.{Record}
 use Rattle.coefficients.specs.declared.merging.RecordTerms.{RecordTerms}
 use Rattle.coefficients.specs.declared.merging.Side.{Side}
@@ -15,8 +13,8 @@ use Rattle.coefficients.specs.declared.merging.Vec3.{Vec3}
 use Rattle.coefficients.specs.declared.merging.VectorTerms.{VectorTerms}
 use Rattle.coefficients.specs.Constants.{f1, ◌+f◌, fma}
 use Rattle.coefficients.specs.Analysis.{contrast, matrix_filter}
-use Rattle.coefficients.specs.Clusters.{blank, better, least, add_to_nearest, plus3}
-use Rattle.coefficients.specs.inner.SharedTerms.{vector_terms, record_terms, record_side, terms_contrast, blank_terms, no_terms, all_terms, least_by_terms}
+use Rattle.coefficients.specs.Clusters.{blank, blank_cluster, better, least, joined, add_to_nearest, plus3}
+use Rattle.coefficients.specs.inner.SharedTerms.{vector_terms, record_terms, record_side, terms_contrast, blank_terms, gone_through, least_by_terms}
 
 -- ---- products
 
@@ -72,56 +70,29 @@ filter-terms b = rw (fma-neg b.v2 b.v1 (neg b.v1), fma-neg b.v2 (neg b.v2) f1, f
 
 -- ---- the vectors' terms
 
-terms-length : (vs : List Vec3) (k : ℕ) → length (all_terms vs k) ≡ 8
-unfolding all_terms
-terms-length vs zero = length-replicate 8 no_terms
-terms-length vs (suc k) = length-set (all_terms vs k) k (vector_terms (get_or vs k blank)) ∙ terms-length vs k
-
-terms-at : (vs : List Vec3) (m k : ℕ) → k < m → m ≤ 8 → get_or (all_terms vs m) k blank_terms ≡ vector_terms (get_or vs k blank)
-unfolding all_terms
-terms-at vs zero k h l = absurd (omega arith)
-terms-at vs (suc m) k h l = elim (ℕ_discrete k m) [
-  | yes p ↦
-      ap (λ (j : ℕ). get_or (set (all_terms vs m) m (vector_terms (get_or vs m blank))) j blank_terms) p
-      ∙ get_or-set_same (all_terms vs m) m (vector_terms (get_or vs m blank)) blank_terms (omega (arith, terms-length vs m))
-      ∙ ap (λ (j : ℕ). vector_terms (get_or vs j blank)) (sym p)
-  | no q ↦ get_or-set_other (all_terms vs m) m k (vector_terms (get_or vs m blank)) blank_terms q ∙ terms-at vs m k (lt_of_le-ne (omega arith) q) (omega arith)
-]
-
-least-terms : (vs : List Vec3) (r : Record) (m k : ℕ) → k ≤ m → m ≤ 8 → least_by_terms (all_terms vs m) (own_side r) k ≡ least vs r k
-unfolding least_by_terms least
-least-terms vs r m zero h l = refl
-least-terms vs r m (suc k) h l =
-    ap₂ (λ (b : Best) (v : VectorTerms). better b (terms_contrast v (own_side r)) k) (least-terms vs r m k (omega arith) l) (terms-at vs m k h l)
+-- the first k of some vectors by their terms
+least-terms : (vs : List Vec3) (r : Record) (k : ℕ) → k ≤ length vs → least_by_terms (map vector_terms vs) (own_side r) k ≡ least vs r k
+unfolding gone_through least
+least-terms vs r zero h = refl
+least-terms vs r (suc k) h =
+    ap₂ (λ (b : Best) (v : VectorTerms). better b (terms_contrast v (own_side r)) k) (least-terms vs r k (omega arith)) (get_or-map vector_terms vs k blank blank_terms (omega arith))
     ∙ ap (λ (x : Float). better (least vs r k) x k) (contrast-terms (get_or vs k blank) r)
 
 -- one record joins
-unfoldable pub add_to_nearest_by_terms : List VectorTerms → ℕ → Tally → Record → Tally
-add_to_nearest_by_terms vs n t r =
+unfoldable pub add_to_nearest_by_terms : List VectorTerms → ℕ → List Cluster → Record → List Cluster
+add_to_nearest_by_terms vs n cs r =
     let q = record_terms r in
     let i = (least_by_terms vs (record_side r q.val) n).index in
-    record {
-      counts = set t.counts i (get_or t.counts i 0 + 1);
-      sums = set t.sums i (plus3 (get_or t.sums i blank) (record { x0 = f1; x1 = q.d1; x2 = q.d2 }));
-    }
+    let c = get_or cs i blank_cluster in
+    set cs i (record { count = c.count + 1; sum = plus3 c.sum (record { x0 = f1; x1 = q.d1; x2 = q.d2 }) })
 
-pub added-terms : (vs : List Vec3) (m : ℕ) (t : Tally) (r : Record) → m ≤ 8 → add_to_nearest_by_terms (all_terms vs m) m t r ≡ add_to_nearest vs m t r
-unfolding add_to_nearest_by_terms add_to_nearest
-added-terms vs m t r l = rw (least-terms vs r m m (omega arith) l, filter-terms r)
+pub added-terms : (vs : List Vec3) (cs : List Cluster) (r : Record) → add_to_nearest_by_terms (map vector_terms vs) (length vs) cs r ≡ add_to_nearest vs (length vs) cs r
+unfolding add_to_nearest_by_terms add_to_nearest joined
+added-terms vs cs r = rw (least-terms vs r (length vs) (le_refl (length vs)), filter-terms r)
 
--- a tally with one record more, by the parts that are worked out in turn
-pub added_is : (ts : List VectorTerms) (m : ℕ) (t : Tally) (r : Record) (q : RecordTerms) (i : ℕ) (v : Vec3) → q ≡ record_terms r → i ≡ (least_by_terms ts (record_side r q.val) m).index
-    → v ≡ plus3 (get_or t.sums i blank) (record { x0 = f1; x1 = q.d1; x2 = q.d2 })
-    → ◌≡◌ {A = Tally} (record { counts = set t.counts i (get_or t.counts i 0 + 1); sums = set t.sums i v }) (add_to_nearest_by_terms ts m t r)
+-- clusters with one record more, by the parts that are worked out in turn
+pub added_is : (ts : List VectorTerms) (m : ℕ) (cs : List Cluster) (r : Record) (q : RecordTerms) (i : ℕ) (v : Vec3) → q ≡ record_terms r → i ≡ (least_by_terms ts (record_side r q.val) m).index
+    → v ≡ plus3 (get_or cs i blank_cluster).sum (record { x0 = f1; x1 = q.d1; x2 = q.d2 })
+    → set cs i (record { count = (get_or cs i blank_cluster).count + 1; sum = v }) ≡ add_to_nearest_by_terms ts m cs r
 unfolding add_to_nearest_by_terms
-added_is ts m t r q i v a b c = simp (← a, ← b, ← c)
-
--- ---- one more
-
-pub terms-more : (vs : List Vec3) (k : ℕ) → all_terms vs (k + 1) ≡ set (all_terms vs k) k (vector_terms (get_or vs k blank))
-unfolding all_terms
-terms-more vs k = rw add-one
-
-pub least-of-more : (vs : List VectorTerms) (s : Side) (k : ℕ) → least_by_terms vs s (k + 1) ≡ better (least_by_terms vs s k) (terms_contrast (get_or vs k blank_terms) s) k
-unfolding least_by_terms
-least-of-more vs s k = rw add-one
+added_is ts m cs r q i v a b c = simp (← a, ← b, ← c)

@@ -7,7 +7,7 @@ use lib.Seq.{sets, drop-append-le, drop-length, length-sets}
 use Rattle.whole.specs.Frames.{frame_at, frame_count}
 use Rattle.whole.proofs.Stores.{sets-snoc}
 use Rattle.coefficients.specs.declared.CoefficientCalculator.{CoefficientCalculator}
-use Rattle.std.specs.Prelude.{Option, Some, None}
+use Rattle.std.specs.Prelude.{Option}
 use Rattle.coefficients.specs.declared.merging.Record.{Record}
 use Rattle.coefficients.specs.FrameRecord.{analyse, stored, counted}
 use Rattle.coefficients.specs.Finish.{record_coefficients}

@@ -1,22 +1,20 @@
 -- A fold over one record more.
-use Rattle.std.proofs.Common.{◌≡◌, ℕ, zero, suc, ◌+◌, ◌*◌, ◌<◌, ◌≤◌, List, [], ◌∷◌, ◌++◌, length, get_or, set, refl, ap, ◌∙◌, le_refl, add-one, arith, length-append, length-set, get_or-set_other, get_or-set_same}
+use Rattle.std.proofs.Common.{◌≡◌, ℕ, zero, suc, ◌+◌, ◌*◌, ◌<◌, ◌≤◌, List, [], ◌∷◌, ◌++◌, length, get_or, set, take, ◌-◌, sym, refl, ap, ◌∙◌, le_refl, add-one, arith, length-append, length-set, get_or-set_other, get_or-set_same}
 use mathlib.Core.List.{foldl}
+use native.Mathlib.Decide.{ℕ_discrete}
+use lib.Arith.{lt_of_le-ne}
 use lib.Ieee.{Float, nan}
+use Rattle.std.proofs.lemmas.List.{take_more, get_or_append_left, get_or-append_right}
 use Rattle.coefficients.specs.declared.merging.Record.{Record}
-use Rattle.coefficients.specs.Store.{records, read_record, write_record}
+use Rattle.coefficients.specs.Store.{records, read_record, write_record, blank_record}
 
 pub foldl-more : {S : Type 0} (f : S → Record → S) (z : S) (rs : List Record) (r : Record) → foldl f z (rs ++ (r ∷ [])) ≡ f (foldl f z rs) r
 foldl-more f z [] r = refl
 foldl-more f z (q ∷ rs) r = foldl-more f (f z q) rs r
 
--- the fold over the first k + 1 records of a store
-pub foldl-records : {S : Type 0} (f : S → Record → S) (z : S) (s : List Float) (k : ℕ) → foldl f z (records s (k + 1)) ≡ f (foldl f z (records s k)) (read_record s k)
-unfolding records
-foldl-records f z s k = rw add-one (foldl-more f z (records s k) (read_record s k))
-
-pub foldl-none : {S : Type 0} (f : S → Record → S) (z : S) (s : List Float) → foldl f z (records s 0) ≡ z
-unfolding records
-foldl-none f z s = refl
+-- the fold over the first k + 1 of some records
+pub foldl-take : {S : Type 0} (f : S → Record → S) (z : S) (rs : List Record) (k : ℕ) (d : Record) → k < length rs → foldl f z (take (k + 1) rs) ≡ f (foldl f z (take k rs)) (get_or rs k d)
+foldl-take f z rs k d h = ap (foldl f z) (take_more rs k d h) ∙ foldl-more f z (take k rs) (get_or rs k d)
 
 -- two steps that agree fold alike
 pub foldl-same : {S : Type 0} (f g : S → Record → S) (z : S) (rs : List Record) → ((s : S) (r : Record) → f s r ≡ g s r) → foldl f z rs ≡ foldl g z rs
@@ -27,6 +25,26 @@ pub records-length : (s : List Float) (n : ℕ) → length (records s n) ≡ n
 unfolding records
 records-length s zero = refl
 records-length s (suc n) = simp (length-append, records-length s n, add-one)
+
+-- the record at place k of a store's
+pub record-at : (s : List Float) (n k : ℕ) → k < n → get_or (records s n) k blank_record ≡ read_record s k
+unfolding records
+record-at s zero k h = absurd (omega arith)
+record-at s (suc n) k h = elim (ℕ_discrete k n) [
+  | yes p ↦ get_or-append_right (records s n) (read_record s n ∷ []) n k blank_record (records-length s n) (omega arith) ∙ last (k - n) (omega arith) ∙ ap (read_record s) (sym p)
+  | no q ↦
+      let l : k < n = lt_of_le-ne (omega arith) q in
+      get_or_append_left (records s n) (read_record s n ∷ []) blank_record k (omega (arith, records-length s n)) ∙ record-at s n k l
+]
+  where
+    last : (j : ℕ) → j ≡ 0 → get_or (read_record s n ∷ []) j blank_record ≡ read_record s n
+    last j e = ap (λ (i : ℕ). get_or (read_record s n ∷ []) i blank_record) e
+
+-- of some records of a store, by the place
+pub record_of_store : (s : List Float) (n k : ℕ) (rs : List Record) → records s n ≡ rs → k < length rs → get_or rs k blank_record ≡ read_record s k
+record_of_store s n k rs e h = ap (λ (l : List Record). get_or l k blank_record) (sym e) ∙ record-at s n k (omega (arith, ap length e, records-length s n))
+
+pub ruleset of_store = (records-length, record_of_store)
 
 -- ---- a record that is written at place k is the next one of the list
 

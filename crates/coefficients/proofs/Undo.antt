@@ -5,7 +5,7 @@ use lib.Ieee.{Float, nan}
 use Rattle.whole.specs.Outcome.{Outcome, accepted, refused_at, with_values}
 use Rattle.whole.proofs.Outcomes.{not-both}
 use Rattle.coefficients.specs.declared.CoefficientCalculator.{CoefficientCalculator}
-use Rattle.std.specs.Prelude.{Option, Some, None}
+use Rattle.std.specs.Prelude.{Option}
 use Rattle.coefficients.specs.declared.merging.Record.{Record}
 use Rattle.coefficients.specs.FrameRecord.{analyse, stored, counted}
 use Rattle.coefficients.specs.Finish.{record_coefficients}

@@ -1,12 +1,12 @@
 -- filter_records: each record joins the first vector of least contrast; each vector becomes the mean of what joined it. Definitions only.
-use Rattle.std.specs.Prelude.{ℕ, zero, suc, ◌+◌, cond, List, replicate, pos, ◌==◌, slice_index, slice_index_or, slice_set, Float}
+use Rattle.std.specs.Prelude.{ℕ, zero, suc, ◌+◌, cond, List, replicate, pos, ◌==◌, slice_index_or, slice_set, Float}
 use mathlib.Core.List.{foldl}
 use Rattle.std.specs.Float.{nan, binary64}
 use Rattle.std.specs.Float.Ieee.{neg, lt, of_int}
 use Rattle.coefficients.specs.declared.merging.Record.{Record}
 use Rattle.coefficients.specs.declared.merging.Vec3.{Vec3}
-use Rattle.coefficients.specs.declared.clusters.Best.{Best}
-use Rattle.coefficients.specs.declared.clusters.Tally.{Tally}
+use Rattle.coefficients.specs.declared.contrasts.Best.{Best}
+use Rattle.coefficients.specs.declared.clusters.Cluster.{Cluster}
 use Rattle.coefficients.specs.Constants.{f0, f1, f_e30, f_e-2, ◌+f◌, ◌/f◌, fma}
 use Rattle.coefficients.specs.Analysis.{contrast, matrix_filter, merge_finish_record}
 use Rattle.coefficients.specs.Store.{first_vector}
@@ -32,18 +32,28 @@ least vs r (suc k) = better (least vs r k) (contrast (slice_index_or vs k blank)
 unfoldable pub plus3 : Vec3 → Vec3 → Vec3
 plus3 a b = record { x0 = a.x0 +f b.x0; x1 = a.x1 +f b.x1; x2 = a.x2 +f b.x2 }
 
+-- what no record has joined yet, as a cluster
+abbrev pub no_cluster : Cluster
+no_cluster = record { count = 0; sum = none }
+
+-- what `get_or` gives past the end
+abbrev pub blank_cluster : Cluster
+blank_cluster = record { count = 0; sum = blank }
+
+-- a cluster with one record more
+unfoldable pub joined : Cluster → Record → Cluster
+joined c r = record { count = c.count + 1; sum = plus3 c.sum (matrix_filter r) }
+
 -- one record joins the nearest of n vectors
-unfoldable pub add_to_nearest : List Vec3 → ℕ → Tally → Record → Tally
-add_to_nearest vs n t r =
-    let i = (least vs r n).index in
-    record { counts = slice_set t.counts i (slice_index t.counts i + 1); sums = slice_set t.sums i (plus3 (slice_index_or t.sums i blank) (matrix_filter r)) }
+unfoldable pub add_to_nearest : List Vec3 → ℕ → List Cluster → Record → List Cluster
+add_to_nearest vs n cs r = let i = (least vs r n).index in slice_set cs i (joined (slice_index_or cs i blank_cluster) r)
 
--- counts and sums before any record
-unfoldable pub empty : Tally
-empty = record { counts = replicate 8 0; sums = replicate 8 none }
+-- the clusters before any record
+unfoldable pub empty : List Cluster
+empty = replicate 8 no_cluster
 
--- counts and sums after some records
-unfoldable pub gather : List Vec3 → ℕ → List Record → Tally
+-- and after some records
+unfoldable pub gather : List Vec3 → ℕ → List Record → List Cluster
 gather vs n rs = foldl (add_to_nearest vs n) empty rs
 
 -- a sum over its count; over 0, the sum
@@ -57,13 +67,13 @@ unfoldable pub with_one : Record → Vec3
 with_one r = record { x0 = f1; x1 = r.v1; x2 = r.v2 }
 
 -- the vector that comes of place k
-unfoldable pub made : Tally → ℕ → Vec3
-made t k = with_one (merge_finish_record (mean (slice_index_or t.sums k blank) (slice_index t.counts k)))
+unfoldable pub made : List Cluster → ℕ → Vec3
+made cs k = let c = slice_index_or cs k blank_cluster in with_one (merge_finish_record (mean c.sum c.count))
 
 -- the first k vectors are made anew
-unfoldable pub renewed : List Vec3 → Tally → ℕ → List Vec3
-renewed vs t zero = vs
-renewed vs t (suc k) = slice_set (renewed vs t k) k (made t k)
+unfoldable pub renewed : List Vec3 → List Cluster → ℕ → List Vec3
+renewed vs cs zero = vs
+renewed vs cs (suc k) = slice_set (renewed vs cs k) k (made cs k)
 
 -- one of filter_records' two rounds
 unfoldable pub filter_round : List Vec3 → ℕ → List Record → List Vec3

@@ -12,6 +12,10 @@ use Rattle.coefficients.specs.Analysis.{matrix_filter, merge_finish_record}
 unfoldable pub read_record : List Float → ℕ → Record
 read_record s k = record { v1 = slice_index_or s (2 * k) nan; v2 = slice_index_or s (2 * k + 1) nan }
 
+-- what reading past the end gives
+abbrev pub blank_record : Record
+blank_record = record { v1 = nan; v2 = nan }
+
 -- the first n records, in order
 unfoldable pub records : List Float → ℕ → List Record
 records s zero = []

@@ -1,93 +1,33 @@
 // The vectors that the records are gathered around.
-ghost use Rattle.std.specs.Prelude.{◌≡◌, ◌+◌, ◌*◌, ◌<◌, ◌≤◌, true, length};
+ghost use Rattle.std.specs.Prelude.{◌≡◌, ◌/◌, ◌%◌, ◌≤◌, length, map, take};
 ghost use Rattle.coefficients.specs.Clusters as Clusters;
-ghost use Rattle.coefficients.specs.inner.PlainContrasts.{AllSmall};
 ghost use Rattle.coefficients.specs.inner.SharedTerms as SharedTerms;
-ghost use Rattle.coefficients.specs.inner.SharedTerms.{Nearest};
-ghost use Rattle.coefficients.specs.Store.{records};
 
-use crate::filter::{all_small, are_small, leading, plain_side};
-use crate::merging::{
-    Record, Side, Vec3, VectorTerms, record_side, record_terms, terms_contrast, vector_terms,
-};
+use crate::contrasts::{all_small, nearest};
+use crate::merging::{Record, Vec3, VectorTerms, merge_finish_record, record_terms, vector_terms};
+use crate::store::{Records, first_vector};
 
-// The least contrast so far, and its place.
-#[derive(Drop)]
-pub(crate) struct Best {
-    pub value: f64,
-    pub index: usize,
+// The records that joined a vector: how many, and the sum of what matrix_filter makes of them.
+#[derive(Clone, Copy, Default)]
+pub(crate) struct Cluster {
+    pub count: u32,
+    pub sum: Vec3,
 }
 
-// How many records joined each vector, and the sums of what matrix_filter makes of them.
-#[derive(Drop)]
-pub(crate) struct Tally {
-    pub counts: [u32; 8],
-    pub sums: [Vec3; 8],
-}
-
-// The lower of the best so far and number i.
-fn better(b: Best, t: f64, i: usize) -> Best
-    ensures { result ≡ Clusters.better b t i }
+// The terms of some vectors, at the front.
+fn all_terms(vs: &[Vec3]) -> [VectorTerms; 8]
+    requires { length vs.now ≤ 8 }
+    ensures { take (length vs.now) result ≡ map SharedTerms.vector_terms vs.now }
 {
-    if t < b.value {
-        Best { value: t, index: i }
-    } else {
-        b
+    let mut terms = [VectorTerms::default(); 8];
+    for i in 0..vs.len() {
+        terms[i] = vector_terms(vs[i]);
     }
-}
-
-// The terms of the first m vectors.
-fn all_terms(vs: [Vec3; 8], m: usize) -> [VectorTerms; 8]
-    requires { m ≤ 8 }
-    ensures { result ≡ SharedTerms.all_terms vs m }
-{
-    let z = VectorTerms {
-        val1: 0.0,
-        val2: 0.0,
-        val3: 0.0,
-    };
-    let mut ts = [z; 8];
-    let mut i: usize = 0;
-    while i < m {
-        ts[i] = vector_terms(vs[i]);
-        i += 1;
-    }
-    ts
-}
-
-// The first of the n vectors of strictly least contrast below 1.0e30, or vector 0.
-fn nearest(ts: [VectorTerms; 8], n: usize, s: Side) -> usize
-    requires { n ≤ 8 }
-    ensures { Nearest ts n s result }
-{
-    let mut b = Best {
-        value: 1.0e30,
-        index: 0,
-    };
-    let mut i: usize = 0;
-    while i < n {
-        b = better(b, terms_contrast(ts[i], s), i);
-        i += 1;
-    }
-    b.index
-}
-
-// The same, by plain contrasts where these are within bounds and the least is clear of the next.
-fn chosen(ts: [VectorTerms; 8], n: usize, small: bool, r: Record, val: f64) -> usize
-    requires n_bound { n ≤ 8 }
-    requires all_small { small ≡ true → AllSmall ts n }
-    ensures { Nearest ts n (SharedTerms.record_side r val) result }
-{
-    if small && are_small(r.v1, r.v2, val) {
-        let l = leading(ts, n, plain_side(r, val));
-        if l.least + 0.000000007450580596923828125 < l.second {
-            return l.index;
-        }
-    }
-    nearest(ts, n, record_side(r, val))
+    terms
 }
 
 // The sum of two vectors.
+#[tactic(auto, unfolding(crate::specs::Clusters::plus3))]
 fn plus3(a: Vec3, b: Vec3) -> Vec3
     ensures { result ≡ Clusters.plus3 a b }
 {
@@ -98,47 +38,42 @@ fn plus3(a: Vec3, b: Vec3) -> Vec3
     }
 }
 
-// Counts and sums of the store's records, each with the vector nearest to it.
-pub(crate) fn gather(vs: [Vec3; 8], m: usize, s: &[f64], n: usize) -> Tally
-    requires { (m ≤ 8) × (2 * n ≤ length s.now) × (n ≤ 1048576) }
-    ensures { result ≡ Clusters.gather vs m (records s.now n) }
+// The records, each with the vector nearest to it.
+fn gather(vs: &[Vec3], records: &Records) -> [Cluster; 8]
+    requires { length vs.now ≤ 8 }
+    ensures { result ≡ Clusters.gather vs.now (length vs.now) records.now }
 {
-    let z = Vec3 {
-        x0: 0.0,
-        x1: 0.0,
-        x2: 0.0,
-    };
-    let mut t = Tally {
-        counts: [0u32; 8],
-        sums: [z; 8],
-    };
-    let ts = all_terms(vs, m);
-    let small = all_small(ts, m);
-    let mut k: usize = 0;
-    while k < n {
-        let r = crate::store::read_record(s, k);
+    let mut clusters = [Cluster::default(); 8];
+    let terms = all_terms(vs);
+    let terms = &terms[..vs.len()];
+    let small = all_small(terms);
+    for k in 0..records.len() {
+        let r = records.get(k);
         let q = record_terms(r);
-        let i = chosen(ts, m, small, r, q.val);
-        let d = Vec3 {
+        let i = nearest(terms, small, r, q.val);
+        let filtered = Vec3 {
             x0: 1.0,
             x1: q.d1,
             x2: q.d2,
         };
-        t.counts[i] = t.counts[i] + 1;
-        t.sums[i] = plus3(t.sums[i], d);
-        k += 1;
+        let cluster = clusters[i];
+        clusters[i] = Cluster {
+            count: cluster.count + 1,
+            sum: plus3(cluster.sum, filtered),
+        };
     }
-    t
+    clusters
 }
 
 // A sum over its count; over 0, the sum.
+#[tactic(auto, unfolding(crate::specs::Clusters::mean))]
 fn mean(a: Vec3, c: u32) -> Vec3
     ensures { result ≡ Clusters.mean a c }
 {
     if c == 0 {
         return a;
     }
-    let d = c as f64;
+    let d = f64::from(c);
     Vec3 {
         x0: a.x0 / d,
         x1: a.x1 / d,
@@ -147,6 +82,7 @@ fn mean(a: Vec3, c: u32) -> Vec3
 }
 
 // A record with the 1 that it does not store.
+#[tactic(auto, unfolding(crate::specs::Clusters::with_one))]
 fn with_one(r: Record) -> Vec3
     ensures { result ≡ Clusters.with_one r }
 {
@@ -157,31 +93,30 @@ fn with_one(r: Record) -> Vec3
     }
 }
 
-// The first m vectors made anew.
-pub(crate) fn renewed(vs: [Vec3; 8], m: usize, t: Tally) -> [Vec3; 8]
-    requires { m ≤ 8 }
-    ensures { result ≡ Clusters.renewed vs t m }
+// The vectors made anew.
+#[tactic(auto, using(crate::proofs::RenewedVectors::renewed_more), unfolding(crate::specs::Clusters::renewed))]
+fn renew(vs: &mut [Vec3], clusters: &[Cluster; 8])
+    requires { length vs.old ≤ 8 }
+    ensures { vs.new ≡ Clusters.renewed vs.old clusters.now (length vs.old) }
 {
-    let mut ws = vs;
-    let mut i: usize = 0;
-    while i < m {
-        let a = t.sums[i];
-        let c = t.counts[i];
-        ws[i] = with_one(crate::merging::merge_finish_record(mean(a, c)));
-        i += 1;
+    for i in 0..vs.len() {
+        let cluster = clusters[i];
+        vs[i] = with_one(merge_finish_record(mean(cluster.sum, cluster.count)));
     }
-    ws
 }
 
 // One of filter_records' two rounds.
-pub(crate) fn filter_round(vs: [Vec3; 8], m: usize, s: &[f64], n: usize) -> [Vec3; 8]
-    requires { (m ≤ 8) × (2 * n ≤ length s.now) × (n ≤ 1048576) }
-    ensures { result ≡ Clusters.filter_round vs m (records s.now n) }
+#[tactic(auto, unfolding(crate::specs::Clusters::filter_round))]
+fn filter_round(vs: &mut [Vec3], records: &Records)
+    requires { length vs.old ≤ 8 }
+    ensures { vs.new ≡ Clusters.filter_round vs.old (length vs.old) records.now }
 {
-    renewed(vs, m, gather(vs, m, s, n))
+    let clusters = gather(vs, records);
+    renew(vs, &clusters);
 }
 
 // A vector a little to the side of another.
+#[tactic(auto, unfolding(crate::specs::Clusters::beside))]
 fn beside(v: Vec3) -> Vec3
     ensures { result ≡ Clusters.beside v }
 {
@@ -192,42 +127,37 @@ fn beside(v: Vec3) -> Vec3
     }
 }
 
-// Each of the first m vectors has its neighbour m places on.
-pub(crate) fn doubled(vs: [Vec3; 8], m: usize) -> [Vec3; 8]
-    requires { m ≤ 4 }
-    ensures { result ≡ Clusters.doubled vs m m }
+// Each of the first half of the vectors has its neighbour in the second.
+#[tactic(auto, using(crate::proofs::RenewedVectors::doubled_more), unfolding(crate::specs::Clusters::doubled))]
+fn double(vs: &mut [Vec3])
+    ensures { vs.new ≡ Clusters.doubled vs.old (length vs.old / 2) (length vs.old / 2) }
 {
-    let mut ws = vs;
-    let mut i: usize = 0;
-    while i < m {
-        let at = m + i;
-        ws[at] = beside(ws[i]);
-        i += 1;
+    let half = vs.len() / 2;
+    for i in 0..half {
+        vs[half + i] = beside(vs[i]);
     }
-    ws
 }
 
-// From m vectors to 2 m, with two rounds.
-pub(crate) fn grown(vs: [Vec3; 8], m: usize, s: &[f64], n: usize) -> [Vec3; 8]
-    requires { (m ≤ 4) × (2 * n ≤ length s.now) × (n ≤ 1048576) }
-    ensures { result ≡ Clusters.grown vs m (records s.now n) }
+// From the first half of the vectors to all of them, with two rounds.
+#[tactic(auto, unfolding(crate::specs::Clusters::grown))]
+fn grow(vs: &mut [Vec3], records: &Records)
+    requires { (length vs.old ≤ 8) × (length vs.old % 2 ≡ 0) }
+    ensures { vs.new ≡ Clusters.grown vs.old (length vs.old / 2) records.now }
 {
-    let ws = doubled(vs, m);
-    let e = m + m;
-    filter_round(filter_round(ws, e, s, n), e, s, n)
+    double(vs);
+    filter_round(vs, records);
+    filter_round(vs, records);
 }
 
-// The eight vectors of n records: one, grown three times.
-pub(crate) fn vectors(s: &[f64], n: usize) -> [Vec3; 8]
-    requires { (2 * n ≤ length s.now) × (n ≤ 1048576) }
-    ensures { result ≡ Clusters.vectors (records s.now n) }
+// The eight vectors of some records: one, grown three times.
+#[tactic(auto, unfolding(crate::specs::Clusters::vectors, crate::specs::Clusters::none))]
+pub(crate) fn vectors(records: &Records) -> [Vec3; 8]
+    ensures { result ≡ Clusters.vectors records.now }
 {
-    let z = Vec3 {
-        x0: 0.0,
-        x1: 0.0,
-        x2: 0.0,
-    };
-    let mut vs = [z; 8];
-    vs[0] = with_one(crate::store::first_vector(s, n));
-    grown(grown(grown(vs, 1, s, n), 2, s, n), 4, s, n)
+    let mut vs = [Vec3::default(); 8];
+    vs[0] = with_one(first_vector(records));
+    grow(&mut vs[..2], records);
+    grow(&mut vs[..4], records);
+    grow(&mut vs, records);
+    vs
 }

@@ -6,7 +6,7 @@ ghost use Rattle.whole.specs.Outcome.{effect, or_kept};
 ghost use Rattle.coefficients.specs.Measure as Measure;
 
 mod clusters;
-mod filter;
+mod contrasts;
 mod finishing;
 mod framing;
 mod measuring;
@@ -16,6 +16,7 @@ mod store;
 mod sums;
 
 use measuring::{finish_answer, padded_record, process_answer, push_all};
+use store::Records;
 use whole::Reason;
 
 // Why a call is refused.
@@ -56,6 +57,7 @@ pub struct CoefficientCalculator {
 
 impl CoefficientCalculator {
     // A fresh state.
+    #[tactic(auto, unfolding(crate::specs::Measure::fresh))]
     pub fn new() -> CoefficientCalculator
         ensures { result ≡ Measure.fresh }
     {
@@ -86,6 +88,6 @@ impl CoefficientCalculator {
     {
         finish_answer(self.samples, self.records, records.len())?;
         let count = padded_record(self, records);
-        Ok(finishing::record_coefficients(records, count))
+        Ok(finishing::record_coefficients(&Records::new(records, count)))
     }
 }

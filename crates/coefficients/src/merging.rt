@@ -11,7 +11,7 @@ pub(crate) struct Record {
 }
 
 // A vector of three numbers.
-#[derive(Clone, Copy)]
+#[derive(Clone, Copy, Default)]
 pub(crate) struct Vec3 {
     pub x0: f64,
     pub x1: f64,
@@ -19,7 +19,7 @@ pub(crate) struct Vec3 {
 }
 
 // The parts of a contrast that depend on the vector alone: the two that are multiplied stand side by side.
-#[derive(Clone, Copy)]
+#[derive(Clone, Copy, Default)]
 pub(crate) struct VectorTerms {
     pub val2: f64,
     pub val3: f64,
@@ -42,6 +42,7 @@ pub(crate) struct RecordTerms {
 }
 
 // x, or what stands for it where it is not within -1 and 1.
+#[tactic(auto, unfolding(crate::specs::Analysis::within_one))]
 pub(crate) fn within_one(x: f64) -> f64
     ensures { result ≡ Analysis.within_one x }
 {
@@ -55,6 +56,7 @@ pub(crate) fn within_one(x: f64) -> f64
 }
 
 // A record of two numbers, each within -1 and 1.
+#[tactic(auto, unfolding(crate::specs::Analysis::finish_record))]
 pub(crate) fn finish_record(a: f64, b: f64) -> Record
     ensures { result ≡ Analysis.finish_record a b }
 {
@@ -67,6 +69,7 @@ pub(crate) fn finish_record(a: f64, b: f64) -> Record
 }
 
 // A vector's part in its contrast with a record.
+#[tactic(auto, unfolding(crate::specs::inner::SharedTerms::vector_terms))]
 pub(crate) fn vector_terms(a: Vec3) -> VectorTerms
     ensures { result ≡ SharedTerms.vector_terms a }
 {
@@ -78,6 +81,7 @@ pub(crate) fn vector_terms(a: Vec3) -> VectorTerms
 }
 
 // What a record's contrasts divide, and what matrix_filter makes of it.
+#[tactic(auto, unfolding(crate::specs::inner::SharedTerms::record_terms))]
 pub(crate) fn record_terms(b: Record) -> RecordTerms
     ensures { result ≡ SharedTerms.record_terms b }
 {
@@ -90,24 +94,8 @@ pub(crate) fn record_terms(b: Record) -> RecordTerms
     }
 }
 
-// A record's part in its contrasts.
-pub(crate) fn record_side(b: Record, val: f64) -> Side
-    ensures { result ≡ SharedTerms.record_side b val }
-{
-    Side {
-        twice: 2.0 * val,
-        last: 2.0 * float::mul_add(-b.v1, val, -b.v2),
-    }
-}
-
-// contrast_vectors of the two.
-pub(crate) fn terms_contrast(v: VectorTerms, s: Side) -> f64
-    ensures { result ≡ SharedTerms.terms_contrast v s }
-{
-    float::mul_add(s.last, v.val3, float::mul_add(s.twice, v.val2, v.val1))
-}
-
 // -x / val where val is above 0, and 0 where it is not.
+#[tactic(auto, unfolding(crate::specs::Analysis::quotient))]
 fn quotient(val: f64, x: f64) -> f64
     ensures { result ≡ Analysis.quotient val x }
 {
@@ -115,6 +103,7 @@ fn quotient(val: f64, x: f64) -> f64
 }
 
 // A record of a sum of vectors.
+#[tactic(auto, unfolding(crate::specs::Analysis::merge_finish_record))]
 pub(crate) fn merge_finish_record(s: Vec3) -> Record
     ensures { result ≡ Analysis.merge_finish_record s }
 {

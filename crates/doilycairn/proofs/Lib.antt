@@ -1,4 +1,5 @@
 -- Laws.
+mod Defaults
 mod Seen
 pub mod Codes
 pub mod Within

@@ -1,75 +1,41 @@
 -- A call's return, packed from a lower call's answer, is what the definition makes of that answer. Assumes nothing.
 use mathlib.Core.List.{List}
-use mathlib.Core.Path.{◌≡◌, ap, ap₂, ◌∙◌}
+use mathlib.Core.Path.{◌≡◌, ap}
 use Prim.Native.Nat.{ℕ, ◌+◌, ◌/◌}
-use lib.Ieee.{Float}
-use lib.IntN.{ℤ}
+use Rattle.std.specs.Prelude.{Result, Ok, Err, ℤ, pos, false}
+use Rattle.std.specs.Result.{result_unwrap_or}
 use Rattle.block.specs.declared.FrameContext.{FrameContext}
 use Rattle.block.specs.Context.{new_context}
-use Rattle.block.specs.Frame.{Playing, playing}
-use Rattle.whole.specs.Outcome.{Outcome, accepted, refused_at, outcome_code, outcome_entry, Effect, effect}
+use Rattle.whole.specs.Outcome.{Outcome, accepted, refused_at, without_values, or_kept, outcome_code, outcome_entry, Effect, effect}
 use Rattle.clip.specs.declared.Encoder.{Encoder}
-use Rattle.clip.specs.Encoding as Clip
-use Rattle.coefficients.specs.declared.CoefficientCalculator.{CoefficientCalculator}
-use Rattle.coefficients.specs.Measure.{Measuring, measuring, FinishEffect, finish_effect}
+use Rattle.clip.specs.declared.Refusal as Clip
+use Rattle.clip.specs.Encoding as Clips
 use Rattle.frame.specs.declared.OneFrame.{OneFrame}
+use Rattle.frame.specs.declared.Refusal as Frame
 use Rattle.frame.specs.Frame as OneFrames
-use Rattle.image.specs.Bodies.{block_answer, body_in, block_body}
-use Rattle.image.specs.declared.Head.{Head}
-use Rattle.image.specs.Opening.{Told, told}
-use Rattle.layout.specs.declared.Loop.{Loop}
-use Rattle.image.specs.Reading.{offset_in, length_in, context_in}
-use Rattle.doilycairn.specs.declared.blocks.Joining.{Joining}
-use Rattle.doilycairn.specs.declared.blocks.Playback.{Playback}
-use Rattle.doilycairn.specs.declared.reading.Body.{Body}
+use Rattle.std.specs.Result.{ResultUnwrapsOrElse}
+use Rattle.clip.proofs.Defaults.{Zeros}
+use Rattle.image.specs.declared.Opening as Told
+use Rattle.image.specs.declared.Refusal as Image
+use Rattle.image.specs.Opening as Images
+use Rattle.doilycairn.proofs.Defaults.{default-head, default-loop, default-context}
 use Rattle.doilycairn.specs.declared.reading.Opening.{Opening}
-use Rattle.doilycairn.specs.declared.reading.Part.{Part}
-use Rattle.doilycairn.specs.declared.reading.Turns.{Turns}
-use Rattle.doilycairn.specs.declared.writing.Frame.{Frame}
-use Rattle.doilycairn.specs.declared.files.Written.{Written}
-use Rattle.doilycairn.specs.Blocks as Blocks
-use Rattle.doilycairn.specs.Blocks.{joined_answer, play_seen, join_seen}
-use Rattle.doilycairn.specs.Files.{written_answer, written_seen}
-use Rattle.doilycairn.specs.Measuring.{process_seen, finish_seen}
-use Rattle.doilycairn.specs.Reading.{open_seen, body_at, handed, body_in_c, part_answer, part_seen, turns_answer, turns_seen}
-use Rattle.doilycairn.specs.Writing.{frame_code, frame_seen, clip_seen}
+use Rattle.image.specs.Bodies.{block_answer, body_in, block_body}
+use Rattle.whole.specs.declared.History.{History}
+use Rattle.image.specs.Reading.{offset_in, length_in, context_in}
+use Rattle.doilycairn.specs.declared.reading.Body.{Body}
+use Rattle.doilycairn.specs.declared.writing.Frame as Framed
+use Rattle.doilycairn.specs.Reading.{open_seen, body_at, handed, body_in_c}
+use Rattle.doilycairn.specs.Writing.{frame_seen, encoding_answer, clip_seen}
 
--- ---- measuring
+-- ---- a clip
 
-pub process-seen : (a : Outcome Unit) (d : CoefficientCalculator) (t : List Float) {o : Effect (Outcome Unit) Measuring} {k : ℕ}
-    → k ≡ outcome_code a → effect a (measuring d t) ≡ o → effect (record { code = k; calculator = d }) t ≡ process_seen o
-process-seen a d t p q = ap (λ (k : ℕ). effect (record { code = k; calculator = d }) t) p ∙ ap process_seen q
-
-pub finish-seen : (a : Outcome Unit) (cs : List ℤ) (d : CoefficientCalculator) (t : List Float) {o : FinishEffect} {k : ℕ}
-    → k ≡ outcome_code a → finish_effect a cs d t ≡ o → effect (record { code = k; coefficients = cs; calculator = d }) t ≡ finish_seen o
-finish-seen a cs d t p q = ap (λ (k : ℕ). effect (record { code = k; coefficients = cs; calculator = d }) t) p ∙ ap finish_seen q
-
--- ---- a frame, a clip
-
-pub frame-seen : (f : OneFrame) {o : OneFrames.FrameEffect} {k : ℕ}
-    → k ≡ frame_code f.verdict → OneFrames.frame_effect f ≡ o → ◌≡◌ {A = Frame} (record { code = k; bytes = f.bytes; passes = f.passes; history = f.history }) (frame_seen o)
-frame-seen f p q = ap (λ (k : ℕ). record { code = k; bytes = f.bytes; passes = f.passes; history = f.history }) p ∙ ap frame_seen q
-
-pub clip-seen : (o : Outcome Unit) (e : Encoder) (l : List ℕ) {f : Effect (Outcome Unit) Clip.Left} {k : ℕ}
-    → k ≡ outcome_code o → effect o (Clip.left e l) ≡ f → effect (record { code = k; encoder = e }) l ≡ clip_seen f
-clip-seen o e l p q = ap (λ (k : ℕ). effect (record { code = k; encoder = e }) l) p ∙ ap clip_seen q
+pub clip-seen : (a : Result Encoder Clip.Refusal) (kept : Encoder) (l : List ℕ) {f : Effect (Outcome Unit) Clips.Left}
+    → effect (without_values (Clips.outcome a)) (Clips.left (or_kept a kept) l) ≡ f → effect (encoding_answer a kept) l ≡ clip_seen f
+clip-seen (Ok e) kept l p = ap clip_seen p
+clip-seen (Err r) kept l p = ap clip_seen p
 
 -- ---- an image
-
-pub open-seen : (o : Outcome Unit) (h : Head) (x : Loop) (c : FrameContext) {e : Effect (Outcome Unit) Told} {k j : ℕ}
-    → k ≡ outcome_code o → j ≡ outcome_entry o → effect o (told h x c) ≡ e
-    → ◌≡◌ {A = Opening} (record { code = k; entry = j; head = h; looped = x; context = c }) (open_seen e)
-open-seen o h x c p r q = ap₂ (λ (k j : ℕ). record { code = k; entry = j; head = h; looped = x; context = c }) p r ∙ ap open_seen q
-
-pub play-seen : (o : Outcome ℕ) (c : FrameContext) (out : List ℤ) {e : Effect (Outcome ℕ) Playing} {r : Playback}
-    → r ≡ Blocks.played_answer o c → effect o (playing c out) ≡ e → effect r out ≡ play_seen e
-play-seen o c out p q = ap (λ (r : Playback). effect r out) p ∙ ap play_seen q
-
-pub part-seen : (o : Outcome (ℕ × ℕ)) (out : List ℤ) {e : Effect (Outcome (ℕ × ℕ)) (List ℤ)} {r : Part} → r ≡ part_answer o → effect o out ≡ e → effect r out ≡ part_seen e
-part-seen o out p q = ap (λ (r : Part). effect r out) p ∙ ap part_seen q
-
-pub turns-seen : (o : Outcome ℕ) (out : List ℤ) {e : Effect (Outcome ℕ) (List ℤ)} {r : Turns} → r ≡ turns_answer o → effect o out ≡ e → effect r out ≡ turns_seen e
-turns-seen o out p q = ap (λ (r : Turns). effect r out) p ∙ ap turns_seen q
 
 -- the entry's numbers, and two nibbles a byte
 pub body-told : (l : List ℕ) (k offset bytes nibbles : ℕ) (c : FrameContext) → offset ≡ offset_in l k → nibbles ≡ length_in l k → bytes ≡ (nibbles + 1) / 2 → c ≡ context_in l k
@@ -89,13 +55,19 @@ pub body_refused : (l : List ℕ) (k n j : ℕ) {code entry : ℕ} {c : FrameCon
 unfolding body_in_c block_body
 body_refused l k n j p r z q = rw (p, r, z, q)
 
--- ---- blocks
+-- ---- opening
 
-pub join-seen : (o : Outcome ℕ) (out : List ℕ) {e : Effect (Outcome ℕ) (List ℕ)} {r : Joining}
-    → r ≡ joined_answer o → effect o out ≡ e → effect r out ≡ join_seen e
-join-seen o out p q = ap (λ (r : Joining). effect r out) p ∙ ap join_seen q
+-- what a derived default of an opening tells of its fields, in their sequence
+abbrev pub DefaultFields : Told.Opening → Type 0
+DefaultFields o =
+    (((o.head.total ≡ 0)
+    × ((o.head.rate ≡ 0) × ((o.head.block ≡ 0) × ((o.head.gain ≡ 0) × (Zeros 16 o.head.coefficients × (o.head.blocks ≡ 0))))))
+    × (((o.looped.start ≡ 0) × ((o.looped.end ≡ 0) × (o.looped.present ≡ false)))
+    × ((o.context.predictor_and_scale ≡ 0) × ((o.context.last_samples.newest ≡ pos 0) × (o.context.last_samples.older ≡ pos 0)))))
 
--- ---- .dsp files
-
-pub written-seen : (o : Outcome ℕ) (l : List ℕ) {e : Effect (Outcome ℕ) (List ℕ)} {r : Written} → r ≡ written_answer o → effect o l ≡ e → effect r l ≡ written_seen e
-written-seen o l p q = ap (λ (r : Written). effect r l) p ∙ ap written_seen q
+-- what opening tells; refused, zeros
+pub open-seen : (a : Result Told.Opening Image.Refusal) (o : Told.Opening) {e : Effect (Outcome Unit) Images.Told} → ResultUnwrapsOrElse a DefaultFields o
+    → effect (without_values (Images.outcome a)) (Images.told_by a) ≡ e
+    → ◌≡◌ {A = Opening} (record { code = outcome_code (Images.outcome a); entry = outcome_entry (Images.outcome a); head = o.head; looped = o.looped; context = o.context }) (open_seen e)
+open-seen (Ok v) o d p = rw d (ap open_seen p)
+open-seen (Err r) o d p = rw (default-head o.head d.0, default-loop o.looped d.1.0, default-context o.context d.1.1) (ap open_seen p)

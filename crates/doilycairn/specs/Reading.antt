@@ -2,9 +2,8 @@
 use Rattle.std.specs.Prelude.{Bool, false, List, ℕ, ◌+◌, ◌/◌, ℤ, take, drop}
 use Rattle.whole.specs.Outcome.{Outcome, value_or, if_accepted, outcome_code, outcome_entry, Effect, effect}
 use Rattle.block.specs.Context.{new_context}
-use Rattle.image.specs.declared.Answer.{Answer}
 use Rattle.image.specs.Bodies.{block_answer, block_body}
-use Rattle.image.specs.Opening.{outcome, Told}
+use Rattle.image.specs.Opening.{Told}
 use Rattle.image.specs.Reading.{offset_in, length_in, context_in}
 use Rattle.image.specs.Part.{samples_of, blocks_of}
 use Rattle.doilycairn.specs.declared.reading.Body.{Body}
@@ -12,14 +11,6 @@ use Rattle.doilycairn.specs.declared.reading.Comparison.{Comparison}
 use Rattle.doilycairn.specs.declared.reading.Opening.{Opening}
 use Rattle.doilycairn.specs.declared.reading.Part.{Part}
 use Rattle.doilycairn.specs.declared.reading.Turns.{Turns}
-
--- the number of an answer
-abbrev pub code_of : Answer → ℕ
-code_of a = outcome_code (outcome a)
-
--- the block that an answer names
-abbrev pub entry_of : Answer → ℕ
-entry_of a = outcome_entry (outcome a)
 
 -- ---- opening
 

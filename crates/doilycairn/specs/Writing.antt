@@ -1,21 +1,17 @@
 -- Encoding a frame, and starting, feeding and closing a clip, as C sees them. Definitions only.
-use Rattle.std.specs.Prelude.{true, List, ℕ, ℤ}
-use Rattle.clip.specs.declared.Answer.{Answer}
+use Rattle.std.specs.Prelude.{true, List, ℕ, ℤ, Result}
+use Rattle.clip.specs.declared.Encoder.{Encoder}
+use Rattle.clip.specs.declared.Refusal.{Refusal}
 use Rattle.clip.specs.declared.starting.Start.{Start}
 use Rattle.clip.specs.Encoding as Clip
 use Rattle.whole.specs.declared.History.{History}
 use Rattle.layout.specs.declared.Loop.{Loop}
-use Rattle.frame.specs.declared.Verdict.{Verdict}
-use Rattle.frame.specs.Frame.{FrameEffect, outcome}
-use Rattle.whole.specs.Outcome.{Outcome, outcome_code, Effect, effect}
+use Rattle.frame.specs.Frame.{FrameEffect}
+use Rattle.whole.specs.Outcome.{Outcome, or_kept, outcome_code, Effect, effect}
 use Rattle.doilycairn.specs.declared.writing.Frame.{Frame}
 use Rattle.doilycairn.specs.declared.writing.Encoding.{Encoding}
 
 -- ---- one frame
-
--- the number of a frame's verdict
-abbrev pub frame_code : Verdict → ℕ
-frame_code v = outcome_code (outcome v)
 
 -- what C sees of a call on a frame
 abbrev pub frame_seen : FrameEffect → Frame
@@ -23,9 +19,9 @@ frame_seen o = record { code = outcome_code o.outcome; bytes = o.bytes; passes =
 
 -- ---- a clip
 
--- the number of an answer
-abbrev pub code_of : Answer → ℕ
-code_of a = outcome_code (Clip.outcome a)
+-- the number of an answer, and the state; refused, the state kept
+abbrev pub encoding_answer : Result Encoder Refusal → Encoder → Encoding
+encoding_answer a kept = record { code = outcome_code (Clip.outcome a); encoder = or_kept a kept }
 
 -- what C sees of a call on a clip: what it returns, and the image buffer after it
 abbrev pub clip_seen : Effect (Outcome Unit) Clip.Left → Effect Encoding (List ℕ)

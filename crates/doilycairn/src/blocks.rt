@@ -1,12 +1,14 @@
 // Blocks without an image: playing bytes, joining, addresses (sections 4 and 5).
 ghost use Rattle.std.specs.Prelude.{◌≡◌};
 ghost use Rattle.block.specs.Address.{address_to_sample, sample_to_address};
-ghost use Rattle.block.specs.Join.{join_outcome, extend_samples};
-ghost use Rattle.block.specs.Play.{play_outcome, play_bytes};
-ghost use Rattle.doilycairn.specs.Blocks.{played_answer, play_seen, joined_answer, join_seen};
+ghost use Rattle.block.specs.Join.{extend_samples};
+ghost use Rattle.block.specs.Play.{final_context, play_bytes};
+ghost use Rattle.doilycairn.specs.Blocks.{count_of, played_answer, play_seen, join_seen};
 ghost use Rattle.whole.specs.Outcome.{effect};
 
-use block::{FrameContext, JoinAnswer, PlayAnswer};
+use crate::answers::{code_of, entry_of};
+use block::FrameContext;
+use whole::Reason;
 
 // What playing returns. `entry` is 0 where no image is played.
 #[repr(C)]
@@ -26,39 +28,22 @@ pub struct Joining {
     pub nibbles: u64,
 }
 
-// The sample count of an answer, or its number.
-fn played_answer(answer: PlayAnswer, context: FrameContext) -> Playback
-    ensures { result ≡ played_answer (play_outcome answer) context }
+// What an answer of playing tells; a refused one, the context that is kept.
+pub(crate) fn played_answer<R: Reason + Copy>(
+    answer: Result<block::Playback, R>,
+    kept: FrameContext,
+) -> Playback
+    ensures { result ≡ played_answer (count_of R.number R.named answer) (final_context answer kept) }
 {
-    match answer {
-        PlayAnswer::Played(samples) => Playback {
-            code: 0,
-            entry: 0,
-            samples: samples,
-            context: context,
-        },
-        PlayAnswer::Refused(why) => Playback {
-            code: block::code(why),
-            entry: 0,
-            samples: 0,
-            context: context,
-        },
-    }
-}
-
-// The lengths' sum of an answer, or its number.
-fn joined_answer(answer: JoinAnswer) -> Joining
-    ensures { result ≡ joined_answer (join_outcome answer) }
-{
-    match answer {
-        JoinAnswer::Joined(nibbles) => Joining {
-            code: 0,
-            nibbles: nibbles,
-        },
-        JoinAnswer::Refused(why) => Joining {
-            code: block::code(why),
-            nibbles: 0,
-        },
+    let played = answer.unwrap_or(block::Playback {
+        samples: 0,
+        context: kept,
+    });
+    Playback {
+        code: code_of(&answer),
+        entry: entry_of(&answer),
+        samples: played.samples,
+        context: played.context,
     }
 }
 
@@ -73,10 +58,10 @@ pub extern "C" fn doilycairn_play_bytes(
 ) -> Playback
     ensures { effect result out.new ≡ play_seen (play_bytes bytes.now nibbles coefficients.now context out.old) }
 {
-    let done = block::play_bytes(bytes, nibbles, *coefficients, context, out);
-    let answer = done.answer;
-    let after = done.context;
-    played_answer(answer, after)
+    played_answer(
+        block::play_bytes(bytes, nibbles, *coefficients, context, out),
+        context,
+    )
 }
 
 // Joins two blocks.
@@ -101,7 +86,10 @@ pub extern "C" fn doilycairn_join(
         *second_coefficients,
         out,
     );
-    joined_answer(answer)
+    Joining {
+        code: code_of(&answer),
+        nibbles: answer.unwrap_or(0),
+    }
 }
 
 // The samples before an address.

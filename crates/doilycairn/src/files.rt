@@ -6,6 +6,7 @@ ghost use Rattle.dsp.specs.Import.{room_for, import_file};
 ghost use Rattle.whole.specs.Outcome.{effect};
 ghost use Rattle.doilycairn.specs.Files.{written_answer, written_seen, dsp_size};
 
+use crate::answers::{code_of, entry_of};
 use layout::sizes::body_bytes;
 use whole::MOST_SAMPLES;
 
@@ -18,21 +19,14 @@ pub struct Written {
     pub bytes: u64,
 }
 
-// The count of an answer, or its number and the block that it names.
-fn written_answer(answer: dsp::Written) -> Written
+// What an answer on files tells.
+fn written_answer(answer: Result<u64, dsp::Refusal>) -> Written
     ensures { result ≡ written_answer (written answer) }
 {
-    match answer {
-        dsp::Written::Done(bytes) => Written {
-            code: 0,
-            entry: 0,
-            bytes: bytes,
-        },
-        dsp::Written::Refused(why) => Written {
-            code: dsp::code(why),
-            entry: dsp::bad_block(why),
-            bytes: 0,
-        },
+    Written {
+        code: code_of(&answer),
+        entry: entry_of(&answer),
+        bytes: answer.unwrap_or(0),
     }
 }
 
@@ -61,14 +55,12 @@ pub extern "C" fn doilycairn_dsp_image_size(file: &[u8], block_size: u32) -> Wri
 }
 
 // The bytes of a clip's .dsp file; 0 where starting it is refused by 4.
+#[tactic(auto, using(std::proofs::lemmas::Bool::Decides::nat_tests), unfolding(crate::specs::Files::dsp_size, dsp::specs::File::file_bytes))]
 #[unsafe(no_mangle)]
 pub extern "C" fn doilycairn_dsp_size(total: u32) -> u64
     ensures { result ≡ dsp_size total }
 {
-    if total < 1 {
-        return 0;
-    }
-    if total > MOST_SAMPLES {
+    if !(1..=MOST_SAMPLES).contains(&total) {
         return 0;
     }
     96 + body_bytes(total as usize) as u64

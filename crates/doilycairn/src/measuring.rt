@@ -1,10 +1,11 @@
 // Measuring samples and asking for coefficients (section 1).
 ghost use Rattle.std.specs.Prelude.{◌≡◌};
-ghost use Rattle.coefficients.specs.Measure.{fresh, outcome, process, finish};
+ghost use Rattle.coefficients.specs.Measure.{fresh, process, finish};
 ghost use Rattle.doilycairn.specs.Measuring.{process_seen, finish_seen};
-ghost use Rattle.whole.specs.Outcome.{outcome_code, effect};
+ghost use Rattle.whole.specs.Outcome.{effect};
 
-use coefficients::{Answer, CoefficientCalculator};
+use crate::answers::code_of;
+use coefficients::CoefficientCalculator;
 
 // What measuring a piece returns.
 #[repr(C)]
@@ -21,16 +22,6 @@ pub struct Finished {
     pub code: u32,
     pub coefficients: [i16; 16],
     pub calculator: CoefficientCalculator,
-}
-
-// The number of an answer: 0 where the call is accepted.
-fn code_of(answer: Answer) -> u32
-    ensures { result ≡ outcome_code (outcome answer) }
-{
-    match answer {
-        Answer::Accepted => 0,
-        Answer::Refused(why) => coefficients::code(why),
-    }
 }
 
 // A fresh state.
@@ -50,12 +41,10 @@ pub extern "C" fn doilycairn_process(
 ) -> Processed
     ensures { effect result records.new ≡ process_seen (process calculator samples.now records.old) }
 {
-    let done = calculator.process(samples, records);
-    let answer = done.answer;
-    let after = done.calculator;
+    let answer = calculator.process(samples, records);
     Processed {
-        code: code_of(answer),
-        calculator: after,
+        code: code_of(&answer),
+        calculator: answer.unwrap_or(calculator),
     }
 }
 
@@ -67,13 +56,10 @@ pub extern "C" fn doilycairn_finish(
 ) -> Finished
     ensures { effect result records.new ≡ finish_seen (finish calculator records.old) }
 {
-    let done = calculator.finish(records);
-    let answer = done.answer;
-    let coefs = done.coefficients;
-    let kept = done.calculator;
+    let answer = calculator.finish(records);
     Finished {
-        code: code_of(answer),
-        coefficients: coefs,
-        calculator: kept,
+        code: code_of(&answer),
+        coefficients: answer.unwrap_or([0; 16]),
+        calculator: calculator,
     }
 }

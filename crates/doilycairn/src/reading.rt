@@ -1,21 +1,23 @@
 // Reading an image: opening, the place of a block's body, playing a block, the whole, a part or the loop, sameness (sections 4 and 5).
 ghost use Rattle.std.specs.Prelude.{◌≡◌};
 ghost use Rattle.image.specs.inner.Asked.{Found};
-ghost use Rattle.image.specs.Opening.{open_image};
+ghost use Rattle.image.specs.Opening.{outcome, open_image};
 ghost use Rattle.image.specs.Looping.{play_loop};
-ghost use Rattle.image.specs.Part.{part_outcome, play_from};
-ghost use Rattle.image.specs.Playing.{play_outcome, play};
-ghost use Rattle.image.specs.Sameness.{same_outcome, same, sounds_same};
+ghost use Rattle.image.specs.Part.{play_from};
+ghost use Rattle.image.specs.Playing.{play};
+ghost use Rattle.image.specs.Sameness.{same, sounds_same};
 ghost use Rattle.image.specs.WholeImage.{play_all};
 ghost use Rattle.whole.specs.Outcome.{effect};
-ghost use Rattle.doilycairn.specs.Blocks.{played_answer, play_seen};
-ghost use Rattle.doilycairn.specs.Reading.{code_of, entry_of, open_seen, body_at, handed, body_in_c, part_answer, part_seen, turns_answer, turns_seen, compared_answer};
+ghost use Rattle.doilycairn.specs.Blocks.{play_seen};
+ghost use Rattle.doilycairn.specs.Reading.{open_seen, body_at, handed, body_in_c, part_seen, turns_seen, compared_answer};
 
-use crate::blocks::Playback;
+use crate::answers::{code_of, entry_of};
+use crate::blocks::{Playback, played_answer};
 use block::FrameContext;
+use image::Head;
 use image::bodies::read_entry;
-use image::{Answer, Head, PartAnswer, PlayAnswer, SameAnswer};
 use layout::Loop;
+use whole::Reason;
 
 // What opening returns. `entry` is here and below the block whose entry is bad, with codes 20, 21 and 22; else 0.
 #[repr(C)]
@@ -30,7 +32,7 @@ pub struct Opening {
 
 // Where a block's body stands in the image, and its entry's length and context.
 #[repr(C)]
-#[derive(Drop)]
+#[derive(Default, Drop)]
 pub struct Body {
     pub code: u32,
     pub entry: u32,
@@ -68,104 +70,14 @@ pub struct Comparison {
     pub same: bool,
 }
 
-// The number of an answer.
-fn code_of(answer: Answer) -> u32
-    ensures { result ≡ code_of answer }
+// What comparing tells.
+fn compared_answer(answer: Result<bool, image::Refusal>) -> Comparison
+    ensures { result ≡ compared_answer (outcome answer) }
 {
-    match answer {
-        Answer::Accepted => 0,
-        Answer::Refused(why) => image::code(why),
-    }
-}
-
-// The block that an answer names.
-fn entry_of(answer: Answer) -> u32
-    ensures { result ≡ entry_of answer }
-{
-    match answer {
-        Answer::Accepted => 0,
-        Answer::Refused(why) => image::bad_block(why),
-    }
-}
-
-// The sample count of an answer, or its number and the block that it names.
-fn played_answer(answer: PlayAnswer, context: FrameContext) -> Playback
-    ensures { result ≡ played_answer (play_outcome answer) context }
-{
-    match answer {
-        PlayAnswer::Played(samples) => Playback {
-            code: 0,
-            entry: 0,
-            samples: samples,
-            context: context,
-        },
-        PlayAnswer::Refused(why) => Playback {
-            code: image::code(why),
-            entry: image::bad_block(why),
-            samples: 0,
-            context: context,
-        },
-    }
-}
-
-// The counts of an answer, or its number and the block that it names.
-fn part_answer(answer: PartAnswer) -> Part
-    ensures { result ≡ part_answer (part_outcome answer) }
-{
-    match answer {
-        PartAnswer::Played(samples, blocks) => Part {
-            code: 0,
-            entry: 0,
-            samples: samples,
-            blocks: blocks,
-        },
-        PartAnswer::Refused(why) => Part {
-            code: image::code(why),
-            entry: image::bad_block(why),
-            samples: 0,
-            blocks: 0,
-        },
-    }
-}
-
-// The sample count of the loop's turns, or the refusal's number and the block that it names.
-fn turns_answer(answer: PlayAnswer) -> Turns
-    ensures { result ≡ turns_answer (play_outcome answer) }
-{
-    match answer {
-        PlayAnswer::Played(samples) => Turns {
-            code: 0,
-            entry: 0,
-            samples: samples,
-        },
-        PlayAnswer::Refused(why) => Turns {
-            code: image::code(why),
-            entry: image::bad_block(why),
-            samples: 0,
-        },
-    }
-}
-
-// Whether an answer is `Same`, or its number and the block that it names.
-fn compared_answer(answer: SameAnswer) -> Comparison
-    ensures { result ≡ compared_answer (same_outcome answer) }
-{
-    match answer {
-        SameAnswer::Same => Comparison {
-            code: 0,
-            entry: 0,
-            same: true,
-        },
-        SameAnswer::Different => Comparison {
-            code: 0,
-            entry: 0,
-            same: false,
-        },
-        SameAnswer::Refused(why) => Comparison {
-            code: image::code(why),
-            entry: image::bad_block(why),
-            same: false,
-        },
+    Comparison {
+        code: code_of(&answer),
+        entry: entry_of(&answer),
+        same: answer.unwrap_or(false),
     }
 }
 
@@ -175,15 +87,13 @@ fn body_at(image: &[u8], k: usize) -> Body
     ensures { result ≡ body_at image.now k }
 {
     let entry = read_entry(image, k);
-    let nibbles = entry.nibbles;
-    let context = entry.context;
     Body {
         code: 0,
         entry: 0,
         offset: entry.offset,
-        bytes: nibbles / 2 + nibbles % 2,
-        nibbles: nibbles,
-        context: context,
+        bytes: entry.nibbles.div_ceil(2),
+        nibbles: entry.nibbles,
+        context: entry.context,
     }
 }
 
@@ -192,17 +102,15 @@ fn body_at(image: &[u8], k: usize) -> Body
 pub extern "C" fn doilycairn_open(image: &[u8]) -> Opening
     ensures { result ≡ open_seen (open_image image.now) }
 {
-    let done = image::open(image);
-    let answer = done.answer;
-    let head = done.head;
-    let looped = done.looped;
-    let context = done.context;
+    let answer = image::open(image);
+    let opening = answer.unwrap_or_default();
+    let head = opening.head;
     Opening {
-        code: code_of(answer),
-        entry: entry_of(answer),
+        code: code_of(&answer),
+        entry: entry_of(&answer),
         head: head,
-        looped: looped,
-        context: context,
+        looped: opening.looped,
+        context: opening.context,
     }
 }
 
@@ -211,20 +119,13 @@ pub extern "C" fn doilycairn_open(image: &[u8]) -> Opening
 pub extern "C" fn doilycairn_block_body(image: &[u8], k: u32) -> Body
     ensures { handed result image.now ≡ body_in_c image.now k }
 {
-    let answer = image::block_answer(image, k);
-    match answer {
-        Answer::Accepted => body_at(image, k as usize),
-        Answer::Refused(why) => {
-            let context = FrameContext::new();
-            Body {
-                code: image::code(why),
-                entry: image::bad_block(why),
-                offset: 0,
-                bytes: 0,
-                nibbles: 0,
-                context: context,
-            }
-        }
+    match image::block_answer(image, k) {
+        Ok(()) => body_at(image, k as usize),
+        Err(why) => Body {
+            code: why.code(),
+            entry: why.bad_block(),
+            ..Body::default()
+        },
     }
 }
 
@@ -233,10 +134,7 @@ pub extern "C" fn doilycairn_block_body(image: &[u8], k: u32) -> Body
 pub extern "C" fn doilycairn_play(image: &[u8], k: u32, out: &mut [i16]) -> Playback
     ensures { effect result out.new ≡ play_seen (play image.now k out.old) }
 {
-    let done = image::play(image, k, out);
-    let answer = done.answer;
-    let context = done.context;
-    played_answer(answer, context)
+    played_answer(image::play(image, k, out), FrameContext::new())
 }
 
 // Plays the whole image.
@@ -244,10 +142,7 @@ pub extern "C" fn doilycairn_play(image: &[u8], k: u32, out: &mut [i16]) -> Play
 pub extern "C" fn doilycairn_play_all(image: &[u8], out: &mut [i16]) -> Playback
     ensures { effect result out.new ≡ play_seen (play_all image.now out.old) }
 {
-    let done = image::play_all(image, out);
-    let answer = done.answer;
-    let context = done.context;
-    played_answer(answer, context)
+    played_answer(image::play_all(image, out), FrameContext::new())
 }
 
 // Plays an image from a sample on.
@@ -256,7 +151,13 @@ pub extern "C" fn doilycairn_play_from(image: &[u8], first: u32, out: &mut [i16]
     ensures { effect result out.new ≡ part_seen (play_from image.now first out.old) }
 {
     let answer = image::play_from(image, first, out);
-    part_answer(answer)
+    let part = answer.unwrap_or_default();
+    Part {
+        code: code_of(&answer),
+        entry: entry_of(&answer),
+        samples: part.samples,
+        blocks: part.blocks,
+    }
 }
 
 // Plays the loop of an image some number of times.
@@ -265,7 +166,11 @@ pub extern "C" fn doilycairn_play_loop(image: &[u8], times: u32, out: &mut [i16]
     ensures { effect result out.new ≡ turns_seen (play_loop image.now times out.old) }
 {
     let answer = image::play_loop(image, times, out);
-    turns_answer(answer)
+    Turns {
+        code: code_of(&answer),
+        entry: entry_of(&answer),
+        samples: answer.unwrap_or(0),
+    }
 }
 
 // Compares two images.
@@ -273,8 +178,7 @@ pub extern "C" fn doilycairn_play_loop(image: &[u8], times: u32, out: &mut [i16]
 pub extern "C" fn doilycairn_same(first: &[u8], second: &[u8]) -> Comparison
     ensures { result ≡ compared_answer (same first.now second.now) }
 {
-    let answer = image::same(first, second);
-    compared_answer(answer)
+    compared_answer(image::same(first, second))
 }
 
 // Compares the sound of two images.
@@ -282,6 +186,5 @@ pub extern "C" fn doilycairn_same(first: &[u8], second: &[u8]) -> Comparison
 pub extern "C" fn doilycairn_sounds_same(first: &[u8], second: &[u8]) -> Comparison
     ensures { result ≡ compared_answer (sounds_same first.now second.now) }
 {
-    let answer = image::sounds_same(first, second);
-    compared_answer(answer)
+    compared_answer(image::sounds_same(first, second))
 }

@@ -7,28 +7,21 @@ use layout::sizes::{cut_down, image_size, shape_of};
 use whole::MOST_SAMPLES;
 
 // The numbers of the store that measuring so many samples needs.
+#[tactic(auto, unfolding(whole::specs::Frames::frame_count))]
 #[unsafe(no_mangle)]
 pub extern "C" fn doilycairn_store_size(samples: u32) -> u64
     ensures { result ≡ needed samples }
 {
-    2 * ((samples as u64 + 13) / 14)
+    2 * u64::from(samples).div_ceil(14)
 }
 
 // The bytes of a clip's image, with some entries after those of its blocks; 0 where starting it is refused by 4 or 6.
+#[tactic(auto, using(std::proofs::lemmas::Bool::Decides::nat_tests), unfolding(crate::specs::Sizes::size_with, layout::specs::Sizes::cut_down))]
 fn size_with(total: u32, block_size: u32, extra: u32) -> u64
     requires { extra ≤ 1 }
     ensures { result ≡ size_with total block_size extra }
 {
-    if total < 1 {
-        return 0;
-    }
-    if total > MOST_SAMPLES {
-        return 0;
-    }
-    if block_size < 8 {
-        return 0;
-    }
-    if block_size > 65_536 {
+    if !(1..=MOST_SAMPLES).contains(&total) || !(8..=65_536).contains(&block_size) {
         return 0;
     }
     let shape = shape_of(total, cut_down(block_size), extra);

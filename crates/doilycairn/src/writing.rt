@@ -1,14 +1,15 @@
 // Encoding a frame, and starting, feeding and closing a clip (sections 2 and 3).
 ghost use Rattle.std.specs.Prelude.{◌≡◌};
-ghost use Rattle.doilycairn.specs.Writing.{frame_code, code_of, frame_seen, clip_seen, given, between};
+ghost use Rattle.doilycairn.specs.Writing.{frame_seen, encoding_answer, clip_seen, given, between};
 ghost use Rattle.whole.specs.Outcome.{effect};
 ghost use Rattle.frame.specs.Frame.{encode_one_frame};
 ghost use Rattle.layout.specs.Sizes.{no_loop};
 ghost use Rattle.clip.specs.Encoding.{start, feed, close};
 
+use crate::answers::code_of;
+use clip::Encoder;
 use clip::starting::Start;
-use clip::{Answer, Encoder};
-use frame::Verdict;
+use frame::OneFrame;
 use layout::Loop;
 use whole::History;
 
@@ -30,23 +31,13 @@ pub struct Encoding {
     pub encoder: Encoder,
 }
 
-// The number of a frame's verdict.
-fn frame_code(verdict: Verdict) -> u32
-    ensures { result ≡ frame_code verdict }
+// What an answer on a clip tells; a refused one, the state that is kept.
+fn encoding_answer(answer: Result<Encoder, clip::Refusal>, kept: Encoder) -> Encoding
+    ensures { result ≡ encoding_answer answer kept }
 {
-    match verdict {
-        Verdict::Encoded => 0,
-        Verdict::Refused(why) => frame::code(why),
-    }
-}
-
-// The number of an answer.
-fn code_of(answer: Answer) -> u32
-    ensures { result ≡ code_of answer }
-{
-    match answer {
-        Answer::Accepted => 0,
-        Answer::Refused(why) => clip::code(why),
+    Encoding {
+        code: code_of(&answer),
+        encoder: answer.unwrap_or(kept),
     }
 }
 
@@ -59,16 +50,26 @@ pub extern "C" fn doilycairn_encode_frame(
 ) -> Frame
     ensures { result ≡ frame_seen (encode_one_frame history samples.now coefficients.now) }
 {
-    let done = frame::encode_one_frame(history, *samples, *coefficients);
-    let verdict = done.verdict;
-    let bytes = done.bytes;
-    let after = done.history;
+    let answer = frame::encode_one_frame(history, *samples, *coefficients);
+    let frame = answer.unwrap_or(OneFrame {
+        bytes: [0; 8],
+        passes: 0,
+        history: history,
+    });
+    let bytes = frame.bytes;
     Frame {
-        code: frame_code(verdict),
+        code: code_of(&answer),
         bytes: bytes,
-        passes: done.passes,
-        history: after,
+        passes: frame.passes,
+        history: frame.history,
     }
+}
+
+// Starts a clip.
+fn start(given: Start, image: &mut [u8]) -> Encoding
+    ensures { effect result image.new ≡ clip_seen (start given image.old) }
+{
+    encoding_answer(clip::start(given, image), Encoder::default())
 }
 
 // Starts a clip without a loop.
@@ -91,19 +92,9 @@ pub extern "C" fn doilycairn_start(
         gain: gain,
         coefficients: *coefficients,
         history: history,
-        looped: Loop {
-            start: 0,
-            end: 0,
-            present: false,
-        },
+        looped: Loop::default(),
     };
-    let done = clip::start(given, image);
-    let answer = done.answer;
-    let encoder = done.encoder;
-    Encoding {
-        code: code_of(answer),
-        encoder: encoder,
-    }
+    start(given, image)
 }
 
 // Starts a clip with a loop.
@@ -134,13 +125,7 @@ pub extern "C" fn doilycairn_start_loop(
             present: true,
         },
     };
-    let done = clip::start(given, image);
-    let answer = done.answer;
-    let encoder = done.encoder;
-    Encoding {
-        code: code_of(answer),
-        encoder: encoder,
-    }
+    start(given, image)
 }
 
 // Feeds a piece.
@@ -148,13 +133,7 @@ pub extern "C" fn doilycairn_start_loop(
 pub extern "C" fn doilycairn_feed(encoder: Encoder, piece: &[i16], image: &mut [u8]) -> Encoding
     ensures { effect result image.new ≡ clip_seen (feed encoder piece.now image.old) }
 {
-    let done = clip::feed(encoder, piece, image);
-    let answer = done.answer;
-    let after = done.encoder;
-    Encoding {
-        code: code_of(answer),
-        encoder: after,
-    }
+    encoding_answer(clip::feed(encoder, piece, image), encoder)
 }
 
 // Closes a clip.
@@ -162,11 +141,5 @@ pub extern "C" fn doilycairn_feed(encoder: Encoder, piece: &[i16], image: &mut [
 pub extern "C" fn doilycairn_close(encoder: Encoder, image: &mut [u8]) -> Encoding
     ensures { effect result image.new ≡ clip_seen (close encoder image.old) }
 {
-    let done = clip::close(encoder, image);
-    let answer = done.answer;
-    let after = done.encoder;
-    Encoding {
-        code: code_of(answer),
-        encoder: after,
-    }
+    encoding_answer(clip::close(encoder, image), encoder)
 }

@@ -15,10 +15,12 @@ use lib.Ieee.Digits.{size-lt, size-le}
 use lib.IntN.{ℤ, pos, negsuc, neg_ℤ, nat_abs, ◌-ℤ◌, +ℤ_idl}
 use lib.ListN.{get_or}
 use lib.Pow.{pow_mono, pow-add}
-use lib.Signed.{non_neg}
-use borrow.Author.Tests.{lt-ltb, le-ltb, ltb-true, ltb-false, eqb-true, eqb-false, eq-eqb, ne_eqb}
+use lib.Signed.{non_neg, le_z}
+use borrow.Author.Tests.{le-leb, lt-ltb, le-ltb, ltb-true, ltb-false, eqb-true, eqb-false, eq-eqb, ne_eqb}
 use mir.Syntax.{w16}
 use mir.Val.{SFits}
+use Rattle.std.specs.Int.{int_max, int_min}
+use Rattle.std.proofs.lemmas.Bool.Decides.{nat_tests}
 use Rattle.whole.proofs.SignedLocals.{abs-sfits}
 use Rattle.whole.proofs.Differences.{over, under}
 use Rattle.frame.specs.Estimate.{difference, larger_magnitude, is_lowest, look, largest_difference, is_small, halvings_within, halvings, max_z, exponent_of, first_exponent}
@@ -185,6 +187,18 @@ tops-done f = le_antisymm
         le-second _ _ _ (subst (λ (k : ℕ). f k ≤ top_of (λ j. f (j + 6)) 8) (sym e) a)
 
 -- ---- the higher and the lower one by what is over and under zero
+
+-- the library's larger and smaller one
+pub library-max : (a b : ℤ) → int_max a b ≡ max_z a b
+unfolding max_z
+library-max (pos a) (pos b) = grind (arith, nat_tests)
+library-max (pos a) (negsuc b) = refl
+library-max (negsuc a) (pos b) = refl
+library-max (negsuc a) (negsuc b) = grind (arith, nat_tests)
+
+pub library-min : (a b : ℤ) → int_min a b ≡ min_z a b
+unfolding min_z
+library-min a b = refl
 
 pub max-over : (a : ℕ) (z : ℤ) → max_z (pos a) z ≡ pos (max a (over z))
 unfolding max_z
@@ -547,18 +561,7 @@ module _ (c0 c1 : ℤ) (fs : List ℤ) (n i : ℕ) (E : Bool) (inv : up_first c0
       let none : 14 - i ≡ 0 = omega arith in
       sym (ap (λ (k : ℕ). up_first c0 c1 fs n k i) none) ∙ inv
 
--- a number that is w, its negative, or neither, where w is not negative
-module _ (d : ℤ) where
-  pub same_up : (w : ℤ) → T (non_neg w) → d ≡ w → (nat_abs d ≡ nat_abs w) × (non_neg d ≡ true)
-  same_up (pos n) t e = (ap nat_abs e, ap non_neg e)
-  same_up (negsuc n) t e = absurd t
-
-  pub same-down : (w : ℤ) → T (non_neg w) → (d ≡ w → ⊥) → d ≡ pos 0 -ℤ w → (nat_abs d ≡ nat_abs w) × (non_neg d ≡ false)
-  same-down (pos zero) t g e = absurd (g e)
-  same-down (pos (suc n)) t g e = let f : d ≡ negsuc n = e ∙ +ℤ_idl (negsuc n) in (ap nat_abs f, ap non_neg f)
-  same-down (negsuc n) t g e = absurd t
-
-pub same-neither : (d w : ℤ) → T (non_neg w) → (d ≡ w → ⊥) → (d ≡ pos 0 -ℤ w → ⊥) → nat_abs d ≡ nat_abs w → ⊥
-same-neither (pos m) (pos n) t g k e = g (ap pos e)
-same-neither (negsuc m) (pos n) t g k e = k (let f : suc m ≡ n = e in ap (λ (j : ℕ). neg_ℤ (pos j)) f ∙ sym (+ℤ_idl (neg_ℤ (pos n))))
-same-neither d (negsuc n) t g k e = absurd t
+-- a number is not negative where 0 is at most as large
+pub sign-test : (z : ℤ) → le_z (pos 0) z ≡ non_neg z
+sign-test (pos n) = le-leb 0 n (omega arith)
+sign-test (negsuc n) = refl

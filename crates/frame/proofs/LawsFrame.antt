@@ -21,7 +21,7 @@ pub history-none : (h : History) (xs : List ℤ) → h ≡ history_after h xs 0
 unfolding history_after preceded
 history-none h xs = refl
 
-pub history-one : (h : History) (xs : List ℤ) (m : ℕ) → m ≡ 1 → ◌≡◌ {A = History} (record { newest = get_or xs (m - 1) (pos 0); older = h.newest }) (history_after h xs m)
+pub history-one : (h : History) (xs : List ℤ) (m : ℕ) → m ≡ 1 → ◌≡◌ {A = History} (record { newest = get_or xs 0 (pos 0); older = h.newest }) (history_after h xs m)
 unfolding history_after preceded
 history-one h xs m e = rw e
 
@@ -41,17 +41,9 @@ history-more h xs (suc (suc k)) l =
     rw (a, b)
 
 -- ---- the limit
-and-false : (a : Bool) → a && false ≡ false
-and-false true = refl
-and-false false = refl
-
 and-true : (a : Bool) → a && true ≡ a
 and-true true = refl
 and-true false = refl
-
-pub pairs-bad : (cs : List ℤ) (i : ℕ) → pair_ok (c0_at cs i) (c1_at cs i) ≡ false → false ≡ pairs_ok cs (i + 1)
-unfolding pairs_ok
-pairs-bad cs i e = rw (add-one, e) (sym (and-false (pairs_ok cs i)))
 
 pub pairs-good : (cs : List ℤ) (i : ℕ) → pair_ok (c0_at cs i) (c1_at cs i) ≡ true → pairs_ok cs i ≡ pairs_ok cs (i + 1)
 unfolding pairs_ok
@@ -80,6 +72,15 @@ pairs-at cs (suc k) i l e = go (dec_le k i) (pairs-at cs k i)
     go : Dec (k ≤ i) → (i < k → pairs_ok cs k ≡ true → pair_ok (c0_at cs i) (c1_at cs i) ≡ true) → pair_ok (c0_at cs i) (c1_at cs i) ≡ true
     go (yes m) r = let x : k ≡ i = omega arith in subst (λ (j : ℕ). pair_ok (c0_at cs j) (c1_at cs j) ≡ true) x t.1
     go (no m) r = r (lt_of_not-le m) t.0
+
+-- one pair beyond the limit is enough for a refusal
+pub limit-broken : (cs : List ℤ) (i : ℕ) → i < 8 → pair_ok (c0_at cs i) (c1_at cs i) ≡ false → false ≡ coefficients_ok cs
+unfolding coefficients_ok
+limit-broken cs i l e = go (pairs_ok cs 8) refl
+  where
+    go : (t : Bool) → pairs_ok cs 8 ≡ t → false ≡ t
+    go false q = refl
+    go true q = let h = pairs-at cs 8 i l q in cc
 
 -- what code 7 accepts is what every law of the search is stated over
 pub limits-bounded : (cs : List ℤ) → coefficients_ok cs ≡ true → AllBounded cs

@@ -33,31 +33,11 @@ filled-done t xs i h k =
     let z : t - i ≡ 0 = omega arith in
     ap (λ (n : ℕ). take i xs ++ replicate n (pos 0)) z ∙ append-nil (take i xs) ∙ ap (λ (n : ℕ). take n xs) e
 
--- the same behind two elements
-pub filled-behind : (t : ℕ) (a b : ℤ) (xs : List ℤ) (i : ℕ) → i < length xs → i < t
-    → set (a ∷ b ∷ (take i xs ++ replicate (t - i) (pos 0))) (i + 2) (get_or xs i (pos 0)) ≡ a ∷ b ∷ (take (i + 1) xs ++ replicate (t - (i + 1)) (pos 0))
-filled-behind t a b xs i h l =
-    let e : i + 2 ≡ suc (suc i) = omega arith in
-    ap (λ (k : ℕ). set (a ∷ b ∷ (take i xs ++ replicate (t - i) (pos 0))) k (get_or xs i (pos 0))) e
-    ∙ ap (λ (r : List ℤ). a ∷ b ∷ r) (filled_more t xs i h l)
-
 -- ---- the samples
 
 pub sample-at : (fs : List ℤ) (i : ℕ) → i < 14 → get_or (samples_of fs) i (pos 0) ≡ get_or fs (i + 2) (pos 0)
 unfolding samples_of
 sample-at fs i h = get_or-take 14 (drop 2 fs) i (pos 0) h ∙ get_or-drop 2 fs i (pos 0) ∙ ap (λ (k : ℕ). get_or fs k (pos 0)) (add_comm 2 i)
-
-pub samples-more : (fs : List ℤ) (i : ℕ) → length fs ≡ 18 → i < 14
-    → set (take i (drop 2 fs) ++ replicate (14 - i) (pos 0)) i (get_or fs (i + 2) (pos 0)) ≡ take (i + 1) (drop 2 fs) ++ replicate (14 - (i + 1)) (pos 0)
-samples-more fs i e h =
-    ap (λ (x : ℤ). set (take i (drop 2 fs) ++ replicate (14 - i) (pos 0)) i x) (ap (λ (k : ℕ). get_or fs k (pos 0)) (add_comm i 2) ∙ sym (get_or-drop 2 fs i (pos 0)))
-    ∙ filled_more 14 (drop 2 fs) i (omega (arith, length-drop 2 fs)) h
-
-pub samples-done : (fs : List ℤ) (i : ℕ) → 14 ≤ i → i ≤ 14 → take i (drop 2 fs) ++ replicate (14 - i) (pos 0) ≡ samples_of fs
-unfolding samples_of
-samples-done fs i h k =
-    let e : i ≡ 14 = omega arith in
-    ap (λ (n : ℕ). take n (drop 2 fs) ++ replicate (14 - n) (pos 0)) e ∙ append-nil (take 14 (drop 2 fs))
 
 -- ---- two samples, fourteen and two zeros
 
@@ -94,22 +74,14 @@ module _ (a b : ℤ) (xs : List ℤ) (e : length xs ≡ 14) (fa : SFits w16 a) (
   fits (suc zero) = fb
   fits (suc (suc i)) = inner i
 
-  placed-whole : Placed (record { newest = b; older = a }) xs whole
+  -- they are placed
+  pub placed-whole : Placed (record { newest = b; older = a }) xs (a ∷ b ∷ (xs ++ (pos 0 ∷ pos 0 ∷ [])))
   unfolding whole samples_of
   placed-whole = record {
     padded = record { length-is = omega (arith, length-append xs (pos 0 ∷ pos 0 ∷ [])); fit = record { at = λ i h. fits i }; after = after };
     before = refl;
     within = take_at xs (pos 0 ∷ pos 0 ∷ []) 14 e;
   }
-
-  -- what the loop has stored at its end
-  pub placed-done : (i : ℕ) → 14 ≤ i → i ≤ 14 → Placed (record { newest = b; older = a }) xs (a ∷ b ∷ (take i xs ++ replicate (16 - i) (pos 0)))
-  unfolding whole
-  placed-done i h k =
-      let n : i ≡ 14 = omega arith in
-      subst (λ (fs : List ℤ). Placed (record { newest = b; older = a }) xs fs)
-      (sym (ap (λ (n : ℕ). a ∷ b ∷ (take n xs ++ replicate (16 - n) (pos 0))) n ∙ ap (λ (l : List ℤ). a ∷ b ∷ (l ++ (pos 0 ∷ pos 0 ∷ []))) (take_all 14 xs (omega arith))))
-      placed-whole
 
 -- ---- the numbers have 16 bits
 

@@ -331,6 +331,13 @@ module _ (c0 c1 : ℤ) (fs : List ℤ) (p : ℕ) where
   abbrev pub at : ℕ → Traced
   at i = trace_at c0 c1 (history_of fs) (samples_of fs) p i
 
+  -- y at place i, and what the sum there begins with
+  abbrev pub lifted : ℕ → ℤ
+  lifted i = pos 8796093020160 *ℤ get_or fs (i + 2) (pos 0) +ℤ pos (4398046511104 * 2 ^ p + 4400193994752)
+
+  abbrev pub started : ℕ → ℤ
+  started i = lifted i +ℤ ((pos (70368744177664 * 2 ^ p) -ℤ pos 4400193994752) -ℤ (pos 4294967295 *ℤ c1) *ℤ older_at i)
+
   -- after i samples: what is written, and that the newest samples have 16 bits
   pub record Ran (i : ℕ) (ws ss : List ℤ) : Type 0 where
     pub spare : Spare ws ss

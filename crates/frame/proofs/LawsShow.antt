@@ -168,9 +168,9 @@ module _ (fs ws ss : List ℤ) (p : ℕ) where
   last-square d r i l m = ap₂ (λ (x y : ℤ). nat_abs (x -ℤ y) * nat_abs (x -ℤ y)) (d.after (i + 2) (omega arith)) (r.s-after i l m)
 
   -- all sixteen places show the pass's fourteen, where they are sure
-  pub seen_all : (nibbles : List ℤ) (most : ℤ) (near high low o : ℕ) (b : Bool) → Padded fs → Spare ws ss → near ≡ 0 → lt_z most (pos 256) ≡ true → o ≡ nat_abs most - 7
-      → SeenTo nibbles most near high low 16 → Shows fs ws ss p (record { nibbles = nibbles; overflow = o; distance = high * 65536 + low; sure = b })
-  seen_all nibbles most near high low o b d r en eb eo u =
+  pub seen_all : (nibbles : List ℤ) (most : ℤ) (near high low o : ℕ) → Padded fs → Spare ws ss → near ≡ 0 → lt_z most (pos 256) ≡ true → o ≡ nat_abs most - 7
+      → SeenTo nibbles most near high low 16 → Shows fs ws ss p (record { nibbles = nibbles; overflow = o; distance = high * 65536 + low })
+  seen_all nibbles most near high low o d r en eb eo u =
       let l = ltb-true u.top 256 (subst (λ (v : ℤ). lt_z v (pos 256) ≡ true) u.most-is eb) in
       let t = u.top-is l in
       let m = ap nat_abs u.most-is in

@@ -7,18 +7,19 @@ ghost use Rattle.frame.specs.Frame.{code, coefficients_ok, encode_frame, encode_
 
 mod choice;
 mod estimate;
-mod narrow;
 mod nibbles;
+mod pair;
 mod pass;
 mod places;
 mod quantise;
 mod quick;
+mod room;
 mod search;
 mod seen;
 
-use choice::choose;
+use choice::{Held, choose};
 use nibbles::pack_frame;
-use quantise::magnitudes;
+use pair::magnitudes;
 use whole::{History, Reason};
 
 // A frame's eight bytes, the passes over all eight candidates, and the samples that the bytes play.
@@ -71,18 +72,12 @@ fn pair_ok(c0: i16, c1: i16) -> bool
 pub fn coefficients_ok(coefficients: [i16; 16]) -> bool
     ensures { result ≡ coefficients_ok coefficients }
 {
-    let mut ok = true;
-    let mut i: usize = 0;
-    while i < 8 {
-        let c0 = coefficients[2 * i];
-        let c1 = coefficients[2 * i + 1];
-        let good = pair_ok(c0, c1);
-        if !good {
-            ok = false;
+    for i in 0..8 {
+        if !pair_ok(coefficients[2 * i], coefficients[2 * i + 1]) {
+            return false;
         }
-        i = i + 1;
     }
-    ok
+    true
 }
 
 // The frame of fourteen samples after `history`, padding zeros among them. It is internal: crate clip calls it.
@@ -90,15 +85,17 @@ pub fn encode_frame(history: History, samples: [i16; 14], coefficients: [i16; 16
     requires { AllBounded coefficients }
     ensures { result ≡ encode_frame history samples coefficients }
 {
-    let held = choose(history, samples, coefficients);
-    let candidate = held.candidate;
-    let nibbles = candidate.nibbles;
-    let kept = candidate.samples;
-    let bytes = pack_frame(held.index * 16 + candidate.exponent, nibbles);
+    let Held {
+        candidate,
+        index,
+        passes,
+    } = choose(history, samples, coefficients);
+    let samples = candidate.samples;
+    let bytes = pack_frame(index * 16 + candidate.exponent, candidate.nibbles);
     EncodedFrame {
-        bytes: bytes,
-        passes: held.passes,
-        samples: kept,
+        bytes,
+        passes,
+        samples,
     }
 }
 
@@ -107,20 +104,16 @@ pub fn history_after(history: History, samples: [i16; 14], m: usize) -> History
     requires { m ≤ 14 }
     ensures { result ≡ history_after history samples m }
 {
-    if m == 0 {
-        return history;
-    }
-    let newest = samples[m - 1];
-    if m == 1 {
-        return History {
-            newest: newest,
+    match m {
+        0 => history,
+        1 => History {
+            newest: samples[0],
             older: history.newest,
-        };
-    }
-    let older = samples[m - 2];
-    History {
-        newest: newest,
-        older: older,
+        },
+        _ => History {
+            newest: samples[m - 1],
+            older: samples[m - 2],
+        },
     }
 }
 

@@ -9,10 +9,7 @@ fn low_four(n: i8) -> u8
     ensures bits { result ≡ low_four n }
     ensures small { result < 16 }
 {
-    if n < 0 {
-        return (n as i64 + 16) as u8;
-    }
-    n as u8
+    n.cast_unsigned() % 16
 }
 
 // The header and seven bytes, high nibble first.
@@ -22,14 +19,10 @@ pub(crate) fn pack_frame(header: u8, nibbles: [i8; 14]) -> [u8; 8]
 {
     let mut out = [0u8; 8];
     out[0] = header;
-    let mut k: usize = 0;
-    while k < 7 {
-        let a = nibbles[2 * k];
-        let b = nibbles[2 * k + 1];
-        let hi = low_four(a);
-        let lo = low_four(b);
+    for k in 0..7 {
+        let hi = low_four(nibbles[2 * k]);
+        let lo = low_four(nibbles[2 * k + 1]);
         out[k + 1] = hi * 16 + lo;
-        k = k + 1;
     }
     out
 }

@@ -1,38 +1,18 @@
 // From D to the number that is clamped to a nibble, in whole numbers.
-ghost use Rattle.std.specs.Prelude.{◌≡◌, ◌+◌, ◌<◌, ◌≤◌, ◌*◌, ◌^◌, nat_abs, ◌-ℤ◌};
+ghost use Rattle.std.specs.Prelude.{◌≡◌, ◌≤◌, ◌*◌, ◌^◌, nat_abs};
 ghost use Rattle.std.specs.Float.Ieee.Nearest.{closest};
-ghost use Rattle.frame.specs.Quantise.{round24, scale, nearest_down, with_sign, quantise, clamp4};
-
-// |z|.
-pub(crate) fn magnitude(z: i64) -> u64
-    requires { nat_abs z ≤ 2147483648 }
-    ensures { result ≡ nat_abs z }
-{
-    if z < 0 {
-        return (0 - z) as u64;
-    }
-    z as u64
-}
-
-// |a| + |b|.
-pub(crate) fn magnitudes(a: i16, b: i16) -> u64
-    ensures { result ≡ nat_abs a + nat_abs b }
-{
-    magnitude(a as i64) + magnitude(b as i64)
-}
+ghost use Rattle.frame.specs.Quantise.{round24, scale, nearest_down, with_sign, quantise};
 
 // n with the sign of z.
 fn with_sign(z: i64, n: u64) -> i64
     requires { n ≤ 4294967296 }
     ensures { result ≡ with_sign z n }
 {
-    if z < 0 {
-        return 0 - (n as i64);
-    }
-    n as i64
+    if z < 0 { -(n as i64) } else { n as i64 }
 }
 
 // m / 2^k to the nearest whole number, a tie to the even one.
+// Stays: crate float's of this name divides by any number, this one shifts; neither is plainer by the other.
 fn nearest_even(m: u64, k: u32) -> u64
     requires m_bound { m ≤ 2147483648 }
     requires le_k { (1 ≤ k) × (k ≤ 8) }
@@ -49,7 +29,7 @@ fn round_24(m: u64) -> u64
     requires le_m { 16777216 ≤ m }
     ensures { result ≡ round24 m }
 {
-    let k = 40 - u64::leading_zeros(m);
+    let k = 40 - m.leading_zeros();
     nearest_even(m, k) * (1u64 << k)
 }
 
@@ -58,7 +38,7 @@ fn rounded(d: i64) -> i64
     requires { nat_abs d ≤ 2147483648 }
     ensures { result ≡ with_sign d (round24 (nat_abs d)) }
 {
-    let m = magnitude(d);
+    let m = d.unsigned_abs();
     let short = m < 16777216;
     if short {
         return d;
@@ -75,9 +55,10 @@ fn nearest(d: i64, p: u8) -> i64
     let half = 1024 * (1i64 << p);
     let above = 0 < d;
     if above {
-        return (d + half - 1) >> (p + 11);
+        (d + half - 1) >> (p + 11)
+    } else {
+        (d + half) >> (p + 11)
     }
-    (d + half) >> (p + 11)
 }
 
 // D to 24 significant bits, over 2048 * 2^p, to the nearest, halves towards zero.
@@ -87,31 +68,4 @@ pub(crate) fn quantise(d: i64, p: u8) -> i64
     ensures { result ≡ quantise d p }
 {
     nearest(rounded(d), p)
-}
-
-// x, or the nearer end of -8..7.
-pub(crate) fn clamp_4(x: i64) -> i64
-    ensures { result ≡ clamp4 x }
-{
-    if x < -8 {
-        return -8;
-    }
-    if 7 < x {
-        return 7;
-    }
-    x
-}
-
-// How far x is out of -8..7.
-pub(crate) fn excess(x: i64) -> u64
-    requires { nat_abs x ≤ 4294967296 }
-    ensures { result ≡ nat_abs (x -ℤ clamp4 x) }
-{
-    if x < -8 {
-        return (-8 - x) as u64;
-    }
-    if 7 < x {
-        return (x - 7) as u64;
-    }
-    0
 }

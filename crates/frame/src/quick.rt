@@ -1,10 +1,14 @@
 // A pass in units of 2^-32, without the rounding to 24 bits and the clamp to 16.
-ghost use Rattle.std.specs.Prelude.{true, ◌≡◌, ◌+◌, ◌*◌, ◌≤◌, nat_abs, ◌+ℤ◌, ◌-ℤ◌, ◌*ℤ◌};
-ghost use Rattle.frame.specs.inner.Places.{Padded, history_of, samples_of};
-ghost use Rattle.frame.specs.inner.Quick.{Fine, Roomy, ScalesOf, Spare, Steps, Traces, is_beyond, rest_of, traced_by};
+ghost use Rattle.std.specs.Prelude.{◌≡◌, ◌+◌, ◌*◌, ◌≤◌, IfSome, nat_abs, ◌+ℤ◌, ◌-ℤ◌, ◌*ℤ◌};
+ghost use Rattle.frame.specs.inner.Places.{history_of, samples_of};
+ghost use Rattle.frame.specs.inner.Quick.{Roomy, ScalesOf, Steps, Traces, is_beyond, rest_of, traced_by};
+
+use crate::pair::Pair;
+use crate::places::Frame;
+use crate::room::Room;
 
 // What a sample leaves: D raised by half a step and eight steps, and the reconstructed sample.
-#[derive(Drop)]
+#[derive(Clone, Copy)]
 pub(crate) struct Traced {
     pub w: i32,
     pub s: i64,
@@ -18,6 +22,24 @@ pub(crate) struct Scales {
     pub top: i64,
     pub half: i64,
     pub eight: i64,
+}
+
+impl Scales {
+    // What the nibble leaves of w.
+    fn rest(self, w: i64) -> i64
+        requires { Steps self.mask self.all self.top }
+        ensures { result ≡ rest_of w (nat_abs self.mask + 1) }
+    {
+        if w < 0 {
+            w
+        } else {
+            if w < self.all {
+                ((w as u64) & (self.mask as u64)) as i64
+            } else {
+                w - self.top
+            }
+        }
+    }
 }
 
 // The scales at exponent p.
@@ -35,22 +57,6 @@ fn scales_at(p: u8) -> Scales
     }
 }
 
-// What the nibble leaves of w.
-fn rest(w: i64, mask: i64, all: i64, top: i64) -> i64
-    requires { Steps mask all top }
-    ensures { result ≡ rest_of w (nat_abs mask + 1) }
-{
-    if w < 0 {
-        w
-    } else {
-        if w < all {
-            ((w as u64) & (mask as u64)) as i64
-        } else {
-            w - top
-        }
-    }
-}
-
 // One sample: its w is g less c0 * newest.
 fn trace(y: i64, g: i64, newest: i64, c0: i64, k: Scales) -> Traced
     requires steps { Steps k.mask k.all k.top }
@@ -60,10 +66,9 @@ fn trace(y: i64, g: i64, newest: i64, c0: i64, k: Scales) -> Traced
     ensures { result ≡ traced_by y (g -ℤ c0 *ℤ newest) (nat_abs k.mask + 1) }
 {
     let w = g - c0 * newest;
-    let left = rest(w, k.mask, k.all, k.top);
     Traced {
         w: (w >> 32) as i32,
-        s: (y - left) >> 43,
+        s: (y - k.rest(w)) >> 43,
     }
 }
 
@@ -84,42 +89,29 @@ fn is_beyond(s: i64) -> bool
     s < -32768 || 32767 < s
 }
 
-// A pass at exponent p into w and s, up to the first sample of more than 16 bits.
-pub(crate) fn run_quick(
-    c0: i16,
-    c1: i16,
-    frame: &[i16; 18],
-    fine: &[i64; 16],
-    p: u8,
-    w: &mut [i32; 16],
-    s: &mut [i16; 16],
-) -> bool
-    requires roomy { Roomy c0 c1 }
-    requires padded { Padded frame.now × Fine frame.now fine.now }
+// A pass at exponent p into `room`; none where a sample has more than 16 bits.
+pub(crate) fn run_quick(pair: Pair, frame: &Frame, p: u8, room: &mut Room) -> Option<()>
+    requires roomy { Roomy pair.c0 pair.c1 }
     requires p_bound { p ≤ 12 }
-    requires spare { Spare w.old s.old }
-    ensures { Spare w.new s.new × (result ≡ true → Traces c0 c1 (history_of frame.now) (samples_of frame.now) p w.new s.new) }
+    ensures { IfSome result (λ _. Traces pair.c0 pair.c1 (history_of frame.now.samples) (samples_of frame.now.samples) p room.new.w room.new.s) }
 {
-    let a = 4294967295 * (c0 as i64);
-    let b = 4294967295 * (c1 as i64);
+    let a = 4294967295 * i64::from(pair.c0);
+    let b = 4294967295 * i64::from(pair.c1);
     let k = scales_at(p);
-    let mut newest = frame[1] as i64;
-    let mut y = fine[0] + k.half;
-    let mut g = begun(y, k.eight, b, frame[0] as i64);
-    let mut i: usize = 0;
-    while i < 14 {
+    let mut newest = i64::from(frame.samples[1]);
+    let mut y = frame.fine[0] + k.half;
+    let mut g = begun(y, k.eight, b, i64::from(frame.samples[0]));
+    for i in 0..14 {
         let t = trace(y, g, newest, a, k);
         let sample = t.s;
         if is_beyond(sample) {
-            return false;
+            return None;
         }
-        let raised = t.w;
-        w[i] = raised;
-        s[i] = sample as i16;
-        y = fine[i + 1] + k.half;
+        room.w[i] = t.w;
+        room.s[i] = sample as i16;
+        y = frame.fine[i + 1] + k.half;
         g = begun(y, k.eight, b, newest);
         newest = sample;
-        i = i + 1;
     }
-    true
+    Some(())
 }

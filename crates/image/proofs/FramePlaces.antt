@@ -10,9 +10,8 @@ use lib.ListN.{length}
 use Rattle.layout.specs.Sizes.{bodies_place, last_frame_samples, block_count, body_bytes, image_size}
 use Rattle.whole.specs.Frames.{frame_count}
 use Rattle.layout.proofs.SizeLaws.{frames-some, frames-le, blocks-most, first_block}
-use Rattle.image.specs.declared.Head.{Head}
-use Rattle.image.specs.Reading.{shape_in, total_in, block_in, head_in}
-use Rattle.image.specs.inner.Asked.{Found, Source, Turn}
+use Rattle.image.specs.Reading.{shape_in, total_in, block_in}
+use Rattle.image.specs.inner.Asked.{Opens, Found, Source}
 use Rattle.image.specs.inner.ByFrames.{frame_samples, frame_place_in}
 
 pub count-whole : (n i : ℕ) → i + 1 < frame_count n → frame_samples n i ≡ 14
@@ -72,13 +71,6 @@ module _ (l : List ℕ) (block bodies i : ℕ) (s : Source l block bodies i) whe
         block = subst (λ (b : ℕ). i / (b / 8) < block_count (shape_in l)) (sym s.size) (first_block (shape_in l) i s.opens.head.limits s.frame q);
       }
 
--- B, as it follows from the head that was read, and where the bodies begin
-pub turn-source : (l : List ℕ) (head : Head) (i count bodies : ℕ) → Turn l head i count → bodies ≡ bodies_place (shape_in l) → Source l head.block bodies i
-unfolding head_in
-turn-source l head i count bodies t e =
-    record {
-      opens = t.opens;
-      size = ap (λ (h : Head). h.block) t.read;
-      bodies = e;
-      frame = t.frame;
-    }
+-- frame i of an image that opens
+pub source : (l : List ℕ) (block i : ℕ) → Opens l → block ≡ block_in l → i < frame_count (total_in l) → Source l block (bodies_place (shape_in l)) i
+source l block i o e h = record { opens = o; size = e; bodies = refl; frame = h }

@@ -13,6 +13,12 @@ use lib.Seq.{take-suc}
 use Rattle.block.specs.Refusals.{equal, equal_up_to}
 use Rattle.block.proofs.LawsRefusals.{equal-self, equal-true}
 use Rattle.layout.proofs.LimitLaws.{both_true}
+use lib.Pointwise.{pointwise}
+use Rattle.std.specs.Ordering.{int_eq}
+use Rattle.std.specs.Cmp.Rules.{signed_items}
+use Rattle.std.proofs.lemmas.Bool.Decides.{same_from_decides, Decides-int_eq}
+use Rattle.std.proofs.lemmas.List.{get_or-take, take_all}
+use Rattle.block.specs.Refusals.{equal_coefficients}
 use Rattle.image.specs.Sameness.{equal_samples}
 
 pub never : ◌≡◌ {A = Bool} false true → ⊥
@@ -59,10 +65,6 @@ differ xs ys h = go (equal_samples xs ys) refl
 
 -- ---- the first samples
 
-pub upto-none : (xs ys : List ℤ) → equal_up_to xs ys 0 ≡ true
-unfolding equal_up_to
-upto-none xs ys = refl
-
 pub upto-more : (xs ys : List ℤ) (i : ℕ) → equal_up_to xs ys i ≡ true → equal (get_or xs i (pos 0)) (get_or ys i (pos 0)) ≡ true → equal_up_to xs ys (i + 1) ≡ true
 unfolding equal_up_to
 upto-more xs ys i e f = rw (add-one i, e, f)
@@ -86,3 +88,27 @@ upto_take xs ys (suc n) p q e =
     take-suc xs n (pos 0) (omega arith)
     ∙ ap₂ (λ (l : List ℤ) (x : ℤ). l ++ (x ∷ [])) (upto_take xs ys n (omega arith) (omega arith) b.0) (equal-true (get_or xs n (pos 0)) (get_or ys n (pos 0)) b.1)
     ∙ sym (take-suc ys n (pos 0) (omega arith))
+
+upto-same : (xs ys : List ℤ) (n : ℕ) → ((k : ℕ) → k < n → get_or xs k (pos 0) ≡ get_or ys k (pos 0)) → equal_up_to xs ys n ≡ true
+unfolding equal_up_to
+upto-same xs ys zero h = refl
+upto-same xs ys (suc n) h = rw (upto-same xs ys n (λ k l. h k (omega arith)), h n (omega arith)) (equal-self (get_or ys n (pos 0)))
+
+-- ---- the library's tests
+
+pub library_equal : (x y : ℤ) → int_eq x y ≡ equal x y
+library_equal x y = same_from_decides (int_eq x y) (equal x y) (Decides-int_eq x y) (equal-true x y, λ e. rw e (equal-self y))
+
+-- of two parts, the first n
+pub library_equal_parts : (xs ys : List ℤ) (n : ℕ) → n ≤ length xs → n ≤ length ys → pointwise int_eq (take n xs) (take n ys) ≡ equal_up_to xs ys n
+library_equal_parts xs ys n p q =
+    same_from_decides (pointwise int_eq (take n xs) (take n ys)) (equal_up_to xs ys n) (signed_items (take n xs) (take n ys)) (
+      upto_take xs ys n p q,
+      λ e. upto-same xs ys n (λ k l. sym (get_or-take n xs k (pos 0) l) ∙ ap (λ (zs : List ℤ). get_or zs k (pos 0)) e ∙ get_or-take n ys k (pos 0) l),
+    )
+
+-- of sixteen coefficients
+pub library_equal_sixteen : (cs ds : List ℤ) → length cs ≡ 16 → length ds ≡ 16 → pointwise int_eq cs ds ≡ equal_coefficients cs ds
+unfolding equal_coefficients
+library_equal_sixteen cs ds p q =
+    ap₂ (pointwise int_eq) (sym (take_all 16 cs (omega arith))) (sym (take_all 16 ds (omega arith))) ∙ library_equal_parts cs ds 16 (omega arith) (omega arith)

@@ -234,9 +234,6 @@ module _ (l : List ℕ) (times room : ℕ) (p : Turns l times room) (turn done :
       let s = suc-mul turn (loop_length l) in
       omega (arith, m, s, e)
 
-  pub turn-done : done + loop_length l ≡ (turn + 1) * loop_length l
-  turn-done = let s = suc-mul turn (loop_length l) in rw (add-one turn) (omega (arith, s, e))
-
   -- a turn more, as the call leaves it
   pub turn-again : (out cur ys : List ℤ) → room ≡ length out → cur ≡ sets out 0 (repeated turn (loop_once l))
       → ys ≡ sets (take (length cur - done) (drop done cur)) 0 (loop_once l)

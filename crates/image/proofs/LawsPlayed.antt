@@ -14,10 +14,9 @@ use Rattle.whole.specs.Outcome.{Outcome, accepted, Effect, effect}
 use Rattle.image.specs.Reading.{coefficients_in, length_in, context_in}
 use Rattle.image.specs.inner.Asked.{Found, Playable}
 use Rattle.image.specs.Bodies.{body_in}
-use Rattle.image.specs.Playing.{room_answer, play}
-use Rattle.image.specs.inner.Played.{play_by}
+use Rattle.image.specs.Playing.{play}
 use Rattle.image.specs.Sameness.{block_samples}
-use Rattle.image.proofs.LawsBody.{room-accepts, play-accepts, found_some}
+use Rattle.image.proofs.LawsBody.{play-accepts, found_some}
 
 module _ (l : List ℕ) (k : ℕ) (out : List ℤ) (p : Playable l k (length out)) where
   abbrev pub leaves : Playing
@@ -27,11 +26,6 @@ module _ (l : List ℕ) (k : ℕ) (out : List ℤ) (p : Playable l k (length out
   pub play-leaves : effect (accepted (address_to_sample (length_in l k))) leaves ≡ play l k out
   unfolding play
   play-leaves = rw (play-accepts l k (length out) p)
-
-  -- the call's effect on a block that was found, with the count that was worked out
-  pub found-made : (n : ℕ) (x : Playing) → n ≡ address_to_sample (length_in l k) → x ≡ leaves
-      → effect (accepted n) x ≡ play_by (room_answer (coefficients_in l) (address_to_sample (length_in l k)) (length out)) l k out
-  found-made n x en e = rw (en, e, room-accepts (coefficients_in l) (address_to_sample (length_in l k)) (length out) p.pairs p.enough)
 
   -- the output after an accepted call: the block's samples, and what stood beyond them
   pub play-output : (play l k out).left.samples ≡ block_samples l k ++ drop (address_to_sample (length_in l k)) out

@@ -35,3 +35,4 @@ pub mod WhereSixteenStood
 mod LawsTurn
 mod EntriesInTurn
 mod EntryTests
+mod BlocksOf

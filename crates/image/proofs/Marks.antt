@@ -1,18 +1,23 @@
--- The mark, byte by byte.
-use mathlib.Core.Path.{◌≡◌, refl}
-use mathlib.Core.Bool.{Bool, true, false, ◌&&◌}
-use mathlib.Core.List.{List}
-use Prim.Native.Nat.{ℕ}
-use borrow.Author.Tests.{eq-eqb}
+-- The mark, as the library compares it.
+use mathlib.Core.Path.{◌≡◌, refl, sym, ap₂}
+use mathlib.Core.Bool.{◌&&◌}
+use mathlib.Core.List.{List, [], ◌∷◌}
+use Prim.Native.Nat.{ℕ, suc, ◌+◌, ◌≤◌}
+use native.Mathlib.Omega.{arith}
+use borrow.Author.Tests.{eqb-true, eq-eqb}
 use lib.Dec.{eqb}
-use lib.ListN.{get_or}
-use Rattle.image.specs.Opening.{mark_ok}
+use lib.ListN.{length, get_or, take, drop}
+use lib.Pointwise.{pointwise}
+use lib.Seq.{drop-cons}
+use Rattle.std.proofs.lemmas.Bool.Decides.{same_from_decides, Decides-eqb}
+use Rattle.image.specs.Opening.{holds}
 
-and-true : (t : Bool) → t && true ≡ t
-and-true true = refl
-and-true false = refl
+turned : (x y : ℕ) → eqb x y ≡ eqb y x
+turned x y = same_from_decides (eqb x y) (eqb y x) (Decides-eqb x y) ((λ e. sym (eqb-true y x e)), (λ e. eq-eqb y x (sym e)))
 
--- where the first three bytes are right, the fourth decides
-pub mark-last : (l : List ℕ) → get_or l 0 0 ≡ 0x44 → get_or l 1 0 ≡ 0x53 → get_or l 2 0 ≡ 0x50 → eqb (get_or l 3 0) 0x43 ≡ mark_ok l
-unfolding mark_ok
-mark-last l p q r = rw (eq-eqb (get_or l 0 0) 0x44 p, eq-eqb (get_or l 1 0) 0x53 q, eq-eqb (get_or l 2 0) 0x50 r, and-true)
+-- a slice that has these bytes at a place
+pub begins : (l m : List ℕ) (i : ℕ) → i + length m ≤ length l → pointwise eqb m (take (length m) (drop i l)) ≡ holds l i m
+begins l [] i h = refl
+begins l (v ∷ vs) i h =
+    rw (drop-cons l i 0 (omega arith))
+    (ap₂ ◌&&◌ (turned v (get_or l i 0)) (begins l vs (suc i) (omega arith)))

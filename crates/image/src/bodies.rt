@@ -12,7 +12,7 @@ use layout::sizes::entry_place;
 use whole::History;
 
 // What a block's entry says: where its body begins, the body's length in nibbles, and the context that it is played from.
-#[derive(Drop)]
+#[derive(Clone, Copy)]
 pub struct Entry {
     pub offset: u32,
     pub nibbles: u32,
@@ -28,13 +28,9 @@ pub fn read_context(image: &[u8], k: usize) -> FrameContext
     let header = word_at(image, at + 8);
     let newest = signed_at(image, at + 10);
     let older = signed_at(image, at + 12);
-    let last_samples = History {
-        newest: newest,
-        older: older,
-    };
     FrameContext {
         predictor_and_scale: header,
-        last_samples: last_samples,
+        last_samples: History { newest, older },
     }
 }
 
@@ -44,13 +40,10 @@ pub fn read_entry(image: &[u8], k: usize) -> Entry
     ensures { result ≡ read_entry image.now k }
 {
     let at = entry_place(k);
-    let offset = get32(image, at);
-    let nibbles = get32(image, at + 4);
-    let context = read_context(image, k);
     Entry {
-        offset: offset,
-        nibbles: nibbles,
-        context: context,
+        offset: get32(image, at),
+        nibbles: get32(image, at + 4),
+        context: read_context(image, k),
     }
 }
 
@@ -60,6 +53,5 @@ pub fn find_body<'a>(image: &'a [u8], offset: usize, nibbles: usize) -> &'a [u8]
     ensures result_value { result.now ≡ take ((nibbles + 1) / 2) (drop offset image.now) }
     ensures ref_ptr_value { result.ref_ptr ≡ (image.entry.ref_ptr.0, image.entry.ref_ptr.1 + offset) }
 {
-    let end = offset + (nibbles + 1) / 2;
-    &image[offset..end]
+    &image[offset..offset + nibbles.div_ceil(2)]
 }

@@ -2,16 +2,13 @@
 ghost use Rattle.std.specs.Prelude.{◌≡◌, ◌+◌, ◌*◌, ◌≤◌, ◌<◌, length};
 ghost use Rattle.block.specs.Refusals.{equal_up_to};
 ghost use Rattle.whole.specs.Frames.{frame_count};
-ghost use Rattle.image.specs.inner.Asked.{Opens, Source, Turn, Pair};
 ghost use Rattle.image.specs.inner.ByFrames.{frame_samples, context_before, played_frame, next_frame};
-ghost use Rattle.image.specs.Sameness.{equal_samples, samples_in, same_sound};
+ghost use Rattle.image.specs.Reading.{total_in};
+ghost use Rattle.image.specs.Sameness.{same_sound};
 
-use crate::Head;
-use crate::bodies::read_entry;
-use crate::heading::{read_head, read_shape};
-use block::coefficients::equal;
+use crate::opened::Opened;
 use block::{FrameContext, play_frame};
-use layout::sizes::{bodies_place, frame_count, last_samples};
+use layout::sizes::{frame_count, last_samples};
 use whole::{BYTES_PER_FRAME, SAMPLES_PER_FRAME};
 
 // A frame's samples, and the context after them.
@@ -27,32 +24,11 @@ fn frame_samples(total: usize, i: usize) -> usize
     ensures same { result ≡ frame_samples total i }
     ensures most { result ≤ 14 }
 {
-    let f = frame_count(total);
-    if i + 1 < f {
-        return SAMPLES_PER_FRAME;
+    if i + 1 < frame_count(total) {
+        SAMPLES_PER_FRAME
+    } else {
+        last_samples(total)
     }
-    last_samples(total)
-}
-
-// What frame i is played from: its block's entry's context, or what the frame before left, under its own header.
-fn context_before(
-    image: &[u8],
-    block: usize,
-    bodies: usize,
-    i: usize,
-    before: FrameContext,
-) -> FrameContext
-    requires { Source image.now block bodies i }
-    ensures { result ≡ context_before image.now i before }
-{
-    let per = block / BYTES_PER_FRAME;
-    let begins = i % per == 0;
-    if begins {
-        let entry = read_entry(image, i / per);
-        let context = entry.context;
-        return context;
-    }
-    before.with_header(image[bodies + BYTES_PER_FRAME * i])
 }
 
 // `count` samples of the frame at a byte.
@@ -66,30 +42,9 @@ fn played_frame(
     requires { (2 * at + 2 + count ≤ 2 * length image.now) × (count ≤ 14) }
     ensures { result ≡ played_frame image.now at count coefficients context }
 {
-    let mut out = [0i16; 14];
-    let after = play_frame(image, at, count, coefficients, context, &mut out, 0);
-    Frame {
-        samples: out,
-        context: after,
-    }
-}
-
-// Frame i, after what the frame before left.
-fn next_frame(image: &[u8], head: Head, i: usize, count: usize, before: FrameContext) -> Frame
-    requires { Turn image.now head i count }
-    ensures { result ≡ next_frame image.now i before }
-{
-    let block = head.block as usize;
-    let bodies = bodies_place(read_shape(image));
-    let coefficients = head.coefficients;
-    let context = context_before(image, block, bodies, i, before);
-    played_frame(
-        image,
-        bodies + BYTES_PER_FRAME * i,
-        count,
-        coefficients,
-        context,
-    )
+    let mut samples = [0i16; 14];
+    let context = play_frame(image, at, count, coefficients, context, &mut samples, 0);
+    Frame { samples, context }
 }
 
 // Whether the first `count` samples are equal.
@@ -97,51 +52,61 @@ fn equal_part(xs: [i16; 14], ys: [i16; 14], count: usize) -> bool
     requires { count ≤ 14 }
     ensures { result ≡ equal_up_to xs ys count }
 {
-    let mut i: usize = 0;
-    while i < count {
-        if !equal(xs[i], ys[i]) {
-            return false;
-        }
-        i += 1;
-    }
-    true
+    xs[..count] == ys[..count]
 }
 
-// Whether the samples of two images that open and have the same N are equal.
-pub(crate) fn equal_frames(a: &[u8], b: &[u8], first: Head, second: Head) -> bool
-    requires { Pair a.now b.now first second }
-    ensures { result ≡ equal_samples (samples_in a.now) (samples_in b.now) }
-{
-    let total = first.total as usize;
-    let f = frame_count(total);
-    let mut one = FrameContext::new();
-    let mut other = FrameContext::new();
-    let mut i: usize = 0;
-    while i < f {
-        let count = frame_samples(total, i);
-        let x = next_frame(a, first, i, count, one);
-        let y = next_frame(b, second, i, count, other);
-        let xs = x.samples;
-        let ys = y.samples;
-        if !equal_part(xs, ys, count) {
+impl<'a> Opened<'a> {
+    // What frame i is played from: its block's entry's context, or what the frame before left, under its own header.
+    fn context_before(&self, i: usize, before: FrameContext) -> FrameContext
+        requires { i < frame_count (total_in self.now) }
+        ensures { result ≡ context_before self.now i before }
+    {
+        let per = self.block() / BYTES_PER_FRAME;
+        let begins = i % per == 0;
+        if begins {
+            return self.context(i / per);
+        }
+        let bodies = self.bodies();
+        before.with_header(self.bytes()[bodies + BYTES_PER_FRAME * i])
+    }
+
+    // Frame i, after what the frame before left.
+    fn next_frame(&self, i: usize, count: usize, before: FrameContext) -> Frame
+        requires { (i < frame_count (total_in self.now)) × (count ≡ frame_samples (total_in self.now) i) }
+        ensures { result ≡ next_frame self.now i before }
+    {
+        let context = self.context_before(i, before);
+        let bodies = self.bodies();
+        played_frame(
+            self.bytes(),
+            bodies + BYTES_PER_FRAME * i,
+            count,
+            self.coefficients(),
+            context,
+        )
+    }
+
+    // Whether N and the played samples of two images are equal.
+    pub(crate) fn same_sound(&self, other: &Opened) -> bool
+        ensures { result ≡ same_sound self.now other.now }
+    {
+        let total = self.total();
+        let differ = total != other.total();
+        if differ {
             return false;
         }
-        one = x.context;
-        other = y.context;
-        i += 1;
+        let mut one = FrameContext::new();
+        let mut two = FrameContext::new();
+        for i in 0..frame_count(total as usize) {
+            let count = frame_samples(total as usize, i);
+            let x = self.next_frame(i, count, one);
+            let y = other.next_frame(i, count, two);
+            if !equal_part(x.samples, y.samples, count) {
+                return false;
+            }
+            one = x.context;
+            two = y.context;
+        }
+        true
     }
-    true
-}
-
-// Whether N and the played samples of two images that open are equal.
-pub(crate) fn same_sound(a: &[u8], b: &[u8]) -> bool
-    requires { Opens a.now × Opens b.now }
-    ensures { result ≡ same_sound a.now b.now }
-{
-    let first = read_head(a);
-    let second = read_head(b);
-    if first.total != second.total {
-        return false;
-    }
-    equal_frames(a, b, first, second)
 }

@@ -5,7 +5,7 @@ ghost use Rattle.image.specs.Reading.{signed_at, coefficients_in, head_in, shape
 ghost use Rattle.image.specs.Opening.{mark_ok, numbers_fit, head_ok};
 
 use crate::Head;
-use layout::fields::{get16, get32, signed16};
+use layout::fields::{get16, get32};
 use layout::limits::numbers_ok;
 use layout::sizes::{block_count, image_size, shape_of};
 use layout::{HEAD_BYTES, MARK, Shape};
@@ -15,52 +15,37 @@ fn mark_ok(image: &[u8]) -> bool
     requires { 56 ≤ length image.now }
     ensures { result ≡ mark_ok image.now }
 {
-    let m = MARK;
-    if image[0] != m[0] {
-        return false;
-    }
-    if image[1] != m[1] {
-        return false;
-    }
-    if image[2] != m[2] {
-        return false;
-    }
-    image[3] == m[3]
+    let mark = MARK;
+    image.starts_with(&mark)
 }
 
 // Whether N, rate, B, K and the number of loops are right, and an image of `len` bytes has all of its bytes.
+#[tactic(auto, using(std::proofs::lemmas::Bool::Decides::nat_tests), unfolding(crate::specs::Opening::numbers_fit))]
 fn numbers_fit(total: u32, rate: u32, block: u32, blocks: u32, loops: u32, len: usize) -> bool
     ensures { result ≡ numbers_fit total rate block blocks loops len }
 {
-    if !numbers_ok(0, total, block, rate) {
-        return false;
-    }
-    if loops > 1 {
+    if !numbers_ok(0, total, block, rate) || loops > 1 {
         return false;
     }
     let shape = shape_of(total, block, loops);
-    if blocks as usize != block_count(shape) {
-        return false;
-    }
-    len >= image_size(shape)
+    blocks as usize == block_count(shape) && image_size(shape) <= len
 }
 
 // Code 15.
+#[tactic(auto, using(std::proofs::lemmas::Bool::Decides::nat_tests), unfolding(crate::specs::Opening::head_ok, crate::specs::Reading::total_in, crate::specs::Reading::rate_in, crate::specs::Reading::block_in, crate::specs::Reading::blocks_in, crate::specs::Reading::loops_in))]
 pub(crate) fn head_ok(image: &[u8]) -> bool
     ensures { result ≡ head_ok image.now }
 {
-    if image.len() < HEAD_BYTES {
-        return false;
-    }
-    if !mark_ok(image) {
-        return false;
-    }
-    let total = get32(image, 4);
-    let rate = get32(image, 8);
-    let block = get32(image, 12);
-    let blocks = get32(image, 52);
-    let loops = get16(image, 50);
-    numbers_fit(total, rate, block, blocks, loops, image.len())
+    HEAD_BYTES <= image.len()
+        && mark_ok(image)
+        && numbers_fit(
+            get32(image, 4),
+            get32(image, 8),
+            get32(image, 12),
+            get32(image, 52),
+            get16(image, 50),
+            image.len(),
+        )
 }
 
 // The shape that N, B and the number of loops say. It is internal: crate dsp calls it.
@@ -84,7 +69,7 @@ pub fn signed_at(image: &[u8], at: usize) -> i16
     requires { at + 2 ≤ length image.now }
     ensures { result ≡ signed_at image.now at }
 {
-    signed16(word_at(image, at))
+    word_at(image, at).cast_signed()
 }
 
 // The sixteen coefficients. It is internal: crate dsp calls it.
@@ -93,31 +78,24 @@ pub fn read_coefficients(image: &[u8]) -> [i16; 16]
     ensures { result ≡ coefficients_in image.now }
 {
     let mut coefficients = [0i16; 16];
-    let mut i: usize = 0;
-    while i < 16 {
+    for i in 0..16 {
         coefficients[i] = signed_at(image, 16 + 2 * i);
-        i += 1;
     }
     coefficients
 }
 
 // The head's values.
+#[tactic(auto, unfolding(crate::specs::Reading::head_in, crate::specs::Reading::total_in, crate::specs::Reading::rate_in, crate::specs::Reading::block_in, crate::specs::Reading::gain_in, crate::specs::Reading::blocks_in))]
 pub(crate) fn read_head(image: &[u8]) -> Head
     requires { 56 ≤ length image.now }
     ensures { result ≡ head_in image.now }
 {
-    let total = get32(image, 4);
-    let rate = get32(image, 8);
-    let block = get32(image, 12);
-    let coefficients = read_coefficients(image);
-    let gain = word_at(image, 48);
-    let blocks = get32(image, 52);
     Head {
-        total: total,
-        rate: rate,
-        block: block,
-        gain: gain,
-        coefficients: coefficients,
-        blocks: blocks,
+        total: get32(image, 4),
+        rate: get32(image, 8),
+        block: get32(image, 12),
+        gain: word_at(image, 48),
+        coefficients: read_coefficients(image),
+        blocks: get32(image, 52),
     }
 }

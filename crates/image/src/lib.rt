@@ -21,20 +21,18 @@ mod comparing;
 pub mod entries;
 pub mod heading;
 pub mod loops;
+mod opened;
 mod playing;
 mod running;
 
-use agreeing::agree;
 use block::{FrameContext, Playback};
 use bodies::{find_body, read_entry};
 use checks::{both_answer, from_answer, open_answer};
-use comparing::same_sound;
 use heading::read_head;
 use layout::Loop;
 use layout::fields::get32;
-use loops::{loop_context, play_loop_opened, read_loop};
-use playing::{play_found, play_opened};
-use running::play_part;
+use loops::{loop_context, read_loop};
+use opened::Opened;
 use whole::Reason;
 
 // Why a call is refused; three of them name the block whose entry is bad.
@@ -53,7 +51,7 @@ pub enum Refusal {
 
 // What the head of an image says: N, rate, B, gain, coefficients and K.
 #[repr(C)]
-#[derive(Clone, Copy)]
+#[derive(Clone, Copy, Default)]
 pub struct Head {
     pub total: u32,
     pub rate: u32,
@@ -64,7 +62,7 @@ pub struct Head {
 }
 
 // What opening tells: the head's values, and the loop with the context at its start, zeros where there is none.
-#[derive(Drop)]
+#[derive(Clone, Copy, Default)]
 pub struct Opening {
     pub head: Head,
     pub looped: Loop,
@@ -72,7 +70,7 @@ pub struct Opening {
 }
 
 // What playing from a sample on gives: how many samples were played and how many blocks touched.
-#[derive(Drop)]
+#[derive(Clone, Copy, Default)]
 pub struct Part {
     pub samples: u64,
     pub blocks: u32,
@@ -151,7 +149,7 @@ pub fn play(image: &[u8], k: u32, out: &mut [i16]) -> Result<Playback, Refusal>
     ensures { effect (play_outcome result) (playing (final_context result new_context) out.new) ≡ play image.now k out.old }
 {
     block_answer(image, k)?;
-    play_found(image, k as usize, out)
+    Opened::of(image).play(k as usize, out)
 }
 
 // Plays a whole image to the output: blocks 0 to K-1 in turn, joined. The table is tested once.
@@ -159,7 +157,7 @@ pub fn play_all(image: &[u8], out: &mut [i16]) -> Result<Playback, Refusal>
     ensures { effect (play_outcome result) (playing (final_context result new_context) out.new) ≡ play_all image.now out.old }
 {
     open_answer(image)?;
-    play_opened(image, out)
+    Opened::of(image).play_all(out)
 }
 
 // Plays an image from sample `first` on, until the output is full or the clip ends; across blocks, each from its own entry.
@@ -167,7 +165,7 @@ pub fn play_from(image: &[u8], first: u32, out: &mut [i16]) -> Result<Part, Refu
     ensures { effect (part_outcome result) out.new ≡ play_from image.now first out.old }
 {
     from_answer(image, first)?;
-    Ok(play_part(image, first as usize, out))
+    Ok(Opened::of(image).play_from(first as usize, out))
 }
 
 // Plays the loop of an image so many times over to the output, each time from the stored context; without a loop, no samples.
@@ -175,7 +173,7 @@ pub fn play_loop(image: &[u8], times: u32, out: &mut [i16]) -> Result<u64, Refus
     ensures { effect (outcome result) out.new ≡ play_loop image.now times out.old }
 {
     open_answer(image)?;
-    play_loop_opened(image, times, out)
+    Opened::of(image).play_loop(times, out)
 }
 
 // Whether two images are the same: N, rate, gain, B, coefficients, every context, the loop and the played samples agree.
@@ -183,13 +181,14 @@ pub fn same(a: &[u8], b: &[u8]) -> Result<bool, Refusal>
     ensures { outcome result ≡ same a.now b.now }
 {
     both_answer(a, b)?;
-    Ok(agree(a, b))
+    Ok(Opened::of(a).agree(&Opened::of(b)))
 }
 
 // Whether two images sound the same: N is equal and the played samples are equal, whatever else differs.
+// Stays: a function beside `same`, of the same three lines, since C calls each by its name.
 pub fn sounds_same(a: &[u8], b: &[u8]) -> Result<bool, Refusal>
     ensures { outcome result ≡ sounds_same a.now b.now }
 {
     both_answer(a, b)?;
-    Ok(same_sound(a, b))
+    Ok(Opened::of(a).same_sound(&Opened::of(b)))
 }

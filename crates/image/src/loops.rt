@@ -1,9 +1,9 @@
 // The loop of an image: reading it, testing it, playing it.
-ghost use Rattle.std.specs.Prelude.{◌&&◌, ◌≡◌, ◌*◌, eqb, length};
+ghost use Rattle.std.specs.Prelude.{◌≡◌, ◌*◌, length};
 ghost use Rattle.std.proofs.lemmas.List.Edits.{sets};
 ghost use Rattle.whole.specs.Outcome.{effect};
 ghost use Rattle.layout.specs.Sizes.{no_loop};
-ghost use Rattle.image.specs.inner.Asked.{Headed, Opens, Turns};
+ghost use Rattle.image.specs.inner.Asked.{Headed, Turns};
 ghost use Rattle.image.specs.inner.Played.{play_loop_by};
 ghost use Rattle.image.specs.Reading.{coefficients_in, loop_in, loop_context_in};
 ghost use Rattle.image.specs.Opening.{outcome, loop_fits};
@@ -13,8 +13,8 @@ ghost use Rattle.image.specs.Looping.{loop_length, loop_once, repeated};
 use crate::Refusal;
 use crate::bodies::read_context;
 use crate::checks::room_answer;
-use crate::heading::{read_coefficients, read_shape};
-use crate::running::play_run;
+use crate::heading::read_shape;
+use crate::opened::Opened;
 use block::FrameContext;
 use layout::Loop;
 use layout::fields::{get16, get32};
@@ -26,11 +26,7 @@ use whole::{BYTES_PER_FRAME, SAMPLES_PER_FRAME};
 pub fn no_loop() -> Loop
     ensures { result ≡ no_loop }
 {
-    Loop {
-        start: 0,
-        end: 0,
-        present: false,
-    }
+    Loop::default()
 }
 
 // The loop that the entry after the blocks' says, or none. It is internal: crate dsp calls it.
@@ -42,11 +38,9 @@ pub fn read_loop(image: &[u8]) -> Loop
         return no_loop();
     }
     let at = entry_place(get32(image, 52) as usize);
-    let start = get32(image, at);
-    let end = get32(image, at + 4);
     Loop {
-        start: start,
-        end: end,
+        start: get32(image, at),
+        end: get32(image, at + 4),
         present: true,
     }
 }
@@ -56,19 +50,11 @@ pub fn loop_context(image: &[u8], looped: Loop) -> FrameContext
     requires { Headed image.now × (looped ≡ loop_in image.now) }
     ensures { result ≡ loop_context_in image.now }
 {
-    let present = looped.present;
-    if present {
-        return read_context(image, get32(image, 52) as usize);
+    if looped.present {
+        read_context(image, get32(image, 52) as usize)
+    } else {
+        FrameContext::new()
     }
-    FrameContext::new()
-}
-
-// Whether the header byte that is told is the frame's, and the zero bytes are zero.
-fn entry_told(told: u32, header: u32, zero: u32) -> bool
-    ensures { result ≡ eqb told header && eqb zero 0 }
-{
-    let same = told == header;
-    same && zero == 0
 }
 
 // Code 24 is not to be given: no loop, or one within N samples whose entry tells its frame's header byte and ends in zeros.
@@ -77,60 +63,47 @@ pub(crate) fn loop_fits(image: &[u8]) -> bool
     ensures { result ≡ loop_fits image.now }
 {
     let looped = read_loop(image);
-    let start = looped.start;
-    let present = looped.present;
     if !loop_ok(looped, get32(image, 4)) {
         return false;
     }
-    if !present {
+    if !looped.present {
         return true;
     }
     let at = entry_place(get32(image, 52) as usize);
     let frame = bodies_place(read_shape(image))
-        + BYTES_PER_FRAME * (start as usize / SAMPLES_PER_FRAME);
-    entry_told(
-        get16(image, at + 8),
-        u32::from(image[frame]),
-        get16(image, at + 14),
-    )
+        + BYTES_PER_FRAME * (looped.start as usize / SAMPLES_PER_FRAME);
+    let told = get16(image, at + 8);
+    let header = u32::from(image[frame]);
+    let same = told == header;
+    same && get16(image, at + 14) == 0
 }
 
-// The loop `times` times over to the output, each turn from the stored context.
-fn play_turns(
-    image: &[u8],
-    looped: Loop,
-    times: u32,
-    context: FrameContext,
-    coefficients: [i16; 16],
-    out: &mut [i16],
-)
-    requires { Turns image.now times (length out.old) × (looped ≡ loop_in image.now) × (context ≡ loop_context_in image.now) × (coefficients ≡ coefficients_in image.now) }
-    ensures { out.new ≡ sets out.old 0 (repeated times (loop_once image.now)) }
-{
-    let first = looped.start as usize;
-    let count = looped.end as usize - first;
-    let mut done: usize = 0;
-    let mut turn: u32 = 0;
-    while turn < times {
-        play_run(image, first, count, context, coefficients, &mut out[done..]);
-        done += count;
-        turn += 1;
+impl<'a> Opened<'a> {
+    // The loop `times` times over to the output, each turn from the stored context.
+    fn play_turns(&self, looped: Loop, times: u32, context: FrameContext, out: &mut [i16])
+        requires { Turns self.now times (length out.old) × (looped ≡ loop_in self.now) × (context ≡ loop_context_in self.now) }
+        ensures { out.new ≡ sets out.old 0 (repeated times (loop_once self.now)) }
+    {
+        let first = looped.start as usize;
+        let count = looped.end as usize - first;
+        for turn in 0..times {
+            let done = turn as usize * count;
+            self.play_run(first, count, context, &mut out[done..]);
+        }
     }
-}
 
-// Plays the loop of an image that opens.
-pub(crate) fn play_loop_opened(image: &[u8], times: u32, out: &mut [i16]) -> Result<u64, Refusal>
-    requires { Opens image.now }
-    ensures { effect (outcome result) out.new ≡ play_loop_by (room_answer (coefficients_in image.now) (times * loop_length image.now) (length out.old)) image.now times out.old }
-{
-    let coefficients = read_coefficients(image);
-    let looped = read_loop(image);
-    let present = looped.present;
-    let samples = times as u64 * (looped.end - looped.start) as u64;
-    room_answer(coefficients, samples, out.len())?;
-    if present {
-        let context = loop_context(image, looped);
-        play_turns(image, looped, times, context, coefficients, out);
+    // Plays the loop so many times over.
+    pub(crate) fn play_loop(&self, times: u32, out: &mut [i16]) -> Result<u64, Refusal>
+        ensures { effect (outcome result) out.new ≡ play_loop_by (room_answer (coefficients_in self.now) (times * loop_length self.now) (length out.old)) self.now times out.old }
+    {
+        let looped = self.looped();
+        let once = looped.end - looped.start;
+        let samples = u64::from(times) * u64::from(once);
+        room_answer(self.coefficients(), samples, out.len())?;
+        if looped.present {
+            let context = self.loop_context(looped);
+            self.play_turns(looped, times, context, out);
+        }
+        Ok(samples)
     }
-    Ok(samples)
 }

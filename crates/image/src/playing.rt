@@ -4,7 +4,7 @@ ghost use Rattle.block.specs.Address.{address_to_sample};
 ghost use Rattle.block.specs.Context.{new_context};
 ghost use Rattle.block.specs.Frame.{playing};
 ghost use Rattle.block.specs.Play.{play_into, final_context};
-ghost use Rattle.image.specs.inner.Asked.{Opens, Found, Playable, AllPlayable};
+ghost use Rattle.image.specs.inner.Asked.{Found, Playable, AllPlayable};
 ghost use Rattle.image.specs.Reading.{total_in, coefficients_in, length_in, context_in};
 ghost use Rattle.image.specs.Bodies.{body_in};
 ghost use Rattle.image.specs.Playing.{read_entry, room_answer, play_outcome};
@@ -13,71 +13,63 @@ ghost use Rattle.image.specs.WholeImage.{all_into};
 ghost use Rattle.whole.specs.Outcome.{effect};
 
 use crate::Refusal;
-use crate::bodies::{Entry, find_body, read_entry};
+use crate::bodies::Entry;
 use crate::checks::room_answer;
-use crate::heading::read_coefficients;
+use crate::opened::Opened;
 use block::play::play_into;
 use block::{FrameContext, Playback, address_to_sample};
-use layout::fields::get32;
 
-// Block k's samples to the output, with the entry and the coefficients that were read: the context after them.
-fn play_block(
-    image: &[u8],
-    k: usize,
-    entry: Entry,
-    coefficients: [i16; 16],
-    out: &mut [i16],
-) -> FrameContext
-    requires { Playable image.now k (length out.old) × (entry ≡ read_entry image.now k) × (coefficients ≡ coefficients_in image.now) }
-    ensures { playing result out.new ≡ play_into (body_in image.now k) (coefficients_in image.now) (length_in image.now k) (context_in image.now k) out.old }
-{
-    let offset = entry.offset as usize;
-    let nibbles = entry.nibbles as usize;
-    let context = entry.context;
-    let body = find_body(image, offset, nibbles);
-    play_into(body, nibbles, coefficients, context, out)
-}
-
-// Plays block k of an image that has it.
-pub(crate) fn play_found(image: &[u8], k: usize, out: &mut [i16]) -> Result<Playback, Refusal>
-    requires { Found image.now k }
-    ensures { effect (play_outcome result) (playing (final_context result new_context) out.new) ≡ play_by (room_answer (coefficients_in image.now) (address_to_sample (length_in image.now k)) (length out.old)) image.now k out.old }
-{
-    let coefficients = read_coefficients(image);
-    let entry = read_entry(image, k);
-    let samples = address_to_sample(entry.nibbles);
-    room_answer(coefficients, samples, out.len())?;
-    let context = play_block(image, k, entry, coefficients, out);
-    Ok(Playback { samples, context })
-}
-
-// Blocks 0 to K-1 in turn to the output, each after the one before: the context after the last.
-fn play_blocks(image: &[u8], coefficients: [i16; 16], out: &mut [i16]) -> FrameContext
-    requires { AllPlayable image.now (length out.old) × (coefficients ≡ coefficients_in image.now) }
-    ensures { playing result out.new ≡ all_into image.now out.old }
-{
-    let blocks = get32(image, 52) as usize;
-    let mut context = FrameContext::new();
-    let mut at: usize = 0;
-    let mut k: usize = 0;
-    while k < blocks {
-        let entry = read_entry(image, k);
-        let nibbles = entry.nibbles;
-        context = play_block(image, k, entry, coefficients, &mut out[at..]);
-        at += address_to_sample(nibbles) as usize;
-        k += 1;
+impl<'a> Opened<'a> {
+    // Block k's samples to the output, with its entry that was read: the context after them.
+    fn play_block(&self, k: usize, entry: Entry, out: &mut [i16]) -> FrameContext
+        requires { Playable self.now k (length out.old) × (entry ≡ read_entry self.now k) }
+        ensures { playing result out.new ≡ play_into (body_in self.now k) (coefficients_in self.now) (length_in self.now k) (context_in self.now k) out.old }
+    {
+        let body = self.body(k);
+        play_into(
+            body,
+            entry.nibbles as usize,
+            self.coefficients(),
+            entry.context,
+            out,
+        )
     }
-    context
-}
 
-// Plays the whole of an image that opens.
-pub(crate) fn play_opened(image: &[u8], out: &mut [i16]) -> Result<Playback, Refusal>
-    requires { Opens image.now }
-    ensures { effect (play_outcome result) (playing (final_context result new_context) out.new) ≡ play_all_by (room_answer (coefficients_in image.now) (total_in image.now) (length out.old)) image.now out.old }
-{
-    let coefficients = read_coefficients(image);
-    let samples = u64::from(get32(image, 4));
-    room_answer(coefficients, samples, out.len())?;
-    let context = play_blocks(image, coefficients, out);
-    Ok(Playback { samples, context })
+    // Plays block k, which the image has.
+    pub(crate) fn play(&self, k: usize, out: &mut [i16]) -> Result<Playback, Refusal>
+        requires { Found self.now k }
+        ensures { effect (play_outcome result) (playing (final_context result new_context) out.new) ≡ play_by (room_answer (coefficients_in self.now) (address_to_sample (length_in self.now k)) (length out.old)) self.now k out.old }
+    {
+        let entry = self.entry(k);
+        let samples = address_to_sample(entry.nibbles);
+        room_answer(self.coefficients(), samples, out.len())?;
+        let context = self.play_block(k, entry, out);
+        Ok(Playback { samples, context })
+    }
+
+    // Blocks 0 to K-1 in turn to the output, each after the one before: the context after the last.
+    fn play_blocks(&self, out: &mut [i16]) -> FrameContext
+        requires { AllPlayable self.now (length out.old) }
+        ensures { playing result out.new ≡ all_into self.now out.old }
+    {
+        let blocks = self.blocks();
+        let mut context = FrameContext::new();
+        let mut at: usize = 0;
+        for k in 0..blocks {
+            let entry = self.entry(k);
+            context = self.play_block(k, entry, &mut out[at..]);
+            at += address_to_sample(entry.nibbles) as usize;
+        }
+        context
+    }
+
+    // Plays the whole image.
+    pub(crate) fn play_all(&self, out: &mut [i16]) -> Result<Playback, Refusal>
+        ensures { effect (play_outcome result) (playing (final_context result new_context) out.new) ≡ play_all_by (room_answer (coefficients_in self.now) (total_in self.now) (length out.old)) self.now out.old }
+    {
+        let samples = u64::from(self.total());
+        room_answer(self.coefficients(), samples, out.len())?;
+        let context = self.play_blocks(out);
+        Ok(Playback { samples, context })
+    }
 }

@@ -1,5 +1,5 @@
 -- What a frame's record does to the count and to the store. Definitions only.
-use Rattle.std.specs.Prelude.{Option, Some, None, ◌≡◌, ℕ, List, Float}
+use Rattle.std.specs.Prelude.{Option, ◌≡◌, ℕ, List, Float}
 use Rattle.coefficients.specs.declared.CoefficientCalculator.{CoefficientCalculator}
 use Rattle.coefficients.specs.declared.merging.Record.{Record}
 use Rattle.coefficients.specs.FrameRecord.{stored, counted}

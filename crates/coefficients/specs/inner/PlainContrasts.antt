@@ -1,13 +1,13 @@
 -- The choice of a record's vector by plain products and sums, where these leave no doubt. proofs/PlainContrasts.antt shows that it is the choice by exact contrasts. Definitions only.
-use Rattle.std.specs.Prelude.{◌≡◌, ℕ, zero, suc, ◌<◌, true, cond, T, List, from_bits, slice_index_or, Float}
+use Rattle.std.specs.Prelude.{◌≡◌, ℕ, ◌<◌, true, cond, T, List, from_bits, slice_index_or, Float}
 use Rattle.std.specs.Float.Ieee.{neg, lt, fits}
 use Rattle.std.specs.Float.{binary64}
-use Rattle.coefficients.specs.declared.filter.Lead.{Lead}
+use Rattle.coefficients.specs.declared.contrasts.Lead.{Lead}
 use Rattle.coefficients.specs.declared.merging.Record.{Record}
 use Rattle.coefficients.specs.declared.merging.Side.{Side}
 use Rattle.coefficients.specs.declared.merging.VectorTerms.{VectorTerms}
 use Rattle.coefficients.specs.Constants.{f2, f_e30, ◌*f◌, ◌+f◌}
-use Rattle.coefficients.specs.inner.SharedTerms.{blank_terms}
+use Rattle.coefficients.specs.inner.SharedTerms.{blank_terms, gone_through}
 
 -- 16
 abbrev pub f16 : Float
@@ -51,7 +51,10 @@ closer l t i =
     cond (lt t l.least) (record { least = t; second = lower l.least l.second; index = i })
     (record { least = l.least; second = lower t l.second; index = l.index })
 
+-- no contrast yet
+abbrev pub no_lead : Lead
+no_lead = record { least = f_e30; second = f_e30; index = 0 }
+
 -- of the plain contrasts with the first k vectors
-unfoldable pub leading : List VectorTerms → Side → ℕ → Lead
-leading vs s zero = record { least = f_e30; second = f_e30; index = 0 }
-leading vs s (suc k) = closer (leading vs s k) (plain_contrast (slice_index_or vs k blank_terms) s) k
+abbrev pub leading : List VectorTerms → Side → ℕ → Lead
+leading vs s k = gone_through no_lead closer plain_contrast vs s k

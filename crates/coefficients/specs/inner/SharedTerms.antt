@@ -1,15 +1,15 @@
 -- What the gathering of records works out once for each vector and once for each record. proofs/SharedTerms.antt shows that it is the plain definitions' work. Definitions only.
-use Rattle.std.specs.Prelude.{◌≡◌, ℕ, zero, suc, ◌<◌, List, replicate, slice_index_or, slice_set, Float}
+use Rattle.std.specs.Prelude.{◌≡◌, ℕ, zero, suc, ◌<◌, List, slice_index_or, Float}
 use Rattle.std.specs.Float.{nan}
 use Rattle.std.specs.Float.Ieee.{neg}
-use Rattle.coefficients.specs.declared.clusters.Best.{Best}
+use Rattle.coefficients.specs.declared.contrasts.Best.{Best}
 use Rattle.coefficients.specs.declared.merging.Record.{Record}
 use Rattle.coefficients.specs.declared.merging.RecordTerms.{RecordTerms}
 use Rattle.coefficients.specs.declared.merging.Side.{Side}
 use Rattle.coefficients.specs.declared.merging.Vec3.{Vec3}
 use Rattle.coefficients.specs.declared.merging.VectorTerms.{VectorTerms}
 use Rattle.coefficients.specs.Constants.{f0, f1, f2, f_e30, ◌*f◌, ◌+f◌, ◌/f◌, fma}
-use Rattle.coefficients.specs.Clusters.{blank, better}
+use Rattle.coefficients.specs.Clusters.{better}
 
 -- a vector's part in its contrast with a record
 unfoldable pub vector_terms : Vec3 → VectorTerms
@@ -39,19 +39,18 @@ terms_contrast v s = fma s.last v.val3 (fma s.twice v.val2 v.val1)
 abbrev pub blank_terms : VectorTerms
 blank_terms = record { val1 = nan; val2 = nan; val3 = nan }
 
--- all zeros
-unfoldable pub no_terms : VectorTerms
-no_terms = record { val1 = f0; val2 = f0; val3 = f0 }
+-- what is kept of a record's contrasts with the first k vectors: `none` before the first, and `and` takes in the one of number k
+unfoldable pub gone_through : {K : Type 0} → K → (K → Float → ℕ → K) → (VectorTerms → Side → Float) → List VectorTerms → Side → ℕ → K
+gone_through none and contrast vs s zero = none
+gone_through none and contrast vs s (suc k) = and (gone_through none and contrast vs s k) (contrast (slice_index_or vs k blank_terms) s) k
 
--- the first k vectors' terms
-unfoldable pub all_terms : List Vec3 → ℕ → List VectorTerms
-all_terms vs zero = replicate 8 no_terms
-all_terms vs (suc k) = slice_set (all_terms vs k) k (vector_terms (slice_index_or vs k blank))
+-- no contrast yet
+abbrev pub no_best : Best
+no_best = record { value = f_e30; index = 0 }
 
 -- the first of least contrast among the first k vectors, or vector 0
-unfoldable pub least_by_terms : List VectorTerms → Side → ℕ → Best
-least_by_terms vs s zero = record { value = f_e30; index = 0 }
-least_by_terms vs s (suc k) = better (least_by_terms vs s k) (terms_contrast (slice_index_or vs k blank_terms) s) k
+abbrev pub least_by_terms : List VectorTerms → Side → ℕ → Best
+least_by_terms vs s k = gone_through no_best better terms_contrast vs s k
 
 -- what `nearest` answers
 pub record Nearest (vs : List VectorTerms) (n : ℕ) (s : Side) (x : ℕ) : Type 0 where

@@ -3,11 +3,9 @@ use Rattle.std.specs.Prelude.{true, false, List, ◌≡◌, ℕ, ◌+◌, ◌-�
 use Rattle.block.specs.Address.{address_to_sample}
 use Rattle.block.specs.Refusals.{lowest_pair}
 use Rattle.layout.specs.Limits.{Limits}
-use Rattle.layout.specs.Sizes.{block_count, entry_place, bodies_place, image_size}
+use Rattle.layout.specs.Sizes.{block_count, bodies_place, image_size}
 use Rattle.whole.specs.Frames.{frame_count}
-use Rattle.image.specs.declared.Head.{Head}
-use Rattle.image.specs.inner.ByFrames.{frame_samples}
-use Rattle.image.specs.Reading.{total_in, rate_in, block_in, shape_in, loops_in, blocks_in, coefficients_in, head_in, length_in, loop_in}
+use Rattle.image.specs.Reading.{total_in, rate_in, block_in, shape_in, loops_in, blocks_in, coefficients_in, length_in, loop_in}
 use Rattle.image.specs.Opening.{EntryFits, mark_ok, loop_fits}
 use Rattle.image.specs.Looping.{loop_length}
 use Rattle.image.specs.Part.{per_block}
@@ -50,27 +48,6 @@ pub record Source (l : List ℕ) (block at i : ℕ) : Type 0 where
   pub size : block ≡ block_in l
   pub bodies : at ≡ bodies_place (shape_in l)
   pub frame : i < frame_count (total_in l)
-
--- frame i of an image that opens, with the head and the count that were read
-pub record Turn (l : List ℕ) (head : Head) (i count : ℕ) : Type 0 where
-  pub opens : Opens l
-  pub read : head ≡ head_in l
-  pub frame : i < frame_count (total_in l)
-  pub samples : count ≡ frame_samples (total_in l) i
-
--- two images that open and have the same N, with the heads that were read
-pub record Pair (a b : List ℕ) (first second : Head) : Type 0 where
-  pub opens : Opens a
-  pub read : first ≡ head_in a
-  pub others : Opens b
-  pub other : second ≡ head_in b
-  pub total : total_in a ≡ total_in b
-
--- two images that each have kk entries
-pub record Tables (a b : List ℕ) (kk : ℕ) : Type 0 where
-  pub few : kk ≤ 1048576
-  pub first : entry_place kk ≤ length a
-  pub second : entry_place kk ≤ length b
 
 -- n samples, one or more, from sample s of block k on are all in that block
 pub record SomeOf (l : List ℕ) (k s n : ℕ) : Type 0 where

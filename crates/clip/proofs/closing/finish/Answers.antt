@@ -1,4 +1,4 @@
-use Rattle.std.proofs.Common.{◌≡◌, true, List, ℕ, ap, ◌∙◌, arith}
+use Rattle.std.proofs.Common.{true, List, ℕ, ap, ◌∙◌, arith}
 use Rattle.clip.specs.Encoding.{Left, left, encoder_shape, moved, no_frame}
 use Rattle.clip.proofs.LastFrame.{last-shape, closed, finish-last}
 use Rattle.clip.proofs.closing.finish.Goals as goal

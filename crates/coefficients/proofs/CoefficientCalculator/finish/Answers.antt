@@ -14,8 +14,8 @@ returns-in_err-finish_answer c =
 pub padded_record-count-requires : goal.padded_record-count-requires
 padded_record-count-requires c = finish-measurable _ _ _ (sym c.finish_answer.ensures ∙ ap outcome c.in_ok-finish_answer.was)
 
-pub record_coefficients-requires : goal.record_coefficients-requires
-record_coefficients-requires c =
+pub new-requires : goal.new-requires
+new-requires c =
     let p = c.padded_record-count in
     let m = finish-measurable _ _ _ (sym c.finish_answer.ensures ∙ ap outcome c.in_ok-finish_answer.was) in
     rw (p.ensures.count, p.auto.s) (padded-le c.args.self (length c.args.records.now) m)
@@ -24,4 +24,4 @@ pub returns : goal.returns
 unfolding finish
 returns c =
     let p = c.padded_record-count.ensures in
-    rw (← c.finish_answer.ensures, c.in_ok-finish_answer.was, ← p.count, ← p.store, ← c.record_coefficients.ensures)
+    rw (← c.finish_answer.ensures, c.in_ok-finish_answer.was, ← p.count, ← p.store, ← c.new.ensures, ← c.record_coefficients.ensures)

@@ -19,8 +19,8 @@ returns c =
     let k = c.args.c.samples % 14 in
     let l : length h ≡ 28 = search rules in
     let z : c.fill.new.self ≡ replicate (28 - (14 + k)) (pos 0) =
-        c.fill.ensures.after (λ y e. search rules)
-        ∙ ap (λ (n : ℕ). replicate n (pos 0)) (length-take-le (28 - (14 + k)) (drop (14 + k) h) (omega (arith, length-drop (14 + k) h)))
+    c.fill.ensures.after (λ y e. search rules)
+    ∙ ap (λ (n : ℕ). replicate n (pos 0)) (length-take-le (28 - (14 + k)) (drop (14 + k) h) (omega (arith, length-drop (14 + k) h)))
     in
     let g = padded-is h c.fill.new.self k l (omega arith) z in
     record {

@@ -1,6 +1,5 @@
 -- A sample that fills its frame, and one that does not.
-use Rattle.std.proofs.Common.{◌∙◌, length-set, ◌≡◌, ◌+◌, ◌%◌, arith, length, set, rules, to_z-of_z}
-use Rattle.coefficients.specs.FrameRecord.{analyse}
+use Rattle.std.proofs.Common.{◌∙◌, length-set, ◌≡◌, arith, length, rules, to_z-of_z}
 use Rattle.coefficients.proofs.AcceptedCalls.{measurable-room}
 use Rattle.coefficients.proofs.OneSample.{push-full, push-part, kept-le, shift-is}
 use Rattle.coefficients.proofs.measuring.push.Goals as goal

@@ -1,5 +1,5 @@
 -- One product more.
-use Rattle.std.proofs.Common.{◌≡◌, ℕ, ◌+◌, ◌-◌, ◌*◌, ◌<◌, ◌≤◌, List, get_or, ℤ, pos, ◌+ℤ◌, ◌*ℤ◌, refl, sym, ◌∙◌, add-one, arith, rules, to_z-of_z, to_z, of_z, w16, w64, SFits, nat_abs}
+use Rattle.std.proofs.Common.{◌≡◌, ℕ, ◌+◌, ◌-◌, ◌*◌, ◌<◌, ◌≤◌, List, get_or, ℤ, pos, ◌+ℤ◌, ◌*ℤ◌, refl, add-one, arith, rules, to_z-of_z, to_z, of_z, w16, w64, SFits, nat_abs}
 use Rattle.whole.proofs.SignedLocals.{abs-add, abs-sfits, sfits-abs}
 use Rattle.coefficients.specs.Sums.{dot}
 use Rattle.coefficients.proofs.SampleSizes.{small_product}
