@@ -1,15 +1,8 @@
 // What the tests of playing and joining ask of coefficients.
 ghost use Rattle.std.specs.Prelude.{◌≡◌};
-ghost use Rattle.block.specs.Refusals.{equal, lowest_pair, equal_coefficients};
+ghost use Rattle.block.specs.Refusals.{lowest_pair, equal_coefficients};
 
-// Whether two samples or coefficients are equal. It is internal: crate image calls it.
-pub fn equal(x: i16, y: i16) -> bool
-    ensures { result ≡ equal x y }
-{
-    x == y
-}
-
-// Whether one of the eight pairs has both -32,768. It is internal: crate image calls it.
+// Whether one of the eight pairs has both -32,768. It is internal: crates image and dsp call it.
 pub fn lowest_pair(coefficients: [i16; 16]) -> bool
     ensures { result ≡ lowest_pair coefficients }
 {
@@ -21,8 +14,8 @@ pub fn lowest_pair(coefficients: [i16; 16]) -> bool
     false
 }
 
-// Whether the sixteen coefficients of two blocks are equal. It is internal: crate image calls it.
-pub fn equal_coefficients(first: [i16; 16], second: [i16; 16]) -> bool
+// Whether the sixteen coefficients of two blocks are equal.
+pub(crate) fn equal_coefficients(first: [i16; 16], second: [i16; 16]) -> bool
     ensures { result ≡ equal_coefficients first second }
 {
     first == second

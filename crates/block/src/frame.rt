@@ -23,7 +23,7 @@ impl Filter {
     }
 
     // The samples of as many nibbles as the output has room for, from the first byte on.
-    fn play_whole(self, bytes: &[u8], history: History, out: &mut [i16]) -> History
+    fn play_nibbles(self, bytes: &[u8], history: History, out: &mut [i16]) -> History
         requires { length out.old ≤ 2 * length bytes.now }
         ensures left { result ≡ (play_nibbles bytes.now 0 (length out.old) self.c0 self.c1 self.scale history).history }
         ensures stored { out.new ≡ (play_nibbles bytes.now 0 (length out.old) self.c0 self.c1 self.scale history).samples }
@@ -40,7 +40,7 @@ impl Filter {
     }
 
     // The samples of as many nibbles as the output has room for, from an address on, which may be that of a byte's low nibble.
-    pub(crate) fn play(
+    pub(crate) fn play_from_nibble(
         self,
         bytes: &[u8],
         from: usize,
@@ -52,13 +52,13 @@ impl Filter {
         ensures stored { out.new ≡ (play_nibbles bytes.now from (length out.old) self.c0 self.c1 self.scale history).samples }
     {
         if from % 2 == 0 {
-            return self.play_whole(&bytes[from / 2..], history, out);
+            return self.play_nibbles(&bytes[from / 2..], history, out);
         }
         if out.is_empty() {
             return history;
         }
         let low = self.advance(history, bytes[from / 2] % 16);
         out[0] = low.newest;
-        self.play_whole(&bytes[from / 2 + 1..], low, &mut out[1..])
+        self.play_nibbles(&bytes[from / 2 + 1..], low, &mut out[1..])
     }
 }

@@ -11,6 +11,7 @@ pub(crate) fn shorter(room: usize, first: usize, second: usize) -> bool
 }
 
 // The bytes of `source`, written to the output from `to` on. It is internal: crate dsp calls it.
+// Stays: the library's copy with its two bounds written out at each call would be no plainer.
 pub fn copy(source: &[u8], out: &mut [u8], to: usize)
     requires { to + length source.now ≤ length out.old }
     ensures { out.new ≡ sets out.old to source.now }

@@ -151,7 +151,7 @@ pub fn play_frame(
 {
     let filter = Filter::new(coefficients, context);
     FrameContext {
-        last_samples: filter.play(
+        last_samples: filter.play_from_nibble(
             bytes,
             2 * at + 2,
             context.last_samples,

@@ -67,7 +67,12 @@ fn play_rest(
 {
     let filter = Filter::new(coefficients, context);
     FrameContext {
-        last_samples: filter.play(bytes, from, context.last_samples, &mut out[..len - from]),
+        last_samples: filter.play_from_nibble(
+            bytes,
+            from,
+            context.last_samples,
+            &mut out[..len - from],
+        ),
         ..context
     }
 }

@@ -10,7 +10,7 @@ use whole::History;
 
 // A nibble of 8 or more counts as itself less 16.
 #[tactic(auto, unfolding(whole::specs::Whole::signed_nibble))]
-pub(crate) fn signed_nibble(nibble: u8) -> i64
+fn signed_nibble(nibble: u8) -> i64
     requires { nibble < 16 }
     ensures { result ≡ signed_nibble nibble }
 {
@@ -47,7 +47,7 @@ impl Filter {
     }
 
     // The sample of a nibble after a history.
-    fn sample(self, history: History, nibble: u8) -> i16
+    fn decode_sample(self, history: History, nibble: u8) -> i16
         requires { nibble < 16 }
         ensures { result ≡ decode_sample self.c0 self.c1 history.newest history.older nibble self.scale }
     {
@@ -63,7 +63,7 @@ impl Filter {
         ensures { result ≡ advanced self.c0 self.c1 self.scale history nibble }
     {
         History {
-            newest: self.sample(history, nibble),
+            newest: self.decode_sample(history, nibble),
             older: history.newest,
         }
     }

@@ -10,6 +10,7 @@ use lib.Dec.{eqb}
 use lib.IntN.{ℤ, pos}
 use lib.ListN.{length, get_or, take, drop, set, replicate, length-drop}
 use lib.Seq.{sets, length-take-le, get_or-drop, ext_get_or}
+use Rattle.std.proofs.lemmas.Bool.{false≢true}
 use Rattle.whole.specs.Frames.{frame_count}
 use Rattle.frame.specs.Frame.{encode_frame, history_after}
 use Rattle.frame.specs.declared.EncodedFrame.{EncodedFrame}
@@ -35,11 +36,8 @@ agree_trans e l m k a b =
     }
 
 -- a closed clip has nothing to write
-never_both : (t : Bool) → t ≡ true → t ≡ false → ⊥
-never_both t p q = let z : ◌≡◌ {A = ℕ} 1 0 = ap (λ (b : Bool). cond b 1 0) (sym p ∙ q) in omega arith
-
 pub agree-closed : (e : Encoder) (l m : List ℕ) → e.closed ≡ true → SameSoFar e l m → l ≡ m
-agree-closed e l m c a = ext_get_or 0 l m a.size (λ i k. elim (a.bytes i) [ inl p ↦ p | inr o ↦ absurd (never_both e.closed c o.0) ])
+agree-closed e l m c a = ext_get_or 0 l m a.size (λ i k. elim (a.bytes i) [ inl p ↦ p | inr o ↦ absurd (false≢true (sym o.0 ∙ c)) ])
 
 -- bytes past the image are the same
 pub agree-past : (e : Encoder) (l m : List ℕ) → SameSoFar e l m → drop (image_size (encoder_shape e)) l ≡ drop (image_size (encoder_shape e)) m
@@ -276,9 +274,9 @@ module _ (e : Encoder) (L : Limits (encoder_shape e)) (all : e.fed ≡ e.total) 
           }
 
       go : (t : Bool) → eqb (e.fed % 14) 0 ≡ t → Later (left e l) (cond t (whole l) (short l))
-      go true p = record { unwritten = λ i w. absurd (never_both true refl w.0); bytes = leaves e.context l }
+      go true p = record { unwritten = λ i w. absurd (false≢true (sym w.0)); bytes = leaves e.context l }
       go false p =
           record {
-            unwritten = λ i w. absurd (never_both true refl w.0);
+            unwritten = λ i w. absurd (false≢true (sym w.0));
             bytes = agree_trans e l stored (ended (encoder_shape e) e.looped known stored) (frame (eqb-false (e.fed % 14) 0 p)) (leaves known stored);
           }

@@ -1,11 +1,11 @@
 -- A frame stored at its place, and one sample more.
-use mathlib.Core.Path.{◌≡◌, refl, sym, ap₂, ◌∙◌, subst}
-use mathlib.Core.List.{List, [], ◌∷◌}
-use Prim.Native.Nat.{ℕ, zero, suc, ◌+◌, ◌*◌, ◌/◌, ◌%◌, ◌≤◌, ◌<◌}
+use mathlib.Core.Path.{◌≡◌, refl, sym, ap, ◌∙◌, subst}
+use mathlib.Core.List.{List, [], ◌∷◌, ◌++◌}
+use Prim.Native.Nat.{ℕ, zero, suc, ◌+◌, ◌-◌, ◌*◌, ◌/◌, ◌%◌, ◌≤◌, ◌<◌}
 use native.Mathlib.Omega.{arith}
 use borrow.Author.Tests.{eq-eqb, ne_eqb}
 use lib.IntN.{ℤ}
-use lib.ListN.{take, set, get_or}
+use lib.ListN.{length, take, drop, set, get_or}
 use lib.Seq.{sets, take_all}
 use Rattle.frame.specs.Frame.{encode_frame, history_after}
 use Rattle.frame.specs.declared.EncodedFrame.{EncodedFrame}
@@ -18,9 +18,10 @@ use Rattle.whole.specs.Frames.{frame_count}
 use Rattle.clip.specs.Image.{context_bytes}
 use Rattle.clip.specs.Encoding.{encoder_shape, left, store, loop_context, moved, no_frame, push}
 use Rattle.clip.specs.inner.Encoded.{encoded}
-use Rattle.layout.specs.Sizes.{frame_place, context_place}
+use Rattle.layout.specs.Sizes.{bodies_place, frame_place, context_place}
 use Rattle.layout.specs.declared.Shape.{Shape}
 use Rattle.clip.specs.inner.Asked.{Room, Framed, Going}
+use Rattle.layout.proofs.Stored.{part-stored}
 use Rattle.layout.proofs.SizeLaws.{frames-le, blocks-most, first_block}
 
 -- ---- room
@@ -55,16 +56,21 @@ first_byte zero t h = absurd (omega arith)
 first_byte (suc k) [] h = refl
 first_byte (suc k) (x ∷ t) h = refl
 
-module _ (s : Shape) (q k : ℕ) (t image stored : List ℕ) (h : History) (put : stored ≡ sets image (frame_place s q) (take k t)) where
-  pub with-context : (out : List ℕ) → 1 ≤ k → q % (s.block / 8) ≡ 0
-      → out ≡ sets stored (context_place (q / (s.block / 8))) (context_bytes (get_or t 0 0) h) → out ≡ store s q (take k t) h image
-  unfolding store
-  with-context out one e f =
-      f
-      ∙ ap₂ (λ (l : List ℕ) (v : ℕ). sets l (context_place (q / (s.block / 8))) (context_bytes v h)) put (sym (first_byte k t one))
-      ∙ rw (eq-eqb (q % (s.block / 8)) 0 e)
+-- a frame's bytes copied to its place
+pub part-at : (s : Shape) (q : ℕ) (t image ys : List ℕ) (b : ℕ) → b ≡ bodies_place s → Room s q (length t) (length image) → ys ≡ t
+    → take (b + 8 * q) image ++ (ys ++ drop (b + 8 * q + length t - (b + 8 * q)) (drop (b + 8 * q) image)) ≡ sets image (frame_place s q) t
+part-at s q t image ys b e r f =
+    part-stored image t ys (b + 8 * q) _ (omega (arith, room-place s q (length t) (length image) r)) (omega arith) f
+    ∙ ap (λ (a : ℕ). sets image (a + 8 * q) t) e
 
-  pub without-context : (q % (s.block / 8) ≡ 0 → ⊥) → stored ≡ store s q (take k t) h image
+module _ (s : Shape) (q : ℕ) (t image stored : List ℕ) (h : History) (put : stored ≡ sets image (frame_place s q) t) where
+  pub with-context : (out : List ℕ) → q % (s.block / 8) ≡ 0
+      → out ≡ sets stored (context_place (q / (s.block / 8))) (context_bytes (get_or t 0 0) h) → out ≡ store s q t h image
+  unfolding store
+  with-context out e f =
+      f ∙ ap (λ (l : List ℕ). sets l (context_place (q / (s.block / 8))) (context_bytes (get_or t 0 0) h)) put ∙ rw (eq-eqb (q % (s.block / 8)) 0 e)
+
+  pub without-context : (q % (s.block / 8) ≡ 0 → ⊥) → stored ≡ store s q t h image
   unfolding store
   without-context e = put ∙ rw (ne_eqb (q % (s.block / 8)) 0 e)
 

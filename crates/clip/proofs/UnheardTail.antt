@@ -2,13 +2,13 @@
 use mathlib.Core.Path.{◌≡◌, refl, sym, ap, ap₂, ◌∙◌, subst}
 use mathlib.Core.Bool.{Bool, true, false, cond}
 use mathlib.Core.List.{List, [], ◌∷◌, ◌++◌, append-nil}
-use Prim.Native.Nat.{ℕ, suc, ◌+◌, ◌-◌, ◌/◌, ◌%◌, ◌≤◌, ◌<◌}
+use Prim.Native.Nat.{ℕ, suc, ◌+◌, ◌-◌, ◌/◌, ◌%◌, ◌≤◌}
 use native.Mathlib.Omega.{arith}
 use borrow.Author.Tests.{eqb-true, eqb-false}
 use lib.Dec.{eqb}
 use lib.IntN.{ℤ, pos}
 use lib.ListN.{length, take, set, replicate, length-set, length-replicate, drop_of_length-le}
-use lib.Seq.{sets, sets-eq, take_all, take-suc, take-set-le, get_or-set_same}
+use lib.Seq.{sets, sets-eq, take_all, take-suc-set}
 use Rattle.block.specs.declared.FrameContext.{FrameContext}
 use Rattle.frame.specs.declared.EncodedFrame.{EncodedFrame}
 use Rattle.frame.specs.Frame.{encode_frame, history_after}
@@ -21,18 +21,12 @@ use Rattle.clip.proofs.ByOutcome.{CallEffect, feed_by, close_by}
 
 -- ---- lists
 
-take-set : (l : List ℤ) (i : ℕ) (x : ℤ) → i < length l → take (suc i) (set l i x) ≡ take i l ++ (x ∷ [])
-take-set l i x h =
-    let n = length-set l i x in
-    take-suc (set l i x) i (pos 0) (omega arith)
-    ∙ ap₂ (λ (a : List ℤ) (y : ℤ). a ++ (y ∷ [])) (take-set-le i l i x (omega arith)) (get_or-set_same l i x (pos 0) h)
-
 -- the samples fed and one more
 set-alike : (n : ℕ) (a b : List ℤ) (x : ℤ) → Alike n a b → take (suc (n % 14)) (set a (n % 14) x) ≡ take (suc (n % 14)) (set b (n % 14) x)
 set-alike n a b x s =
     let p = s.first in
     let q = s.second in
-    take-set a (n % 14) x (omega arith) ∙ ap (λ (l : List ℤ). l ++ (x ∷ [])) s.same ∙ sym (take-set b (n % 14) x (omega arith))
+    take-suc-set a (n % 14) x (omega arith) ∙ ap (λ (l : List ℤ). l ++ (x ∷ [])) s.same ∙ sym (take-suc-set b (n % 14) x (omega arith))
 
 -- a frame that is full
 set_full : (n : ℕ) (a b : List ℤ) (x : ℤ) → Alike n a b → n % 14 ≡ 13 → set a (n % 14) x ≡ set b (n % 14) x

@@ -9,6 +9,7 @@ use lib.Dec.{ltb}
 use lib.IntN.{ℤ}
 use lib.ListN.{length, take, drop, get_or, length-append}
 use lib.Seq.{sets-eq, take_at}
+use Rattle.std.proofs.lemmas.Bool.{false≢true}
 use Rattle.whole.specs.Frames.{frame_at, most, frame_count}
 use Rattle.whole.proofs.Stores.{take-replicate}
 use Rattle.layout.specs.Sizes.{block_count, body_bytes, image_size}
@@ -35,12 +36,9 @@ pub record Legal (g : Start) (xs : List ℤ) (c : Bool) : Type 0 where
   pub few : length xs ≤ g.total
   pub all : c ≡ true → g.total ≤ length xs
 
-closed-not : ◌≡◌ {A = Bool} false true → ⊥
-closed-not z = let q : ◌≡◌ {A = ℕ} 0 1 = ap (λ (t : Bool). cond t 1 0) z in omega arith
-
 -- an open clip
 pub open-legal : (g : Start) (xs : List ℤ) → length xs ≤ g.total → Legal g xs false
-open-legal g xs h = record { few = h; all = λ z. absurd (closed-not z) }
+open-legal g xs h = record { few = h; all = λ z. absurd (false≢true z) }
 
 pub image-length : (g : Start) → Fine g → (xs : List ℤ) (c : Bool) → length (image_after g xs c) ≡ image_size (start_shape g)
 image-length g F xs true = ap length (image-built g xs true) ∙ built-length g F mark refl (loop_entry g xs true) (entry-last g xs true) xs (frame_count g.total)
@@ -99,7 +97,7 @@ module _ (g : Start) (xs : List ℤ) where
   legal-next : (c : Bool) → Legal g xs c → (k : Call) (a : Outcome Unit) → plain_answer g (plain xs c) k ≡ a → (let m = plain_next a (plain xs c) k in Legal g m.samples m.closed)
   legal-next c L k (refused_at n j) e = L
   legal-next true L (feeds p) (accepted tt) e = absurd (not-both e)
-  legal-next false L (feeds p) (accepted tt) e = record { few = omega (arith, length-append xs p, feed-open false p L e); all = λ z. absurd (closed-not z) }
+  legal-next false L (feeds p) (accepted tt) e = record { few = omega (arith, length-append xs p, feed-open false p L e); all = λ z. absurd (false≢true z) }
   legal-next c L closes (accepted u) e = record { few = L.few; all = λ z. omega (arith, close_open c L e) }
 
 pub legal-after : (g : Start) (xs : List ℤ) (c : Bool) → Legal g xs c → (ks : List Call) → (let m = plain_after g (plain xs c) ks in Legal g m.samples m.closed)

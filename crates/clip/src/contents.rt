@@ -41,8 +41,8 @@ pub fn put_coefficients(image: &mut [u8], at: usize, coefficients: [i16; 16])
     }
 }
 
-// An entry: where a block's body begins and how long it is, or where a loop starts and ends; and the context there.
-fn put_entry(image: &mut [u8], at: usize, first: u32, second: u32, context: FrameContext)
+// An entry: where a block's body begins and how long it is, or where a loop starts and ends; and the context there. It is internal: crate dsp calls it.
+pub fn put_entry(image: &mut [u8], at: usize, first: u32, second: u32, context: FrameContext)
     requires { at + 16 ≤ length image.old }
     ensures { image.new ≡ sets image.old at (be32 first ++ (be32 second ++ (context_bytes context.predictor_and_scale context.last_samples ++ (0 ∷ 0 ∷ [])))) }
 {

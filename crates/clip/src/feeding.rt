@@ -1,5 +1,5 @@
 // Frames encoded to their places.
-ghost use Rattle.std.specs.Prelude.{◌≡◌, length, take};
+ghost use Rattle.std.specs.Prelude.{◌≡◌, length};
 ghost use Rattle.clip.specs.Encoding.{left, store, loop_context, push, feed_all};
 ghost use Rattle.clip.specs.inner.Asked.{Room, Framed, Going};
 ghost use Rattle.clip.specs.inner.Encoded.{encoded};
@@ -8,17 +8,17 @@ use crate::Encoder;
 use crate::contents::put_context;
 use block::FrameContext;
 use frame::{EncodedFrame, encode_frame, history_after};
-use layout::fields::put_part;
+use layout::Shape;
 use layout::sizes::{bodies_place, entry_place};
-use layout::{Loop, Shape};
 use whole::{BYTES_PER_FRAME, History, SAMPLES_PER_FRAME};
 
-// Stores a frame's first k bytes at its place, and its block's context where it is a block's first.
-fn store(image: &mut [u8], shape: Shape, q: usize, bytes: [u8; 8], k: usize, history: History)
-    requires { Room shape q k (length image.old) }
-    ensures { image.new ≡ store shape q (take k bytes) history image.old }
+// Stores a frame's bytes at its place, and its block's context where it is a block's first.
+fn store(image: &mut [u8], shape: Shape, q: usize, bytes: &[u8], history: History)
+    requires { Room shape q (length bytes.now) (length image.old) }
+    ensures { image.new ≡ store shape q bytes.now history image.old }
 {
-    put_part(image, bodies_place(shape) + BYTES_PER_FRAME * q, bytes, k);
+    let at = bodies_place(shape) + BYTES_PER_FRAME * q;
+    image[at..at + bytes.len()].copy_from_slice(bytes);
     let per = shape.block / BYTES_PER_FRAME;
     if q % per == 0 {
         put_context(
@@ -30,31 +30,25 @@ fn store(image: &mut [u8], shape: Shape, q: usize, bytes: [u8; 8], k: usize, his
     }
 }
 
-// The context at the loop start: that of frame q where it holds the start, else the one before.
-#[tactic(auto, unfolding(crate::specs::Encoding::loop_context))]
-fn loop_context(
-    looped: Loop,
-    q: usize,
-    history: History,
-    done: EncodedFrame,
-    before: FrameContext,
-) -> FrameContext
-    ensures { result ≡ loop_context looped q history done before }
-{
-    let start = looped.start as usize;
-    if looped.present && start / SAMPLES_PER_FRAME == q {
-        let samples = done.samples;
-        let last_samples = history_after(history, samples, start % SAMPLES_PER_FRAME);
-        FrameContext {
-            predictor_and_scale: u16::from(done.bytes[0]),
-            last_samples,
-        }
-    } else {
-        before
-    }
-}
-
+// Stays: what these ask of a state and its buffer is a record of specs/inner and no invariant, since the struct is C's, of any numbers, and C lends the buffer anew to each call.
 impl Encoder {
+    // The context at the loop start: that of frame q, which is encoded after the state's history, where it holds the start, else the one before.
+    #[tactic(auto, unfolding(crate::specs::Encoding::loop_context))]
+    fn loop_context(self, q: usize, done: EncodedFrame) -> FrameContext
+        ensures { result ≡ loop_context self.looped q self.history done self.context }
+    {
+        let start = self.looped.start as usize;
+        if self.looped.present && start / SAMPLES_PER_FRAME == q {
+            let before = start % SAMPLES_PER_FRAME;
+            FrameContext {
+                predictor_and_scale: u16::from(done.bytes[0]),
+                last_samples: history_after(self.history, done.samples, before),
+            }
+        } else {
+            self.context
+        }
+    }
+
     // Encodes the first m samples of the unfinished frame, which is frame q, to its place, and begins another.
     pub(crate) fn encode(&mut self, q: usize, m: usize, image: &mut [u8])
         requires { Framed self.old q m (length image.old) }
@@ -63,9 +57,9 @@ impl Encoder {
         let before = self.history;
         let done = encode_frame(before, self.frame, self.coefficients);
         let after = history_after(before, done.samples, m);
-        let stored = 1 + m.div_ceil(2);
-        store(image, self.shape(), q, done.bytes, stored, before);
-        self.context = loop_context(self.looped, q, before, done, self.context);
+        let stored = &done.bytes[..1 + m.div_ceil(2)];
+        store(image, self.shape(), q, stored, before);
+        self.context = self.loop_context(q, done);
         self.history = after;
         self.frame = [0; 14];
         self.passes += done.passes;
@@ -80,7 +74,7 @@ impl Encoder {
         let at = self.fed as usize % SAMPLES_PER_FRAME;
         self.frame[at] = sample;
         self.fed += 1;
-        let full = at == 13;
+        let full = at + 1 == SAMPLES_PER_FRAME;
         if full {
             self.encode(q, SAMPLES_PER_FRAME, image);
         }

@@ -35,7 +35,7 @@ pub enum Refusal {
     Unfinished,
 }
 
-// The encoding state: what the clip was started with, the samples fed so far, the history, the unfinished frame, the passes made, the loop, and the context at its start once that is known.
+// The encoding state: what the clip was started with, the samples fed so far, the history, the unfinished frame, the passes made, the loop, and the context at its start once that is known. The default is of no clip: all zeros, which every call refuses.
 #[repr(C)]
 #[derive(Clone, Copy, Default, PartialEq, Eq)]
 pub struct Encoder {

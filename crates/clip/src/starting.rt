@@ -32,8 +32,9 @@ impl Start {
         }
     }
 
-    // The shape of a clip that was started so.
-    pub(crate) fn shape(self) -> Shape
+    // The shape of a clip that was started so. It is internal: crate dsp calls it.
+    // Stays: the encoding state's `shape` has the same one line; a trait for the two is longer.
+    pub fn shape(self) -> Shape
         ensures { result ≡ start_shape self }
     {
         shape_of(self.total, self.block, loop_count(self.looped))

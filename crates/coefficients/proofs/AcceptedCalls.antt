@@ -1,9 +1,9 @@
 -- What an accepted call tells: the state is valid, and there is room for what is written.
-use Rattle.std.proofs.Common.{◌≡◌, ℕ, ◌+◌, ◌*◌, ◌/◌, ◌%◌, ◌<◌, ◌≤◌, Bool, true, false, cond, ◌&&◌, T, eqb, ltb, leb, List, length, ℤ, sym, refl, ap, ◌∙◌, subst, arith, ltb-false, le-ltb, le-leb, leb-true}
+use Rattle.std.proofs.Common.{◌≡◌, ℕ, ◌+◌, ◌*◌, ◌/◌, ◌%◌, ◌<◌, ◌≤◌, Bool, true, false, cond, not, ◌&&◌, T, eqb, ltb, leb, List, length, ℤ, sym, refl, ap, ◌∙◌, subst, arith, ltb-false, le-ltb, le-leb, leb-true}
 use borrow.Author.Tests.{eqb-false}
 use lib.Ieee.{Float}
 use Rattle.whole.specs.Frames.{most, frame_count}
-use Rattle.whole.specs.Outcome.{accepted}
+use Rattle.whole.specs.Outcome.{Outcome, accepted, refused}
 use Rattle.whole.proofs.Outcomes.{passed, failed}
 use Rattle.coefficients.specs.declared.CoefficientCalculator.{CoefficientCalculator}
 use Rattle.coefficients.specs.FrameRecord.{analyse, counted}
@@ -52,6 +52,21 @@ measurable-accepted n r len size p =
     let d = le-ltb most (n + len) p.samples in
     let e = le-ltb size (needed (n + len)) p.store in
     rw (a, b, d, e)
+
+-- an asking is tested as a piece of no samples
+pub finish-tested : (n r size : ℕ) → finish_answer n r size ≡ process_answer n r 0 size
+unfolding finish_answer process_answer valid
+finish-tested n r size = go (leb n most) refl (leb r (n / 14))
+  where
+    e : n + 0 ≡ n
+    e = omega arith
+
+    go : (a : Bool) → leb n most ≡ a → (b : Bool)
+        → ◌≡◌ {A = Outcome Unit} (cond (not (a && b)) (refused 1) (cond (ltb size (needed n)) (refused 3) (accepted tt)))
+        (cond (not (a && b)) (refused 1) (cond (ltb most (n + 0)) (refused 2) (cond (ltb size (needed (n + 0))) (refused 3) (accepted tt))))
+    go false p b = refl
+    go true p false = refl
+    go true p true = rw (e, le-ltb most n (leb-true n most p))
 
 pub finish-measurable : (n r size : ℕ) → finish_answer n r size ≡ accepted tt → Measurable n r 0 size
 unfolding finish_answer

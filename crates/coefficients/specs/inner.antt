@@ -4,3 +4,4 @@ pub mod SharedTerms
 pub mod PlainContrasts
 pub mod Measurable
 pub mod KeptRecord
+pub mod LentNumber

@@ -40,7 +40,7 @@ pub(crate) trait Contrasts: Copy {
         ensures { result ≡ and self t i };
 }
 
-// The least contrast so far, and its place: each contrast rounded once.
+// The least contrast so far, and its place: contrasts by `mul_add`, as the reference has them.
 #[derive(Clone, Copy)]
 pub(crate) struct Best {
     pub value: f64,
@@ -86,7 +86,7 @@ impl Contrasts for Best {
     }
 }
 
-// The least contrast so far, the one next to it, and the place of the least: each product and sum of a contrast rounded.
+// The least contrast so far, the one next to it, and the place of the least: contrasts by plain products and sums, which are faster.
 #[derive(Clone, Copy)]
 pub(crate) struct Lead {
     pub least: f64,
@@ -142,6 +142,7 @@ impl Contrasts for Lead {
 }
 
 // The lower of two numbers.
+// Stays: `float::min` tells NaNs and the signs of zeros apart as well, at each contrast, and none of that matters here.
 #[tactic(auto, unfolding(crate::specs::inner::PlainContrasts::lower))]
 fn lower(a: f64, b: f64) -> f64
     ensures { result ≡ PlainContrasts.lower a b }

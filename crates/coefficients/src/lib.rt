@@ -15,7 +15,6 @@ mod ranges;
 mod store;
 mod sums;
 
-use measuring::{finish_answer, padded_record, process_answer, push_all};
 use store::Records;
 use whole::Reason;
 
@@ -77,8 +76,8 @@ impl CoefficientCalculator {
         ensures { effect (Measure.outcome result) (Measure.measuring (or_kept result self) records.new)
             ≡ Measure.process self samples.now records.old }
     {
-        process_answer(self.samples, self.records, samples.len(), records.len())?;
-        Ok(push_all(self, samples, records))
+        self.tested(samples.len(), records.len())?;
+        Ok(self.push_all(samples, records))
     }
 
     // Works out the coefficients of all that was measured, the frame that is not full filled with zeros.
@@ -86,8 +85,8 @@ impl CoefficientCalculator {
         ensures { Measure.finish_effect (Measure.outcome result) (or_kept result Measure.no_coefficients) self records.new
             ≡ Measure.finish self records.old }
     {
-        finish_answer(self.samples, self.records, records.len())?;
-        let count = padded_record(self, records);
+        self.tested(0, records.len())?;
+        let count = self.padded_record(records);
         Ok(finishing::record_coefficients(&Records::new(records, count)))
     }
 }

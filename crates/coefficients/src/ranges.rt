@@ -3,6 +3,8 @@ ghost use Rattle.std.specs.Prelude.{◌≡◌, if◌then◌else◌};
 ghost use Rattle.std.specs.Float.Ieee as Ieee;
 ghost use Rattle.coefficients.specs.Constants.{f0};
 ghost use Rattle.coefficients.specs.Analysis as Analysis;
+ghost use Rattle.std.specs.Borrow.{sem};
+ghost use Rattle.coefficients.specs.inner.LentNumber.{LendsNumber};
 
 use crate::merging::Vec3;
 
@@ -62,8 +64,10 @@ fn pivot(a: f64, b: f64) -> Row
 {
     if a >= 0.0 {
         if b >= a { Row::Two } else { Row::One }
+    } else if b >= 0.0 {
+        Row::Two
     } else {
-        if b >= 0.0 { Row::Two } else { Row::Zero }
+        Row::Zero
     }
 }
 
@@ -88,6 +92,7 @@ fn exchanged(m: Mat2) -> Mat2
 }
 
 // Rows 1 and i change places. Row 0 holds zeros.
+// Stays: one function for this and the next would be told row 0's numbers and where they go, and be longer than the two.
 #[tactic(auto, unfolding(crate::specs::Analysis::exchange1))]
 fn exchange1(i: Row, m: Mat2) -> Mat2
     ensures { result ≡ Analysis.exchange1 i m }
@@ -170,44 +175,38 @@ pub(crate) fn analyze_ranges(m: Mat2) -> Option<Ranges>
     decomposed(m, 1.0 / x1, 1.0 / x2)
 }
 
-// The vector's number at place i.
-#[tactic(auto, unfolding(crate::specs::Analysis::at))]
-fn at(v: Vec3, i: Row) -> f64
-    ensures { result ≡ Analysis.at v i }
+// The vector's number at place i, to be read or written.
+#[tactic(auto, unfolding(crate::specs::Analysis::at, crate::specs::Analysis::put))]
+fn number_at(v: &mut Vec3, i: Row) -> &mut f64
+    ensures* writes_back { sem 𝓛 (LendsNumber v.entry i result) }
+    ensures value { result.now ≡ Analysis.at v.old i }
 {
     match i {
-        Row::Zero => v.x0,
-        Row::One => v.x1,
-        Row::Two => v.x2,
-    }
-}
-
-// The vector with x at place i.
-#[tactic(auto, unfolding(crate::specs::Analysis::put))]
-fn put(v: Vec3, i: Row, x: f64) -> Vec3
-    ensures { result ≡ Analysis.put v i x }
-{
-    match i {
-        Row::Zero => Vec3 { x0: x, ..v },
-        Row::One => Vec3 { x1: x, ..v },
-        Row::Two => Vec3 { x2: x, ..v },
+        Row::Zero => &mut v.x0,
+        Row::One => &mut v.x1,
+        Row::Two => &mut v.x2,
     }
 }
 
 // The solution of the two equations.
-#[tactic(auto, unfolding(crate::specs::Analysis::bidirectional_filter))]
+#[tactic(auto, unfolding(crate::specs::Analysis::bidirectional_filter, crate::specs::Analysis::put))]
 pub(crate) fn bidirectional_filter(g: Ranges, v: Vec3) -> Vec3
     ensures { result ≡ Analysis.bidirectional_filter g v }
 {
-    let t1 = at(v, g.i1);
-    let w1 = put(put(v, g.i1, v.x1), Row::One, t1);
-    let t2 = at(w1, g.i2);
-    let w2 = put(w1, g.i2, w1.x2);
-    let s2 = float::mul_add(w2.x1, -g.m.a21, t2);
+    let mut w = v;
+    let first = number_at(&mut w, g.i1);
+    let t1 = *first;
+    *first = v.x1;
+    w.x1 = t1;
+    let x2 = w.x2;
+    let second = number_at(&mut w, g.i2);
+    let t2 = *second;
+    *second = x2;
+    let s2 = float::mul_add(w.x1, -g.m.a21, t2);
     let y2 = unless_zero(t1, s2, t2) / g.m.a22;
     Vec3 {
         x0: 1.0,
-        x1: float::mul_add(y2, -g.m.a12, w2.x1) / g.m.a11,
+        x1: float::mul_add(y2, -g.m.a12, w.x1) / g.m.a11,
         x2: y2,
     }
 }

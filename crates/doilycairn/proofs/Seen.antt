@@ -2,17 +2,13 @@
 use mathlib.Core.List.{List}
 use mathlib.Core.Path.{◌≡◌, ap}
 use Prim.Native.Nat.{ℕ, ◌+◌, ◌/◌}
-use Rattle.std.specs.Prelude.{Result, Ok, Err, ℤ, pos, false}
-use Rattle.std.specs.Result.{result_unwrap_or}
+use Rattle.std.specs.Prelude.{Result, Ok, Err, pos, false}
 use Rattle.block.specs.declared.FrameContext.{FrameContext}
 use Rattle.block.specs.Context.{new_context}
 use Rattle.whole.specs.Outcome.{Outcome, accepted, refused_at, without_values, or_kept, outcome_code, outcome_entry, Effect, effect}
 use Rattle.clip.specs.declared.Encoder.{Encoder}
 use Rattle.clip.specs.declared.Refusal as Clip
 use Rattle.clip.specs.Encoding as Clips
-use Rattle.frame.specs.declared.OneFrame.{OneFrame}
-use Rattle.frame.specs.declared.Refusal as Frame
-use Rattle.frame.specs.Frame as OneFrames
 use Rattle.std.specs.Result.{ResultUnwrapsOrElse}
 use Rattle.clip.proofs.Defaults.{Zeros}
 use Rattle.image.specs.declared.Opening as Told
@@ -21,12 +17,10 @@ use Rattle.image.specs.Opening as Images
 use Rattle.doilycairn.proofs.Defaults.{default-head, default-loop, default-context}
 use Rattle.doilycairn.specs.declared.reading.Opening.{Opening}
 use Rattle.image.specs.Bodies.{block_answer, body_in, block_body}
-use Rattle.whole.specs.declared.History.{History}
 use Rattle.image.specs.Reading.{offset_in, length_in, context_in}
 use Rattle.doilycairn.specs.declared.reading.Body.{Body}
-use Rattle.doilycairn.specs.declared.writing.Frame as Framed
 use Rattle.doilycairn.specs.Reading.{open_seen, body_at, handed, body_in_c}
-use Rattle.doilycairn.specs.Writing.{frame_seen, encoding_answer, clip_seen}
+use Rattle.doilycairn.specs.Writing.{encoding_answer, clip_seen}
 
 -- ---- a clip
 

@@ -22,7 +22,7 @@ use whole::{BYTES_PER_FRAME, MOST_SAMPLES, SAMPLES_PER_FRAME};
 // ---- import
 
 // The body bytes that a count needs; 0 needs none.
-// Stays: `layout::sizes::body_bytes` takes the counts of clips alone, and 25 comes before 4.
+// Stays: `layout::sizes::body_bytes` promises `most`, which holds of the counts of clips alone; 25 is asked of every count, before 4.
 fn needed(total: u32) -> usize
     ensures { result ≡ needed total }
 {

@@ -44,6 +44,7 @@ fn put_looped(header: &mut [u8; HEADER_BYTES], flag: u16, looped: Loop)
 }
 
 // A header byte and the history samples, two bytes each.
+// Stays: a place and no part of the header, since the places are the numbers that the document gives its fields.
 fn put_context_fields(header: &mut [u8; HEADER_BYTES], at: usize, context: FrameContext)
     requires { at ≤ 90 }
     ensures { header.new ≡ sets header.old at (context_fields context) }

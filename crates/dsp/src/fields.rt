@@ -1,20 +1,16 @@
 // The fields of a .dsp file, and what they say.
 ghost use Rattle.std.specs.Prelude.{◌≡◌, ◌≤◌};
-ghost use Rattle.layout.specs.Limits.{Limits};
-ghost use Rattle.layout.specs.Sizes.{image_size};
-ghost use Rattle.clip.specs.Image.{start_shape};
-ghost use Rattle.dsp.specs.File.{nibble_count, total_of, rate_of, flag_of, start_address_of, last_address_of, loop_of, coefficients_of, context_at, bodies_of};
+ghost use Rattle.dsp.specs.File.{nibble_count, total_of, rate_of, flag_of, start_address_of, last_address_of, loop_of, coefficients_of, first_of, loop_context_of, bodies_of};
 ghost use Rattle.dsp.specs.Import.{clip_of};
 
 use block::{FrameContext, address_to_sample, sample_to_address};
 use clip::starting::Start;
-use image::heading::{read_coefficients, signed_at, word_at};
-use image::loops::no_loop;
+use image::bodies::context_at;
+use image::heading::{read_coefficients, word_at};
 use layout::Loop;
 use layout::fields::{get16, get32};
-use layout::sizes::{cut_down, image_size, loop_count, shape_of};
+use layout::sizes::cut_down;
 use std::marker::Model;
-use whole::History;
 
 // The bytes of the header.
 pub(crate) const HEADER_BYTES: usize = 96;
@@ -89,18 +85,18 @@ impl<'a> File<'a> {
         read_coefficients(&self.bytes[12..])
     }
 
-    // A header byte, the newest and the older history sample.
-    pub(crate) fn context_at(&self, at: usize) -> FrameContext
-        requires { at ≤ 68 }
-        ensures { result ≡ context_at self.now at }
+    // The context of the first frame.
+    pub(crate) fn first(&self) -> FrameContext
+        ensures { result ≡ first_of self.now }
     {
-        FrameContext {
-            predictor_and_scale: word_at(self.bytes, at),
-            last_samples: History {
-                newest: signed_at(self.bytes, at + 2),
-                older: signed_at(self.bytes, at + 4),
-            },
-        }
+        context_at(self.bytes, 62)
+    }
+
+    // The context at the loop's start, as it is stored.
+    pub(crate) fn loop_context(&self) -> FrameContext
+        ensures { result ≡ loop_context_of self.now }
+    {
+        context_at(self.bytes, 68)
     }
 
     // The loop, or none.
@@ -108,7 +104,7 @@ impl<'a> File<'a> {
         ensures { result ≡ loop_of self.now }
     {
         if self.flag() != 1 {
-            return no_loop();
+            return Loop::default();
         }
         Loop {
             start: address_to_sample(self.start_address()) as u32,
@@ -134,16 +130,8 @@ impl<'a> File<'a> {
             block: cut_down(size),
             gain: word_at(self.bytes, 60),
             coefficients: self.coefficients(),
-            history: self.context_at(62).last_samples,
+            history: self.first().last_samples,
             looped: self.looped(),
         }
     }
-}
-
-// The bytes of the image of a clip that is started so.
-pub(crate) fn image_bytes(given: Start) -> usize
-    requires { Limits (start_shape given) }
-    ensures { result ≡ image_size (start_shape given) }
-{
-    image_size(shape_of(given.total, given.block, loop_count(given.looped)))
 }

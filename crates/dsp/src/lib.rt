@@ -15,8 +15,7 @@ mod importing;
 mod opened;
 
 use checks::{accept, exportable};
-use fields::image_bytes;
-use importing::put_image;
+use layout::sizes::image_size;
 use whole::Reason;
 
 // Why a call is refused; one of them names the block that another history stands before, and an image's may name the block whose entry is bad.
@@ -85,7 +84,7 @@ pub fn room_for(file: &[u8], size: u32) -> Result<u64, Refusal>
     ensures { written result ≡ room_for file.now size }
 {
     let accepted = accept(file, size)?;
-    Ok(image_bytes(accepted.clip(size)) as u64)
+    Ok(image_size(accepted.clip(size).shape()) as u64)
 }
 
 // Imports a .dsp file: the image, in blocks of the size given, to the buffer; how many bytes.
@@ -94,11 +93,11 @@ pub fn import(file: &[u8], size: u32, image: &mut [u8]) -> Result<u64, Refusal>
 {
     let accepted = accept(file, size)?;
     let given = accepted.clip(size);
-    let needed = image_bytes(given);
+    let needed = image_size(given.shape());
     let short = image.len() < needed;
     if short {
         return Err(Refusal::ImageTooShort);
     }
-    put_image(&accepted, given, image);
+    accepted.put_image(given, image);
     Ok(needed as u64)
 }

@@ -14,6 +14,7 @@ use layout::sizes::body_bytes;
 use std::marker::Model;
 
 // An image that opens. A clause sees its bytes.
+// Stays: crate image has a type of this meaning for itself, with the coefficients beside the bytes; to share it a dozen of its methods would be public.
 #[derive(Drop)]
 pub(crate) struct Opened<'a> {
     pub(crate) bytes: &'a [u8],

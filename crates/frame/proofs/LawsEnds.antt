@@ -12,7 +12,7 @@ use lib.Count.{count_leading_zeros}
 use lib.Dec.{T, ltb, eqb}
 use lib.Ieee.{size}
 use lib.Ieee.Digits.{size-lt, size-le}
-use lib.IntN.{ℤ, pos, negsuc, neg_ℤ, nat_abs, ◌-ℤ◌, +ℤ_idl}
+use lib.IntN.{ℤ, pos, negsuc, neg_ℤ, nat_abs}
 use lib.ListN.{get_or}
 use lib.Pow.{pow_mono, pow-add}
 use lib.Signed.{non_neg, le_z}

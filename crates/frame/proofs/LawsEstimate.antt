@@ -108,6 +108,20 @@ exponent-is (suc (suc n)) =
     let e : pos (suc (suc n)) -ℤ pos 2 ≡ pos n = diff-eq (diff-sub (diff-pos (suc (suc n))) (diff-pos 2)) (diff-pos n) (omega arith) in
     ap (λ (z : ℤ). nat_abs (cond (lt_z z (negsuc 0)) (negsuc 0) z +ℤ pos 1)) e ∙ omega arith
 
+-- no more halvings are counted than are asked for
+within-le : (k : ℕ) (z : ℤ) → halvings_within k z ≤ k
+unfolding halvings_within
+within-le zero z = omega arith
+within-le (suc k) z = go (is_small z) (within-le k (towards_zero z 2))
+  where
+    go : (t : Bool) → halvings_within k (towards_zero z 2) ≤ k → cond t zero (suc (halvings_within k (towards_zero z 2))) ≤ suc k
+    go true h = omega arith
+    go false h = omega arith
+
+pub exponent-most : (z : ℤ) → exponent_of (halvings z) ≤ 12
+unfolding halvings
+exponent-most z = omega (arith, exponent-is (halvings_within 13 z), within-le 13 z)
+
 -- the first exponent is 0 to 11
 pub first-le : (c0 c1 : ℤ) (h : History) (xs : List ℤ) → first_exponent c0 c1 h xs ≤ 11
 unfolding first_exponent

@@ -7,8 +7,8 @@ use native.Mathlib.Decide.{dec_le}
 use native.Mathlib.Numerals.{add-one}
 use native.Mathlib.Omega.{arith}
 use lib.IntN.{ℤ, pos}
-use lib.ListN.{length, get_or, take, drop, set, replicate, length-append, length-drop, get_or-append}
-use lib.Seq.{set_at, append_snoc, take-suc, take_all, length-take-le, take_at, get_or-take, get_or-drop, get_or-append-add}
+use lib.ListN.{length, get_or, take, drop, set, replicate, length-append, get_or-append}
+use lib.Seq.{set_at, append_snoc, take-suc, length-take-le, take_at, get_or-take, get_or-drop, get_or-append-add}
 use mir.Syntax.{w16}
 use mir.Val.{SFits}
 use Rattle.frame.specs.Fits.{Fit, FitHistory}

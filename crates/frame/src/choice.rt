@@ -1,9 +1,9 @@
 // The choice among the eight pairs of coefficients, one after the other.
 ghost use Rattle.std.specs.Prelude.{◌≡◌, ◌+◌, ◌<◌, ◌≤◌};
-ghost use Rattle.frame.specs.Choice.{AllBounded, candidate_at, held_after};
+ghost use Rattle.frame.specs.Choice.{candidate_at, held_after};
 ghost use Rattle.frame.specs.inner.Places.{history_of, samples_of};
 
-use crate::pair::Pair;
+use crate::bank::Bank;
 use crate::places::Frame;
 use crate::search::{Coded, try_coefficients};
 use whole::History;
@@ -17,24 +17,18 @@ pub(crate) struct Held {
 }
 
 // The candidate of pair k.
-fn candidate_at(frame: &Frame, coefficients: [i16; 16], k: usize) -> Coded
-    requires all_bounded { AllBounded coefficients }
-    requires k_bound { k < 8 }
-    ensures { result ≡ candidate_at (history_of frame.now.samples) (samples_of frame.now.samples) coefficients k }
+fn candidate_at(frame: &Frame, bank: &Bank, k: usize) -> Coded
+    requires { k < 8 }
+    ensures { result ≡ candidate_at (history_of frame.now.samples) (samples_of frame.now.samples) bank.now.coefficients k }
 {
-    let pair = Pair {
-        c0: coefficients[2 * k],
-        c1: coefficients[2 * k + 1],
-    };
-    try_coefficients(pair, frame)
+    try_coefficients(bank.pair(k), frame)
 }
 
 // What is held after the first candidate.
-fn after_the_first(frame: &Frame, coefficients: [i16; 16]) -> Held
-    requires all_bounded { AllBounded coefficients }
-    ensures { result ≡ held_after (history_of frame.now.samples) (samples_of frame.now.samples) coefficients 1 }
+fn after_the_first(frame: &Frame, bank: &Bank) -> Held
+    ensures { result ≡ held_after (history_of frame.now.samples) (samples_of frame.now.samples) bank.now.coefficients 1 }
 {
-    let tried = candidate_at(frame, coefficients, 0);
+    let tried = candidate_at(frame, bank, 0);
     Held {
         candidate: tried,
         index: 0,
@@ -43,13 +37,12 @@ fn after_the_first(frame: &Frame, coefficients: [i16; 16]) -> Held
 }
 
 // What is held after k candidates and one more: the least distance, the lowest index among equals.
-fn after_one_more(held: Held, frame: &Frame, coefficients: [i16; 16], k: usize) -> Held
-    requires all_bounded { AllBounded coefficients }
+fn after_one_more(held: Held, frame: &Frame, bank: &Bank, k: usize) -> Held
     requires le_k { (1 ≤ k) × (k < 8) }
-    requires held_value { held ≡ held_after (history_of frame.now.samples) (samples_of frame.now.samples) coefficients k }
-    ensures { result ≡ held_after (history_of frame.now.samples) (samples_of frame.now.samples) coefficients (k + 1) }
+    requires held_value { held ≡ held_after (history_of frame.now.samples) (samples_of frame.now.samples) bank.now.coefficients k }
+    ensures { result ≡ held_after (history_of frame.now.samples) (samples_of frame.now.samples) bank.now.coefficients (k + 1) }
 {
-    let tried = candidate_at(frame, coefficients, k);
+    let tried = candidate_at(frame, bank, k);
     let passes = held.passes + tried.passes;
     if tried.distance < held.candidate.distance {
         return Held {
@@ -62,14 +55,13 @@ fn after_one_more(held: Held, frame: &Frame, coefficients: [i16; 16], k: usize) 
 }
 
 // What is held after all eight.
-pub(crate) fn choose(history: History, samples: [i16; 14], coefficients: [i16; 16]) -> Held
-    requires { AllBounded coefficients }
-    ensures { result ≡ held_after history samples coefficients 8 }
+pub(crate) fn choose(history: History, samples: [i16; 14], bank: &Bank) -> Held
+    ensures { result ≡ held_after history samples bank.now.coefficients 8 }
 {
     let frame = Frame::new(history, samples);
-    let mut held = after_the_first(&frame, coefficients);
+    let mut held = after_the_first(&frame, bank);
     for k in 1..8 {
-        held = after_one_more(held, &frame, coefficients, k);
+        held = after_one_more(held, &frame, bank, k);
     }
     held
 }

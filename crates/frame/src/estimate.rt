@@ -4,6 +4,7 @@ ghost use Rattle.frame.specs.Estimate.{difference, exponent_of, halvings, first_
 ghost use Rattle.frame.specs.inner.Ends.{difference_at, ends_of, up_first};
 ghost use Rattle.frame.specs.inner.Places.{history_of, samples_of};
 
+use crate::exponent::Exponent;
 use crate::pair::Pair;
 use crate::places::Frame;
 use std::cmp::Ordering;
@@ -52,11 +53,13 @@ fn ends_of(pair: Pair, frame: &Frame) -> Ends
 }
 
 // The exponent of a largest difference m, not negative.
-fn exponent(m: u32) -> u8
+fn exponent(m: u32) -> Exponent
     requires { m ≤ 32768 }
-    ensures { result ≡ exponent_of (halvings (pos m)) }
+    ensures { result.value ≡ exponent_of (halvings (pos m)) }
 {
-    (28 - (m | 15).leading_zeros()) as u8
+    Exponent {
+        value: (28 - (m | 15).leading_zeros()) as u8,
+    }
 }
 
 // Whether the first difference of magnitude n is not negative.
@@ -73,15 +76,15 @@ fn is_first(pair: Pair, frame: &Frame, n: u16) -> bool
 }
 
 // The exponent of the first pass: a negative largest difference -m has that of 8 m / 9.
-pub(crate) fn first_exponent(pair: Pair, frame: &Frame) -> u8
-    ensures { result ≡ first_exponent pair.c0 pair.c1 (history_of frame.now.samples) (samples_of frame.now.samples) }
+pub(crate) fn first_exponent(pair: Pair, frame: &Frame) -> Exponent
+    ensures { result.value ≡ first_exponent pair.c0 pair.c1 (history_of frame.now.samples) (samples_of frame.now.samples) }
 {
     let ends = ends_of(pair, frame);
     let high = ends.high.unsigned_abs();
     let low = ends.low.unsigned_abs();
     let up = exponent(u32::from(high));
     let down = exponent(8 * u32::from(low) / 9);
-    if up == down {
+    if up.value == down.value {
         return up;
     }
     match high.cmp(&low) {

@@ -5,8 +5,10 @@ ghost use Rattle.std.specs.Prelude.{◌≡◌, ◌≤◌, nat_abs};
 ghost use Rattle.frame.specs.Choice.{AllBounded};
 ghost use Rattle.frame.specs.Frame.{code, coefficients_ok, encode_frame, encode_one_frame, frame_effect, history_after, pair_ok};
 
+mod bank;
 mod choice;
 mod estimate;
+mod exponent;
 mod nibbles;
 mod pair;
 mod pass;
@@ -17,6 +19,7 @@ mod room;
 mod search;
 mod seen;
 
+use bank::Bank;
 use choice::{Held, choose};
 use nibbles::pack_frame;
 use pair::magnitudes;
@@ -89,7 +92,7 @@ pub fn encode_frame(history: History, samples: [i16; 14], coefficients: [i16; 16
         candidate,
         index,
         passes,
-    } = choose(history, samples, coefficients);
+    } = choose(history, samples, &Bank { coefficients });
     let samples = candidate.samples;
     let bytes = pack_frame(index * 16 + candidate.exponent, candidate.nibbles);
     EncodedFrame {

@@ -3,6 +3,8 @@ ghost use Rattle.std.specs.Prelude.{◌≡◌, ◌≤◌, ◌*◌, ◌^◌, nat_
 ghost use Rattle.std.specs.Float.Ieee.Nearest.{closest};
 ghost use Rattle.frame.specs.Quantise.{round24, scale, nearest_down, with_sign, quantise};
 
+use crate::exponent::Exponent;
+
 // n with the sign of z.
 fn with_sign(z: i64, n: u64) -> i64
     requires { n ≤ 4294967296 }
@@ -47,25 +49,23 @@ fn rounded(d: i64) -> i64
 }
 
 // d / (2048 * 2^p) to the nearest whole number, halves towards zero.
-fn nearest(d: i64, p: u8) -> i64
-    requires d_bound { nat_abs d ≤ 4294967296 }
-    requires p_bound { p ≤ 12 }
-    ensures { result ≡ with_sign d (nearest_down (nat_abs d) (scale p)) }
+fn nearest(d: i64, p: Exponent) -> i64
+    requires { nat_abs d ≤ 4294967296 }
+    ensures { result ≡ with_sign d (nearest_down (nat_abs d) (scale p.value)) }
 {
-    let half = 1024 * (1i64 << p);
+    let half = 1024 * (1i64 << p.value);
     let above = 0 < d;
     if above {
-        (d + half - 1) >> (p + 11)
+        (d + half - 1) >> (p.value + 11)
     } else {
-        (d + half) >> (p + 11)
+        (d + half) >> (p.value + 11)
     }
 }
 
 // D to 24 significant bits, over 2048 * 2^p, to the nearest, halves towards zero.
-pub(crate) fn quantise(d: i64, p: u8) -> i64
-    requires d_bound { nat_abs d ≤ 2147483648 }
-    requires p_bound { p ≤ 12 }
-    ensures { result ≡ quantise d p }
+pub(crate) fn quantise(d: i64, p: Exponent) -> i64
+    requires { nat_abs d ≤ 2147483648 }
+    ensures { result ≡ quantise d p.value }
 {
     nearest(rounded(d), p)
 }

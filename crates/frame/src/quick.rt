@@ -3,6 +3,7 @@ ghost use Rattle.std.specs.Prelude.{◌≡◌, ◌+◌, ◌*◌, ◌≤◌, IfSo
 ghost use Rattle.frame.specs.inner.Places.{history_of, samples_of};
 ghost use Rattle.frame.specs.inner.Quick.{Roomy, ScalesOf, Steps, Traces, is_beyond, rest_of, traced_by};
 
+use crate::exponent::Exponent;
 use crate::pair::Pair;
 use crate::places::Frame;
 use crate::room::Room;
@@ -32,22 +33,19 @@ impl Scales {
     {
         if w < 0 {
             w
+        } else if w < self.all {
+            w & self.mask
         } else {
-            if w < self.all {
-                ((w as u64) & (self.mask as u64)) as i64
-            } else {
-                w - self.top
-            }
+            w - self.top
         }
     }
 }
 
 // The scales at exponent p.
-fn scales_at(p: u8) -> Scales
-    requires { p ≤ 12 }
-    ensures { ScalesOf p result }
+fn scales_at(p: Exponent) -> Scales
+    ensures { ScalesOf p.value result }
 {
-    let u = 4294967296i64 << p;
+    let u = 4294967296i64 << p.value;
     Scales {
         mask: 2048 * u - 1,
         all: 32768 * u,
@@ -83,6 +81,7 @@ fn begun(y: i64, e: i64, c1: i64, older: i64) -> i64
 }
 
 // Whether s has more than 16 bits.
+// Stays: the wrong program `sample_32768_kept` moves this bound, which `i16::try_from` would have in itself.
 fn is_beyond(s: i64) -> bool
     ensures { result ≡ is_beyond s }
 {
@@ -90,10 +89,9 @@ fn is_beyond(s: i64) -> bool
 }
 
 // A pass at exponent p into `room`; none where a sample has more than 16 bits.
-pub(crate) fn run_quick(pair: Pair, frame: &Frame, p: u8, room: &mut Room) -> Option<()>
-    requires roomy { Roomy pair.c0 pair.c1 }
-    requires p_bound { p ≤ 12 }
-    ensures { IfSome result (λ _. Traces pair.c0 pair.c1 (history_of frame.now.samples) (samples_of frame.now.samples) p room.new.w room.new.s) }
+pub(crate) fn run_quick(pair: Pair, frame: &Frame, p: Exponent, room: &mut Room) -> Option<()>
+    requires { Roomy pair.c0 pair.c1 }
+    ensures { IfSome result (λ _. Traces pair.c0 pair.c1 (history_of frame.now.samples) (samples_of frame.now.samples) p.value room.new.w room.new.s) }
 {
     let a = 4294967295 * i64::from(pair.c0);
     let b = 4294967295 * i64::from(pair.c1);

@@ -1,13 +1,14 @@
 // The scale search for one pair of coefficients.
 ghost use Rattle.std.specs.Prelude.{◌≡◌, ◌≤◌, IfSome};
 ghost use Rattle.frame.specs.Pass.{run_pass};
-ghost use Rattle.frame.specs.Search.{raise, is_last, finished, try_coefficients};
+ghost use Rattle.frame.specs.Search.{raise, is_last, try_coefficients};
 ghost use Rattle.frame.specs.inner.Places.{history_of, samples_of};
 ghost use Rattle.frame.specs.inner.Seen.{pass_of};
 
 use crate::estimate::first_exponent;
+use crate::exponent::Exponent;
 use crate::pair::Pair;
-use crate::pass::{Pass, run_pass};
+use crate::pass::run_pass;
 use crate::places::Frame;
 use crate::quick::run_quick;
 use crate::room::Room;
@@ -24,56 +25,35 @@ pub(crate) struct Coded {
 }
 
 // While y is above 256 it is halved, and p rises, to 11 at most.
-fn raise(first: u8, overflow: u64) -> u8
-    requires first_bound { first ≤ 12 }
-    requires overflow_bound { overflow ≤ 4294967288 }
-    ensures { result ≡ raise overflow first }
+fn raise(first: Exponent, overflow: u64) -> Exponent
+    requires { overflow ≤ 4294967288 }
+    ensures { result.value ≡ raise overflow first.value }
 {
-    let mut p = first;
+    let mut p = first.value;
     let mut y = overflow + 8;
     while 256 < y {
         p = (p + 1).min(11);
         y /= 2;
     }
-    p
+    Exponent { value: p }
 }
 
 // Whether a pass ends the search.
-fn is_last(p: u8, overflow: u64) -> bool
-    ensures { result ≡ is_last p overflow }
+fn is_last(p: Exponent, overflow: u64) -> bool
+    ensures { result ≡ is_last p.value overflow }
 {
-    p == 12 || overflow <= 1
+    p.value == 12 || overflow <= 1
 }
 
 // What a quick pass at exponent p shows, where it is sure.
-fn quick_pass(pair: Pair, frame: &Frame, p: u8, room: &mut Room) -> Option<Seen>
-    requires { p ≤ 12 }
-    ensures { IfSome result (λ seen. (pass_of seen room.new.s ≡ run_pass pair.c0 pair.c1 (history_of frame.now.samples) (samples_of frame.now.samples) p) × (seen.overflow ≤ 248)) }
+fn quick_pass(pair: Pair, frame: &Frame, p: Exponent, room: &mut Room) -> Option<Seen>
+    ensures { IfSome result (λ seen. (pass_of seen room.new.s ≡ run_pass pair.c0 pair.c1 (history_of frame.now.samples) (samples_of frame.now.samples) p.value) × (seen.overflow ≤ 248)) }
 {
     if !pair.is_roomy() {
         return None;
     }
     run_quick(pair, frame, p, room)?;
     show(frame, room, p)
-}
-
-// The candidate that a pass finishes.
-fn finished(pass: Pass, exponent: u8, passes: u32) -> Coded
-    ensures { result ≡ finished pass exponent passes }
-{
-    let Pass {
-        nibbles,
-        samples,
-        distance,
-        ..
-    } = pass;
-    Coded {
-        nibbles,
-        samples,
-        distance,
-        exponent,
-        passes,
-    }
 }
 
 // Passes at rising exponents: the first that meets the test ends the search, with the finished candidate.
@@ -88,16 +68,16 @@ pub(crate) fn try_coefficients(pair: Pair, frame: &Frame) -> Coded
         if let Some(seen) = quick_pass(pair, frame, p, &mut room) {
             // Its overflow is 248 at most, which raises nothing.
             if is_last(p, seen.overflow) {
-                break finished(seen.pass(&room), p, passes);
+                break seen.finished(&room, p, passes);
             }
-            p += 1;
+            p = p.next();
         } else {
             let pass = run_pass(pair, frame, p);
             let q = raise(p, pass.overflow);
             if is_last(q, pass.overflow) {
-                break finished(pass, q, passes);
+                break pass.finished(q, passes);
             }
-            p = q + 1;
+            p = q.next();
         }
     }
 }

@@ -2,13 +2,16 @@
 ghost use Rattle.std.specs.Prelude.{cond, ◌≡◌, ℕ, ◌≤◌, ◌<◌, IfSome, pos, nat_abs, get_or};
 ghost use Rattle.std.specs.Int.Signed.{mag};
 ghost use Rattle.whole.specs.Whole.{clamp16};
+ghost use Rattle.frame.specs.Search.{finished};
 ghost use Rattle.frame.specs.inner.Nibbles.{InNibble};
 ghost use Rattle.frame.specs.inner.Quick.{steps_of};
 ghost use Rattle.frame.specs.inner.Seen.{Shows, is_near, pass_of};
 
-use crate::pass::{Pass, squared_difference};
+use crate::exponent::Exponent;
+use crate::pass::squared_difference;
 use crate::places::Frame;
 use crate::room::Room;
+use crate::search::Coded;
 
 // Sixteen nibbles, the last two of no sample, overflow and distance of a pass.
 #[derive(Clone, Copy)]
@@ -19,34 +22,35 @@ pub(crate) struct Seen {
 }
 
 impl Seen {
-    // The pass that is shown, its samples in `room`.
-    pub(crate) fn pass(self, room: &Room) -> Pass
+    // The candidate that this pass finishes, its samples in `room`.
+    pub(crate) fn finished(self, room: &Room, exponent: Exponent, passes: u32) -> Coded
         requires { (k : ℕ) → k < 14 → InNibble (get_or self.nibbles k (pos 0)) }
-        ensures { result ≡ pass_of self room.now.s }
+        ensures { result ≡ finished (pass_of self room.now.s) exponent.value passes }
     {
         let wide = self.nibbles;
         let mut nibbles = [0i8; 14];
+        let mut samples = [0i16; 14];
+        // Stays: the samples beside the nibbles; by `copy_from_slice` the encoder was 4 % slower.
         for i in 0..14 {
             nibbles[i] = wide[i] as i8;
+            samples[i] = room.s[i];
         }
-        let mut samples = [0i16; 14];
-        samples.copy_from_slice(&room.s[..14]);
-        Pass {
+        Coded {
             nibbles,
             samples,
-            overflow: self.overflow,
             distance: self.distance,
+            exponent: exponent.value,
+            passes,
         }
     }
 }
 
 // The number that is clamped to a nibble, or the nearer end of 16 bits.
-fn narrowed_steps(w: i32, p: u8) -> i16
-    requires w_bound { nat_abs w ≤ 2017460224 }
-    requires p_bound { p ≤ 12 }
-    ensures { result ≡ clamp16 (steps_of w p) }
+fn narrowed_steps(w: i32, p: Exponent) -> i16
+    requires { nat_abs w ≤ 2017460224 }
+    ensures { result ≡ clamp16 (steps_of w p.value) }
 {
-    ((w - (16384i32 << p)) >> (p + 11)).clamp(-32768, 32767) as i16
+    ((w - (16384i32 << p.value)) >> (p.value + 11)).clamp(-32768, 32767) as i16
 }
 
 // n, or -1 - n below 0.
@@ -57,22 +61,20 @@ fn folded(n: i16) -> i16
 }
 
 // 1 where w is near a multiple of a step, else `near`.
-fn near_or(near: u32, w: i32, p: u8) -> u32
-    requires w_bound { nat_abs w ≤ 2017460224 }
-    requires p_bound { p ≤ 12 }
-    ensures { result ≡ cond (is_near w p) 1 near }
+fn near_or(near: u32, w: i32, p: Exponent) -> u32
+    requires { nat_abs w ≤ 2017460224 }
+    ensures { result ≡ cond (is_near w p.value) 1 near }
 {
-    let m = (1i32 << p) >> 5;
-    if ((w + m) & ((2048i32 << p) - 1)) < 2 * m {
+    let m = (1i32 << p.value) >> 5;
+    if ((w + m) & ((2048i32 << p.value) - 1)) < 2 * m {
         return 1;
     }
     near
 }
 
 // What `room` shows of a pass at exponent p, where it is sure.
-pub(crate) fn show(frame: &Frame, room: &Room, p: u8) -> Option<Seen>
-    requires { p ≤ 12 }
-    ensures { IfSome result (Shows frame.now.samples room.now.w room.now.s p) }
+pub(crate) fn show(frame: &Frame, room: &Room, p: Exponent) -> Option<Seen>
+    ensures { IfSome result (Shows frame.now.samples room.now.w room.now.s p.value) }
 {
     let mut nibbles = [0i16; 16];
     let mut most: i16 = 0;

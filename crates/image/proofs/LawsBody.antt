@@ -9,11 +9,7 @@ use lib.Dec.{leb, ltb}
 use lib.IntN.{ℤ}
 use lib.ListN.{length, drop, length-drop}
 use lib.Seq.{length-take-le}
-use mir.Facts.{to_z-of_z}
-use mir.Syntax.{w16}
-use mir.Val.{SFits, of_z, to_z}
 use Rattle.block.specs.Address.{address_to_sample}
-use Rattle.block.specs.Context.{history_with, context_with}
 use Rattle.block.specs.Refusals.{bad_length, lowest_pair}
 use Rattle.layout.specs.declared.Shape.{Shape}
 use Rattle.layout.specs.Limits.{Limits}
@@ -21,7 +17,7 @@ use Rattle.layout.specs.Sizes.{entry_place, bodies_place, last_frame_samples, bl
 use Rattle.whole.specs.Frames.{frame_count}
 use Rattle.layout.proofs.SizeLaws.{block-place, block-first}
 use Rattle.whole.specs.Outcome.{accepted, refused_at}
-use Rattle.image.specs.Reading.{shape_in, blocks_in, coefficients_in, offset_in, length_in, header_in, newest_in, older_in, context_in}
+use Rattle.image.specs.Reading.{shape_in, blocks_in, coefficients_in, offset_in, length_in}
 use Rattle.image.specs.Opening.{open_answer}
 use Rattle.image.specs.inner.Asked.{Found, Playable}
 use Rattle.image.specs.Bodies.{block_answer, body_in, block_body}
@@ -111,12 +107,6 @@ unfolding play_answer room_answer
 play-accepts l k room p = rw (block-accepts l k p.found, room-accepts (coefficients_in l) (address_to_sample (length_in l k)) room p.pairs p.enough)
 
 -- ---- a block that was found
-
--- its context, from what was read
-pub context-made : (l : List ℕ) (k h : ℕ) (x y : ℤ) → SFits w16 x → SFits w16 y → h ≡ header_in l k → x ≡ newest_in l k → y ≡ older_in l k
-    → context_with h (history_with (to_z w16 (of_z w16 x)) (to_z w16 (of_z w16 y))) ≡ context_in l k
-unfolding context_in
-context-made l k h x y f g p q r = rw (to_z-of_z f, to_z-of_z g, p, q, r)
 
 module _ (l : List ℕ) (k : ℕ) (f : Found l k) where
   pub found_within : Within (shape_in l) k (length l)

@@ -1,8 +1,10 @@
 // The entries of an image's blocks, and their bodies.
 ghost use Rattle.std.specs.Prelude.{◌≡◌, ◌+◌, ◌/◌, ◌≤◌, length, take, drop};
+ghost use Rattle.block.specs.Context.{history_with, context_with};
+ghost use Rattle.layout.specs.Fields.{at16};
 ghost use Rattle.layout.specs.Sizes.{entry_place};
 ghost use Rattle.image.specs.inner.Asked.{Found};
-ghost use Rattle.image.specs.Reading.{context_in};
+ghost use Rattle.image.specs.Reading.{signed_at, context_in};
 ghost use Rattle.image.specs.Playing.{read_entry};
 
 use crate::heading::{signed_at, word_at};
@@ -19,19 +21,26 @@ pub struct Entry {
     pub context: FrameContext,
 }
 
+// The context that six bytes from a place on are: a header byte as two, the newest and the older history sample. It is internal: crate dsp calls it.
+pub fn context_at(bytes: &[u8], at: usize) -> FrameContext
+    requires { at + 6 ≤ length bytes.now }
+    ensures { result ≡ context_with (at16 bytes.now at) (history_with (signed_at bytes.now (at + 2)) (signed_at bytes.now (at + 4))) }
+{
+    FrameContext {
+        predictor_and_scale: word_at(bytes, at),
+        last_samples: History {
+            newest: signed_at(bytes, at + 2),
+            older: signed_at(bytes, at + 4),
+        },
+    }
+}
+
 // The context of entry k: a block's, or after those the loop's. It is internal: crate dsp calls it.
 pub fn read_context(image: &[u8], k: usize) -> FrameContext
     requires { (k ≤ 1048576) × (entry_place k + 16 ≤ length image.now) }
     ensures { result ≡ context_in image.now k }
 {
-    let at = entry_place(k);
-    let header = word_at(image, at + 8);
-    let newest = signed_at(image, at + 10);
-    let older = signed_at(image, at + 12);
-    FrameContext {
-        predictor_and_scale: header,
-        last_samples: History { newest, older },
-    }
+    context_at(image, entry_place(k) + 8)
 }
 
 // Block k's entry. It is internal: crate doilycairn calls it.

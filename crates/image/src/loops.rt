@@ -2,7 +2,6 @@
 ghost use Rattle.std.specs.Prelude.{◌≡◌, ◌*◌, length};
 ghost use Rattle.std.proofs.lemmas.List.Edits.{sets};
 ghost use Rattle.whole.specs.Outcome.{effect};
-ghost use Rattle.layout.specs.Sizes.{no_loop};
 ghost use Rattle.image.specs.inner.Asked.{Headed, Turns};
 ghost use Rattle.image.specs.inner.Played.{play_loop_by};
 ghost use Rattle.image.specs.Reading.{coefficients_in, loop_in, loop_context_in};
@@ -22,20 +21,13 @@ use layout::limits::loop_ok;
 use layout::sizes::{bodies_place, entry_place};
 use whole::{BYTES_PER_FRAME, SAMPLES_PER_FRAME};
 
-// No loop. It is internal: crate dsp calls it.
-pub fn no_loop() -> Loop
-    ensures { result ≡ no_loop }
-{
-    Loop::default()
-}
-
 // The loop that the entry after the blocks' says, or none. It is internal: crate dsp calls it.
 pub fn read_loop(image: &[u8]) -> Loop
     requires { Headed image.now }
     ensures { result ≡ loop_in image.now }
 {
     if get16(image, 50) != 1 {
-        return no_loop();
+        return Loop::default();
     }
     let at = entry_place(get32(image, 52) as usize);
     Loop {

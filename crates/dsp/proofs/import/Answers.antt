@@ -1,9 +1,8 @@
-use Rattle.std.proofs.Common.{List, ℕ, ◌≤◌, length, refl, ap, ap₂, ◌∙◌, arith}
+use Rattle.std.proofs.Common.{List, ℕ, ◌≤◌, length, ap, ap₂, ◌∙◌, arith}
 use Rattle.std.proofs.lemmas.Result.{err_from_is_err_and}
 use borrow.Author.Tests.{lt-ltb, le-ltb}
 use Rattle.whole.specs.Outcome.{accepted, effect}
 use Rattle.layout.specs.Sizes.{image_size}
-use Rattle.clip.specs.declared.starting.Start.{Start}
 use Rattle.clip.specs.Image.{start_shape}
 use Rattle.dsp.specs.Import.{clip_of, imported_bytes, file_answer, import_answer, import_file}
 use Rattle.dsp.specs.inner.Asked.{Imports}
@@ -14,7 +13,7 @@ use Rattle.dsp.proofs.import.Goals as goal
 -- what writing the image asks
 given : (f : List ℕ) (size room : ℕ) → FileFits f size → imported_bytes f size ≤ room → Imports f (clip_of f size) room
 unfolding clip_of
-given f size room F h = record { limits = clip-limits f size F; bodies = F.bodies; coefficients = refl; header = F.header; enough = h }
+given f size room F h = record { limits = clip-limits f size F; bodies = F.bodies; header = F.header; enough = h }
 
 pub returns-in_err-accepted : goal.returns-in_err-accepted
 unfolding import_file import_answer
@@ -23,11 +22,11 @@ returns-in_err-accepted c =
     let p = err_from_is_err_and c.from_residual.result c.from_residual.ensures.1 in
     rw (p.1, p.2, values-refused (file_answer f c.args.size) f c.in_err-accepted.ensures)
 
-pub image_bytes-needed-requires : goal.image_bytes-needed-requires
-image_bytes-needed-requires c =
+pub image_size-needed-requires : goal.image_size-needed-requires
+image_size-needed-requires c =
     let f = c.args.file.now in
     let t = values-accepted (file_answer f c.args.size) f c.in_ok-accepted.ensures in
-    rw (c.clip-given.ensures, t.1) (clip-limits f c.args.size (file-fits f c.args.size t.0))
+    rw (c.shape.ensures, c.clip-given.ensures, t.1) (clip-limits f c.args.size (file-fits f c.args.size t.0))
 
 pub returns-then-short : goal.returns-then-short
 unfolding import_file import_answer
@@ -35,7 +34,7 @@ returns-then-short c =
     let f = c.args.file.now in
     let t = values-accepted (file_answer f c.args.size) f c.in_ok-accepted.ensures in
     let g = c.clip-given.ensures ∙ ap (λ (l : List ℕ). clip_of l c.args.size) t.1 in
-    let n = c.image_bytes-needed.ensures ∙ ap (λ (z : Start). image_size (start_shape z)) g in
+    let n = c.image_size-needed.ensures ∙ ap image_size (c.shape.ensures ∙ ap start_shape g) in
     rw (t.0, lt-ltb (length c.args.image.now) (imported_bytes f c.args.size) (omega (arith, n, c.if-short.true)))
 
 pub put_image-requires : goal.put_image-requires
@@ -43,7 +42,7 @@ put_image-requires c =
     let f = c.args.file.now in
     let t = values-accepted (file_answer f c.args.size) f c.in_ok-accepted.ensures in
     let g = c.clip-given.ensures ∙ ap (λ (l : List ℕ). clip_of l c.args.size) t.1 in
-    let n = c.image_bytes-needed.ensures ∙ ap (λ (z : Start). image_size (start_shape z)) g in
+    let n = c.image_size-needed.ensures ∙ ap image_size (c.shape.ensures ∙ ap start_shape g) in
     rw (g, t.1) (given f c.args.size _ (file-fits f c.args.size t.0) (omega (arith, n, c.if-short.false)))
 
 pub returns : goal.returns
@@ -53,6 +52,6 @@ returns c =
     let l = c.args.image.now in
     let t = values-accepted (file_answer f c.args.size) f c.in_ok-accepted.ensures in
     let g = c.clip-given.ensures ∙ ap (λ (l : List ℕ). clip_of l c.args.size) t.1 in
-    let n = c.image_bytes-needed.ensures ∙ ap (λ (z : Start). image_size (start_shape z)) g in
+    let n = c.image_size-needed.ensures ∙ ap image_size (c.shape.ensures ∙ ap start_shape g) in
     rw (t.0, le-ltb (length l) (imported_bytes f c.args.size) (omega (arith, n, c.if-short.false)))
     (ap₂ (λ (n : ℕ) (l : List ℕ). effect (accepted n) l) n (c.put_image.ensures ∙ rw (g, t.1)))

@@ -9,7 +9,7 @@ use Rattle.layout.specs.Limits.{total_ok, Limits}
 use Rattle.layout.specs.Sizes.{bodies_place, body_bytes, image_size}
 use Rattle.clip.specs.declared.starting.Start.{Start}
 use Rattle.clip.specs.Image.{start_shape}
-use Rattle.dsp.specs.File.{nibble_count, total_of, nibbles_of, flag_of, coefficients_of, bodies_of}
+use Rattle.dsp.specs.File.{nibble_count, total_of, nibbles_of, flag_of, bodies_of}
 use Rattle.dsp.specs.Import.{long_enough}
 
 -- a file that 25 and 4 do not refuse
@@ -42,6 +42,5 @@ pub record Tabled (f : List ℕ) (s : Shape) (room : ℕ) : Type 0 where
 pub record Imports (f : List ℕ) (g : Start) (room : ℕ) : Type 0 where
   pub limits : Limits (start_shape g)
   pub bodies : 96 + body_bytes g.total ≤ length f
-  pub coefficients : g.coefficients ≡ coefficients_of f
   pub header : at16 f 62 ≡ get_or (bodies_of f) 0 0
   pub enough : image_size (start_shape g) ≤ room

@@ -1,8 +1,6 @@
 -- `coefficients_ok` meets its contract.
-use Rattle.std.proofs.Common.{◌≡◌, ℕ, ◌<◌, refl, sym, ap, ◌∙◌, rules, arith, w16}
+use Rattle.std.proofs.Common.{◌≡◌, refl, ap, ◌∙◌, rules, arith, w16}
 use Rattle.std.proofs.Math.Facts.{to_z-of_z}
-use mathlib.Core.List.{List}
-use lib.IntN.{ℤ}
 use mir.Val.{SFits}
 use Rattle.frame.specs.Choice.{c0_at, c1_at}
 use Rattle.frame.specs.Frame.{pairs_ok, coefficients_ok}

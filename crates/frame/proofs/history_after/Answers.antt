@@ -1,5 +1,5 @@
 -- `history_after` meets its contract: none, one or more samples of the frame.
-use Rattle.std.proofs.Common.{rules, arith, sym, ap, ap₂, ◌∙◌, w16, ◌-◌}
+use Rattle.std.proofs.Common.{rules, arith, ap, ap₂, ◌∙◌, w16, ◌-◌}
 use Rattle.std.proofs.Math.Facts.{to_z-of_z}
 use lib.IntN.{ℤ, pos}
 use lib.ListN.{get_or}

@@ -15,5 +15,5 @@ overflow_add-self c =
 pub returns : goal.returns
 returns c =
     framed-encoded c.args.self.now c.args.q c.args.m _ c.args.image.now c.store.new.image c.encode_frame-done.result c.shape.result
-    c.history_after-after.result c.loop_context-self.result c.encode_frame-done.ensures c.shape.ensures (omega (arith, c.div_ceil-stored.ensures))
+    c.history_after-after.result c.loop_context-self.result c.encode_frame-done.ensures c.shape.ensures (omega (arith, c.div_ceil.ensures))
     c.store.ensures c.history_after-after.ensures c.loop_context-self.ensures

@@ -1,12 +1,9 @@
-use Rattle.std.proofs.Common.{◌∙◌, arith, refl, ap}
+use Rattle.std.proofs.Common.{◌∙◌, arith, ap}
 use Rattle.std.proofs.lemmas.Int.{to_z-of_z}
 use Rattle.std.proofs.lemmas.List.{take_all}
 use Rattle.clip.specs.Encoding.{left, feed_all}
 use Rattle.clip.proofs.Pieces.{turn-going, turn}
 use Rattle.clip.proofs.feeding.feed_all.Goals as goal
-
-pub loop-sample-init : goal.loop-sample-init
-loop-sample-init c = record { so_far = refl; going = c.requires }
 
 pub push-requires : goal.push-requires
 push-requires c =

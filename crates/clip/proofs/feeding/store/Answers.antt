@@ -1,39 +1,43 @@
-use Rattle.std.proofs.Common.{ℕ, ◌+◌, ◌*◌, take, ap, ◌∙◌, arith}
-use Rattle.std.proofs.lemmas.List.Edits.{sets}
-use Rattle.clip.proofs.Storing.{room-few, room-place, room-context, with-context, without-context}
+use Rattle.std.proofs.Common.{length, ap, ◌∙◌, arith}
+use lib.Seq.{length-sets}
+use Rattle.layout.specs.Sizes.{frame_place}
+use Rattle.clip.proofs.Storing.{room-few, room-place, room-context, part-at, with-context, without-context}
 use Rattle.clip.proofs.feeding.store.Goals as goal
 
-pub overflow_mul-q : goal.overflow_mul-q
-overflow_mul-q c = omega (arith, room-few c.args.shape c.args.q c.args.k _ c.requires)
+pub overflow_mul-at : goal.overflow_mul-at
+overflow_mul-at c = omega (arith, room-few c.args.shape c.args.q _ _ c.requires)
 
-pub overflow_add-bodies_place : goal.overflow_add-bodies_place
-overflow_add-bodies_place c =
-    omega (arith, room-few c.args.shape c.args.q c.args.k _ c.requires, c.requires.limits.further, c.bodies_place.ensures)
+pub overflow_add-at : goal.overflow_add-at
+overflow_add-at c = omega (arith, room-place c.args.shape c.args.q _ _ c.requires, c.bodies_place.ensures)
 
-pub put_part-requires : goal.put_part-requires
-put_part-requires c =
-    (omega (arith, room-place c.args.shape c.args.q c.args.k _ c.requires, c.bodies_place.ensures), c.requires.part)
+pub overflow_add-at-2 : goal.overflow_add-at-2
+overflow_add-at-2 c = omega (arith, room-place c.args.shape c.args.q _ _ c.requires, c.bodies_place.ensures)
+
+pub slice_bounds-copy_from_slice-end : goal.slice_bounds-copy_from_slice-end
+slice_bounds-copy_from_slice-end c = omega (arith, room-place c.args.shape c.args.q _ _ c.requires, c.bodies_place.ensures)
 
 pub entry_place-requires : goal.entry_place-requires
-entry_place-requires c = omega (arith, room-context c.args.shape c.args.q c.args.k _ c.requires c.if-q-per-eq0.true)
+entry_place-requires c = omega (arith, room-context c.args.shape c.args.q _ _ c.requires c.if-q-per-eq0.true)
 
 pub overflow_add-entry_place : goal.overflow_add-entry_place
 overflow_add-entry_place c =
-    omega (arith, room-context c.args.shape c.args.q c.args.k _ c.requires c.if-q-per-eq0.true, c.entry_place.ensures)
+    omega (arith, room-context c.args.shape c.args.q _ _ c.requires c.if-q-per-eq0.true, c.entry_place.ensures)
 
 pub put_context-requires : goal.put_context-requires
 put_context-requires c =
-    omega (arith, room-context c.args.shape c.args.q c.args.k _ c.requires c.if-q-per-eq0.true, c.entry_place.ensures, c.put_part.auto.buf)
+    let a = c.args in
+    let p = part-at a.shape a.q a.bytes.now a.image.now _ _ c.bodies_place.ensures c.requires c.copy_from_slice.ensures.after in
+    omega (arith, room-context a.shape a.q _ _ c.requires c.if-q-per-eq0.true, c.entry_place.ensures, ap length p, length-sets a.image.now (frame_place a.shape a.q) a.bytes.now)
 
 pub returns-then-q-per-eq0 : goal.returns-then-q-per-eq0
 returns-then-q-per-eq0 c =
     let a = c.args in
-    with-context a.shape a.q a.k a.bytes a.image.now c.put_part.new.buf a.history
-    (c.put_part.ensures ∙ ap (λ (b : ℕ). sets a.image.now (b + 8 * a.q) (take a.k a.bytes)) c.bodies_place.ensures)
-    c.put_context.new.image c.requires.one c.if-q-per-eq0.true (c.put_context.ensures ∙ rw (c.entry_place.ensures, c.from.ensures))
+    let p = part-at a.shape a.q a.bytes.now a.image.now _ _ c.bodies_place.ensures c.requires c.copy_from_slice.ensures.after in
+    with-context a.shape a.q a.bytes.now a.image.now _ a.history p
+    c.put_context.new.image c.if-q-per-eq0.true (c.put_context.ensures ∙ rw (c.entry_place.ensures, c.from.ensures))
 
 pub returns-else-q-per-eq0 : goal.returns-else-q-per-eq0
 returns-else-q-per-eq0 c =
     let a = c.args in
-    without-context a.shape a.q a.k a.bytes a.image.now c.put_part.new.buf a.history
-    (c.put_part.ensures ∙ ap (λ (b : ℕ). sets a.image.now (b + 8 * a.q) (take a.k a.bytes)) c.bodies_place.ensures) c.if-q-per-eq0.false
+    let p = part-at a.shape a.q a.bytes.now a.image.now _ _ c.bodies_place.ensures c.requires c.copy_from_slice.ensures.after in
+    without-context a.shape a.q a.bytes.now a.image.now _ a.history p c.if-q-per-eq0.false

@@ -6,15 +6,15 @@ use Rattle.coefficients.specs.Measure.{outcome, process}
 use Rattle.coefficients.proofs.AcceptedCalls.{process-measurable}
 use Rattle.coefficients.proofs.CoefficientCalculator.process.Goals as goal
 
-pub returns-in_err-process_answer : goal.returns-in_err-process_answer
+pub returns-in_err-tested : goal.returns-in_err-tested
 unfolding process
-returns-in_err-process_answer c =
+returns-in_err-tested c =
     let p = err_from_is_err_and c.from_residual.result c.from_residual.ensures.1 in
-    rw (p.1, p.2, ← c.process_answer.ensures, c.in_err-process_answer.was)
+    rw (p.1, p.2, ← c.tested.ensures, c.in_err-tested.was)
 
 pub push_all-requires : goal.push_all-requires
-push_all-requires c = process-measurable _ _ _ _ (sym c.process_answer.ensures ∙ ap outcome c.in_ok-process_answer.was)
+push_all-requires c = process-measurable _ _ _ _ (sym c.tested.ensures ∙ ap outcome c.in_ok-tested.was)
 
 pub returns : goal.returns
 unfolding process
-returns c = rw (← c.process_answer.ensures, c.in_ok-process_answer.was) (ap (effect (accepted tt)) c.push_all.ensures)
+returns c = rw (← c.tested.ensures, c.in_ok-tested.was) (ap (effect (accepted tt)) c.push_all.ensures)

@@ -17,9 +17,9 @@ overflow_add-passes c =
     omega (
       arith,
       ap (λ (b : Held). b.passes) c.requires.held_value,
-      passes-le h xs a.coefficients a.k,
+      passes-le h xs a.bank.now.coefficients a.k,
       ap (λ (t : Coded). t.passes) c.candidate_at-tried.ensures,
-      (candidate-shape h xs a.coefficients a.k).passes-le,
+      (candidate-shape h xs a.bank.now.coefficients a.k).passes-le,
       c.requires.le_k.1,
     )
 
@@ -27,12 +27,12 @@ pub returns-then-tried-held : goal.returns-then-tried-held
 returns-then-tried-held c =
     let a = c.args in
     let fs = a.frame.now.samples in
-    held-taken (history_of fs) (samples_of fs) a.coefficients a.k a.held.candidate c.candidate_at-tried.result a.held.index a.held.passes
+    held-taken (history_of fs) (samples_of fs) a.bank.now.coefficients a.k a.held.candidate c.candidate_at-tried.result a.held.index a.held.passes
     c.requires.le_k.0 c.requires.held_value c.candidate_at-tried.ensures c.if-tried-held.true
 
 pub returns : goal.returns
 returns c =
     let a = c.args in
     let fs = a.frame.now.samples in
-    held-left (history_of fs) (samples_of fs) a.coefficients a.k a.held.candidate c.candidate_at-tried.result a.held.index a.held.passes
+    held-left (history_of fs) (samples_of fs) a.bank.now.coefficients a.k a.held.candidate c.candidate_at-tried.result a.held.index a.held.passes
     c.requires.le_k.0 c.requires.held_value c.candidate_at-tried.ensures c.if-tried-held.false

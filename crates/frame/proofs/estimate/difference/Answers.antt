@@ -5,7 +5,7 @@ use lib.IntN.{ℤ, pos, ◌-ℤ◌}
 use native.Mathlib.Nat.{le_trans}
 use Rattle.whole.specs.Whole.{towards_zero}
 use Rattle.whole.proofs.Clamping.{clamp-fits, clamp-library}
-use Rattle.whole.proofs.SignedLocals.{Is, is_call, is-sub, abs-quot, abs-sfits}
+use Rattle.whole.proofs.SignedLocals.{is_call, is-sub, abs-quot, abs-sfits}
 use Rattle.frame.specs.Estimate.{weigh, difference}
 use Rattle.frame.proofs.LawsEstimate.{weigh-size}
 use Rattle.frame.proofs.estimate.difference.Goals as goal

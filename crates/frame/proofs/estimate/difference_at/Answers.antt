@@ -1,5 +1,5 @@
 -- `difference_at` meets its contract: three samples in a row.
-use Rattle.std.proofs.Common.{◌≡◌, ◌+◌, rules, ◌∙◌, arith, w16}
+use Rattle.std.proofs.Common.{◌+◌, ◌∙◌, arith, w16}
 use Rattle.std.proofs.Math.Facts.{to_z-of_z}
 use Rattle.frame.specs.inner.Ends.{difference_at}
 use Rattle.frame.proofs.estimate.difference_at.Goals as goal

@@ -1,16 +1,15 @@
 -- `first_exponent` meets its contract: the two ends, and where their magnitudes are the same the first of the two, have the largest difference.
-use Rattle.std.proofs.Common.{◌≡◌, ℕ, ◌*◌, ◌/◌, ◌≤◌, refl, sym, ap, ◌∙◌, rules, arith, w16}
+use Rattle.std.proofs.Common.{◌≡◌, ℕ, refl, sym, ap, ◌∙◌, rules, w16}
 use Rattle.std.proofs.Math.Facts.{to_z-of_z}
-use lib.IntN.{ℤ, pos, neg_ℤ, nat_abs}
+use lib.IntN.{ℤ, pos, nat_abs}
 use mathlib.Core.List.{List}
 use Rattle.std.specs.Cmp.{ranked}
 use Rattle.std.specs.declared.cmp.Ordering.TheVariants.{Less, Equal, Greater}
 use mir.Val.{SFits, to_z, of_z}
 use Rattle.whole.proofs.SignedLocals.{abs_neg}
 use Rattle.frame.specs.declared.estimate.Ends.{Ends}
-use Rattle.frame.specs.Estimate.{halvings, exponent_of}
-use Rattle.frame.specs.inner.Ends.{ends_of, up_first}
-use Rattle.frame.proofs.LawsEnds.{high_of, low_of, highest-is, lowest-is, high_le, low-le, first-same, first-higher, first-lower, first-up, first-down}
+use Rattle.frame.specs.inner.Ends.{ends_of}
+use Rattle.frame.proofs.LawsEnds.{high_of, low_of, highest-is, lowest-is, first-same, first-higher, first-lower, first-up, first-down}
 use Rattle.frame.proofs.estimate.first_exponent.Goals as goal
 
 -- the magnitudes of the two ends

@@ -1,6 +1,6 @@
 -- `low_four` meets its contract: of the bits of a nibble the lowest four.
-use Rattle.std.proofs.Common.{◌≡◌, ◌%◌, rules, ap, ◌∙◌, w8}
-use lib.IntN.{ℤ, pos, negsuc}
+use Rattle.std.proofs.Common.{◌≡◌, ◌%◌, ap, ◌∙◌, w8}
+use lib.IntN.{ℤ}
 use Rattle.std.proofs.Math.Facts.{to_z-of_z}
 use mir.Val.{of_z}
 use Rattle.std.proofs.Common.{arith}

@@ -1,6 +1,6 @@
 -- `code_sample` meets its contract: each value of the code with its number and its size.
-use Rattle.std.proofs.Common.{◌≡◌, ℕ, ◌+◌, ◌*◌, ◌^◌, ◌%◌, ◌≤◌, rules, sym, ap, ◌∙◌, ap₂, arith, w8, w16, w32, w64}
-use Rattle.std.proofs.Math.Facts.{to_z-of_z, sfits_widen}
+use Rattle.std.proofs.Common.{◌≡◌, ℕ, ◌*◌, ◌^◌, ◌%◌, ◌≤◌, sym, ap, ◌∙◌, ap₂, arith, w8, w16, w32, w64}
+use Rattle.std.proofs.Math.Facts.{to_z-of_z}
 use lib.IntN.{ℤ, pos, nat_abs, ◌+ℤ◌, ◌-ℤ◌, ◌*ℤ◌}
 use lib.Signed.{shr_z}
 use mir.Val.{SFits, to_z, of_z}
@@ -49,31 +49,31 @@ summed : (c0 c1 s0 s1 w q : ℤ) → Bounded c0 c1 → SFits w16 s0 → SFits w1
     → q ≡ weigh c0 c1 s0 s1
 summed c0 c1 s0 s1 w q b f0 f1 e k = let v = rw (to_z-of_z f0, to_z-of_z f1) at e in k ∙ (is_call {w = w32} v (weigh-size c0 c1 s0 s1 b f0 f1) tt).is
 
-pub quantise-u-requires-clause-d_bound : goal.quantise-u-requires-clause-d_bound
-quantise-u-requires-clause-d_bound c =
+pub quantise-u-requires : goal.quantise-u-requires
+quantise-u-requires c =
     let a = c.args in
     let f = c.ranges in
     let q = summed a.pair.c0 a.pair.c1 a.s0 a.s1 _ _ a.pair.bounded f.s0 f.s1 c.weigh.ensures c.from-q.ensures in
-    omega (arith, is-size (d-is a.pair.c0 a.pair.c1 a.s0 a.s1 a.x a.p a.pair.bounded f.s0 f.s1 f.x c.requires _ _ q (c.from.ensures ∙ to_z-of_z f.x)))
+    omega (arith, is-size (d-is a.pair.c0 a.pair.c1 a.s0 a.s1 a.x a.p.value a.pair.bounded f.s0 f.s1 f.x a.p.most _ _ q (c.from.ensures ∙ to_z-of_z f.x)))
 
 pub overflow_mul-n : goal.overflow_mul-n
 overflow_mul-n c =
     let a = c.args in
     let f = c.ranges in
     let q = summed a.pair.c0 a.pair.c1 a.s0 a.s1 _ _ a.pair.bounded f.s0 f.s1 c.weigh.ensures c.from-q.ensures in
-    let u = u-is a.pair.c0 a.pair.c1 a.s0 a.s1 a.x a.p a.pair.bounded f.s0 f.s1 f.x c.requires _ _ _ q (c.from.ensures ∙ to_z-of_z f.x) c.quantise-u.ensures in
-    let n = n-is a.pair.c0 a.pair.c1 a.s0 a.s1 a.x a.p a.pair.bounded f.s0 f.s1 f.x c.requires _ ((rw u.is at c.clamp-n.ensures.value) ∙ clamp-library 7 _) in
-    chk-mul n (w-is a.pair.c0 a.pair.c1 a.s0 a.s1 a.x a.p a.pair.bounded f.s0 f.s1 f.x c.requires) tt
+    let u = u-is a.pair.c0 a.pair.c1 a.s0 a.s1 a.x a.p.value a.pair.bounded f.s0 f.s1 f.x a.p.most _ _ _ q (c.from.ensures ∙ to_z-of_z f.x) c.quantise-u.ensures in
+    let n = n-is a.pair.c0 a.pair.c1 a.s0 a.s1 a.x a.p.value a.pair.bounded f.s0 f.s1 f.x a.p.most _ ((rw u.is at c.clamp-n.ensures.value) ∙ clamp-library 7 _) in
+    chk-mul n (w-is a.pair.c0 a.pair.c1 a.s0 a.s1 a.x a.p.value a.pair.bounded f.s0 f.s1 f.x a.p.most) tt
 
 pub overflow_add-q-2 : goal.overflow_add-q-2
 overflow_add-q-2 c =
     let a = c.args in
     let f = c.ranges in
     let q = summed a.pair.c0 a.pair.c1 a.s0 a.s1 _ _ a.pair.bounded f.s0 f.s1 c.weigh.ensures c.from-q.ensures in
-    let u = u-is a.pair.c0 a.pair.c1 a.s0 a.s1 a.x a.p a.pair.bounded f.s0 f.s1 f.x c.requires _ _ _ q (c.from.ensures ∙ to_z-of_z f.x) c.quantise-u.ensures in
-    let n = n-is a.pair.c0 a.pair.c1 a.s0 a.s1 a.x a.p a.pair.bounded f.s0 f.s1 f.x c.requires _ ((rw u.is at c.clamp-n.ensures.value) ∙ clamp-library 7 _) in
-    let w = w-is a.pair.c0 a.pair.c1 a.s0 a.s1 a.x a.p a.pair.bounded f.s0 f.s1 f.x c.requires in
-    chk-add (p-is a.pair.c0 a.pair.c1 a.s0 a.s1 a.x a.p a.pair.bounded f.s0 f.s1 f.x c.requires _ q) (is_mul n w tt) tt
+    let u = u-is a.pair.c0 a.pair.c1 a.s0 a.s1 a.x a.p.value a.pair.bounded f.s0 f.s1 f.x a.p.most _ _ _ q (c.from.ensures ∙ to_z-of_z f.x) c.quantise-u.ensures in
+    let n = n-is a.pair.c0 a.pair.c1 a.s0 a.s1 a.x a.p.value a.pair.bounded f.s0 f.s1 f.x a.p.most _ ((rw u.is at c.clamp-n.ensures.value) ∙ clamp-library 7 _) in
+    let w = w-is a.pair.c0 a.pair.c1 a.s0 a.s1 a.x a.p.value a.pair.bounded f.s0 f.s1 f.x a.p.most in
+    chk-add (p-is a.pair.c0 a.pair.c1 a.s0 a.s1 a.x a.p.value a.pair.bounded f.s0 f.s1 f.x a.p.most _ q) (is_mul n w tt) tt
 
 pub returns : goal.returns
 unfolding code_sample
@@ -81,11 +81,11 @@ returns c =
     let a = c.args in
     let f = c.ranges in
     let q = summed a.pair.c0 a.pair.c1 a.s0 a.s1 _ _ a.pair.bounded f.s0 f.s1 c.weigh.ensures c.from-q.ensures in
-    let u = u-is a.pair.c0 a.pair.c1 a.s0 a.s1 a.x a.p a.pair.bounded f.s0 f.s1 f.x c.requires _ _ _ q (c.from.ensures ∙ to_z-of_z f.x) c.quantise-u.ensures in
-    let n = n-is a.pair.c0 a.pair.c1 a.s0 a.s1 a.x a.p a.pair.bounded f.s0 f.s1 f.x c.requires _ ((rw u.is at c.clamp-n.ensures.value) ∙ clamp-library 7 _) in
-    let w = w-is a.pair.c0 a.pair.c1 a.s0 a.s1 a.x a.p a.pair.bounded f.s0 f.s1 f.x c.requires in
-    let t = is-add (p-is a.pair.c0 a.pair.c1 a.s0 a.s1 a.x a.p a.pair.bounded f.s0 f.s1 f.x c.requires _ q) (is_mul n w tt) tt in
-    let r = c.clamp_i16.ensures ∙ ap clamp16 t.is ∙ sym (reconstruct-played a.pair.c0 a.pair.c1 a.s0 a.s1 _ a.p) in
+    let u = u-is a.pair.c0 a.pair.c1 a.s0 a.s1 a.x a.p.value a.pair.bounded f.s0 f.s1 f.x a.p.most _ _ _ q (c.from.ensures ∙ to_z-of_z f.x) c.quantise-u.ensures in
+    let n = n-is a.pair.c0 a.pair.c1 a.s0 a.s1 a.x a.p.value a.pair.bounded f.s0 f.s1 f.x a.p.most _ ((rw u.is at c.clamp-n.ensures.value) ∙ clamp-library 7 _) in
+    let w = w-is a.pair.c0 a.pair.c1 a.s0 a.s1 a.x a.p.value a.pair.bounded f.s0 f.s1 f.x a.p.most in
+    let t = is-add (p-is a.pair.c0 a.pair.c1 a.s0 a.s1 a.x a.p.value a.pair.bounded f.s0 f.s1 f.x a.p.most _ q) (is_mul n w tt) tt in
+    let r = c.clamp_i16.ensures ∙ ap clamp16 t.is ∙ sym (reconstruct-played a.pair.c0 a.pair.c1 a.s0 a.s1 _ a.p.value) in
     rw (
       (is-cast {w' = w8} n tt).is,
       to_z-of_z {w = w16} {z = c.clamp_i16.result} (record { sfits = c.clamp_i16.type_inv }),

@@ -1,5 +1,5 @@
 -- `run_pass` meets its contract.
-use Rattle.std.proofs.Common.{◌≡◌, ◌+◌, refl, sym, ap, ◌∙◌, length-set, rules, arith, w8, w16}
+use Rattle.std.proofs.Common.{◌+◌, refl, ◌∙◌, length-set, rules, arith, w8, w16}
 use Rattle.std.proofs.Math.Facts.{to_z-of_z}
 use mir.Val.{SFits}
 use Rattle.frame.specs.Pass.{upto}
@@ -27,7 +27,7 @@ loop-i-preserved c =
       simp length-set inv.1,
       omega arith,
       rw (to_z-of_z sf, to_z-of_z nf, c.max-overflow.ensures, e, ← sample-at fs i (omega arith))
-          (carried-more c.args.pair.c0 c.args.pair.c1 _ _ c.args.p i _ _ _ _ _ _ c.code_sample-step.result (omega arith) (omega arith) inv.3 t),
+          (carried-more c.args.pair.c0 c.args.pair.c1 _ _ c.args.p.value i _ _ _ _ _ _ c.code_sample-step.result (omega arith) (omega arith) inv.3 t),
     )
 
 pub returns : goal.returns

@@ -10,4 +10,4 @@ invariant-loop-i l =
     (length l.nibbles ≡ 14)
     × (length l.samples ≡ 14)
     × (l.distance ≤ l.i * 4294967296)
-    × (upto l.pair.c0 l.pair.c1 (history_of l.frame.samples) (samples_of l.frame.samples) l.p l.i ≡ carried l.s0 l.s1 (take l.i l.nibbles) (take l.i l.samples) l.overflow l.distance)
+    × (upto l.pair.c0 l.pair.c1 (history_of l.frame.samples) (samples_of l.frame.samples) l.p.value l.i ≡ carried l.s0 l.s1 (take l.i l.nibbles) (take l.i l.samples) l.overflow l.distance)

@@ -2,8 +2,8 @@
 use Rattle.std.proofs.Common.{◌≡◌, ℕ, ◌+◌, refl, get_or, length-set, rules, arith, w16, w64}
 use mathlib.Core.List.{List}
 use lib.IntN.{ℤ, pos, ◌*ℤ◌}
-use mir.Val.{SFits, to_z, of_z}
-use Rattle.whole.proofs.SignedLocals.{Is, is_call, is-lit, is_mul, abs-sfits}
+use mir.Val.{SFits}
+use Rattle.whole.proofs.SignedLocals.{is_call, is-lit, is_mul, abs-sfits}
 use Rattle.frame.proofs.LawsArrays.{stored_more}
 use Rattle.frame.proofs.places.fine_of.Goals as goal
 

@@ -21,10 +21,7 @@ value c = to_z-of_z {w = w64} (record { sfits = c.rounded.type_inv }) ∙ rw (to
 
 nearest-requires : tie.Need-nearest-requires
 nearest-requires c κs =
-    let d = c.before.args.d in (
-      omega (arith, ap nat_abs (value c), sign-size d (round24 (nat_abs d)), round24-le (nat_abs d) c.before.requires.0),
-      c.before.requires.1,
-    )
+    let d = c.before.args.d in omega (arith, ap nat_abs (value c), sign-size d (round24 (nat_abs d)), round24-le (nat_abs d) c.before.requires)
 
 returns : tie.Need-returns
 unfolding quantise
@@ -34,7 +31,7 @@ returns c =
     let m = round24 (nat_abs d) in
     let e = rw (value c.before) at c.nearest.ensures in
     rw (to_z-of_z (record { sfits = c.nearest.type_inv }))
-    (e ∙ ap (λ (n : ℕ). with_sign (with_sign d m) (nearest_down n (scale s.args.p))) (sign-size d m) ∙ sign-twice d m (scale s.args.p) (scale-pos s.args.p))
+    (e ∙ ap (λ (n : ℕ). with_sign (with_sign d m) (nearest_down n (scale s.args.p.value))) (sign-size d m) ∙ sign-twice d m (scale s.args.p.value) (scale-pos s.args.p.value))
 
 pub quantise_spec : {M : Type 1} → statement M
 quantise_spec = tie.close (tie.spec rounded-requires nearest-requires returns)

@@ -1,8 +1,8 @@
 -- `rounded` meets its contract: a number of at most 24 bits stays, the magnitude of any other is rounded.
-use Rattle.std.proofs.Common.{◌≡◌, sym, ap, ◌∙◌, arith}
+use Rattle.std.proofs.Common.{sym, ap, ◌∙◌, arith}
 use Rattle.std.proofs.Math.Facts.{to_z-of_z}
 use lib.IntN.{nat_abs}
-use Rattle.frame.specs.Quantise.{round24, with_sign}
+use Rattle.frame.specs.Quantise.{with_sign}
 use Rattle.frame.proofs.LawsQuantise.{round_same, round24-le, sign-abs}
 use Rattle.frame.proofs.quantise.rounded.Goals as goal
 

@@ -1,10 +1,10 @@
 -- `run_quick` meets its contract.
-use Rattle.std.proofs.Common.{◌≡◌, ℕ, ◌+◌, ◌-◌, ◌*◌, ◌^◌, ◌≤◌, ◌<◌, rules, sym, ap, ap₂, ◌∙◌, subst, arith, w16, w32, w64}
+use Rattle.std.proofs.Common.{◌≡◌, ℕ, ◌+◌, ◌*◌, ◌^◌, ◌≤◌, ◌<◌, rules, sym, ap, ap₂, ◌∙◌, subst, arith, w16, w32, w64}
 use Rattle.std.proofs.Math.Facts.{to_z-of_z}
 use mathlib.Core.List.{List}
 use native.Mathlib.Nat.{mul-le-mul, le_refl}
 use lib.IntN.{ℤ, pos, nat_abs, ◌+ℤ◌, ◌-ℤ◌, ◌*ℤ◌}
-use lib.ListN.{get_or, set}
+use lib.ListN.{get_or}
 use mir.Val.{SFits, to_z, of_z}
 use Rattle.whole.proofs.SignedLocals.{Is, is-lit, is_mul, is-add, chk-add, is_call, is-size, abs-sfits, abs-sub, abs-mul}
 use Rattle.frame.specs.declared.quick.Traced.{Traced}
@@ -94,10 +94,10 @@ pub begun-g-requires-clause-y_bound : goal.begun-g-requires-clause-y_bound
 begun-g-requires-clause-y_bound c =
     let a = c.args in
     let d = a.frame.now in
-    omega (arith, is-size (y-call a.pair.c0 a.pair.c1 d.samples d.fine a.p _ d.fine_is c.requires.p_bound c.scales_at-k.ensures 0 (omega arith) (d.padded.fit.at 2 (omega arith))))
+    omega (arith, is-size (y-call a.pair.c0 a.pair.c1 d.samples d.fine a.p.value _ d.fine_is c.args.p.most c.scales_at-k.ensures 0 (omega arith) (d.padded.fit.at 2 (omega arith))))
 
 pub begun-g-requires-clause-e_bound : goal.begun-g-requires-clause-e_bound
-begun-g-requires-clause-e_bound c = omega (arith, is-size (eight-call c.args.p _ c.requires.p_bound c.scales_at-k.ensures))
+begun-g-requires-clause-e_bound c = omega (arith, is-size (eight-call c.args.p.value _ c.args.p.most c.scales_at-k.ensures))
 
 pub begun-g-requires-clause-older_bound : goal.begun-g-requires-clause-older_bound
 begun-g-requires-clause-older_bound c =
@@ -120,12 +120,12 @@ loop-i-init c =
     let b = scaled c.from-b.result (search rules) f1 in
     let n : c.from-newest.result ≡ get_or d.samples 1 (pos 0) = search rules in
     let o : c.from.result ≡ get_or d.samples 0 (pos 0) = search rules in
-    let y = (y-call a.pair.c0 a.pair.c1 d.samples d.fine a.p _ d.fine_is c.requires.p_bound c.scales_at-k.ensures 0 (omega arith) (d.padded.fit.at 2 (omega arith))).is in (
-      ran-start a.pair.c0 a.pair.c1 d.samples a.p a.room.now.w a.room.now.s a.room.now.spare fn fo,
+    let y = (y-call a.pair.c0 a.pair.c1 d.samples d.fine a.p.value _ d.fine_is c.args.p.most c.scales_at-k.ensures 0 (omega arith) (d.padded.fit.at 2 (omega arith))).is in (
+      ran-start a.pair.c0 a.pair.c1 d.samples a.p.value a.room.now.w a.room.now.s a.room.now.spare fn fo,
       (is_call {w = w64} n (abs-sfits fn) tt).is,
       y,
       to_z-of_z {w = w64} (record { sfits = c.begun-g.type_inv }) ∙ c.begun-g.ensures
-          ∙ ap₂ ◌+ℤ◌ y (ap₂ ◌-ℤ◌ (eight-call a.p _ c.requires.p_bound c.scales_at-k.ensures).is (ap₂ ◌*ℤ◌ b (is_call {w = w64} o (abs-sfits fo) tt).is)),
+          ∙ ap₂ ◌+ℤ◌ y (ap₂ ◌-ℤ◌ (eight-call a.p.value _ c.args.p.most c.scales_at-k.ensures).is (ap₂ ◌*ℤ◌ b (is_call {w = w64} o (abs-sfits fo) tt).is)),
     )
 
 -- ---- a turn
@@ -146,8 +146,8 @@ trace-t-requires-clause-newest_bound_2 c =
     let f0 : SFits w16 a.pair.c0 = search rules in
     let sa = scaled c.from-a.result (search rules) f0 in
     let fx = d.padded.fit.at (i + 2) (omega arith) in
-    let me = one-step a.p _ c.scales_at-k.ensures in
-    w-bound a.pair.c0 a.pair.c1 d.samples a.p i c.requires.roomy c.requires.p_bound fx _ _ inv.0 _ _ _ _ _ inv.2 inv.3 sa inv.1 me
+    let me = one-step a.p.value _ c.scales_at-k.ensures in
+    w-bound a.pair.c0 a.pair.c1 d.samples a.p.value i c.requires c.args.p.most fx _ _ inv.0 _ _ _ _ _ inv.2 inv.3 sa inv.1 me
 
 pub trace-t-requires-clause-mask_bound : goal.trace-t-requires-clause-mask_bound
 trace-t-requires-clause-mask_bound c =
@@ -158,8 +158,8 @@ trace-t-requires-clause-mask_bound c =
     let f0 : SFits w16 a.pair.c0 = search rules in
     let sa = scaled c.from-a.result (search rules) f0 in
     let fx = d.padded.fit.at (i + 2) (omega arith) in
-    let me = one-step a.p _ c.scales_at-k.ensures in
-    mask-bound a.pair.c0 a.pair.c1 d.samples a.p i c.requires.roomy c.requires.p_bound fx _ _ inv.0 _ _ _ _ _ inv.2 inv.3 sa inv.1 me
+    let me = one-step a.p.value _ c.scales_at-k.ensures in
+    mask-bound a.pair.c0 a.pair.c1 d.samples a.p.value i c.requires c.args.p.most fx _ _ inv.0 _ _ _ _ _ inv.2 inv.3 sa inv.1 me
 
 pub overflow_cast-room : goal.overflow_cast-room
 overflow_cast-room c =
@@ -175,13 +175,13 @@ invariant_of-room c =
     let f0 : SFits w16 a.pair.c0 = search rules in
     let sa = scaled c.from-a.result (search rules) f0 in
     let fx = d.padded.fit.at (i + 2) (omega arith) in
-    let me = one-step a.p _ c.scales_at-k.ensures in
-    let made = made-is a.pair.c0 a.pair.c1 d.samples a.p i c.requires.roomy c.requires.p_bound fx _ _ inv.0 _ _ _ _ _ inv.2 inv.3 sa inv.1 me c.trace-t.result (omega arith) c.trace-t.ensures in
+    let me = one-step a.p.value _ c.scales_at-k.ensures in
+    let made = made-is a.pair.c0 a.pair.c1 d.samples a.p.value i c.requires c.args.p.most fx _ _ inv.0 _ _ _ _ _ inv.2 inv.3 sa inv.1 me c.trace-t.result (omega arith) c.trace-t.ensures in
     let fs : SFits w64 c.trace-t.result.s = search rules in
     let fw : SFits w32 c.trace-t.result.w = search rules in
     let within = within-16 c.trace-t.result.s (rw (to_z-of_z fs) at (sym c.is_beyond.ensures ∙ c.if-is_beyond.false)) in
     let sf = subst (λ (v : Traced). SFits w16 v.s) made within in
-    let ran = ran-more a.pair.c0 a.pair.c1 d.samples a.p i c.loop-i.room.w c.loop-i.room.s (omega arith) inv.0 sf (here-size a.pair.c0 a.pair.c1 d.samples a.p i c.requires.roomy c.requires.p_bound fx _ _ inv.0 (omega arith)) in
+    let ran = ran-more a.pair.c0 a.pair.c1 d.samples a.p.value i c.loop-i.room.w c.loop-i.room.s (omega arith) inv.0 sf (here-size a.pair.c0 a.pair.c1 d.samples a.p.value i c.requires c.args.p.most fx _ _ inv.0 (omega arith)) in
     let ws = to_z-of_z fw ∙ ap (λ (t : Traced). t.w) made in
     let ss = to_z-of_z fs ∙ ap (λ (t : Traced). t.s) made in
     record { spare = rw (ws, ss, to_z-of_z sf) ran.spare }
@@ -193,17 +193,17 @@ overflow_add-y-in-loop-i-2 c =
     let a = c.args in
     let d = a.frame.now in
     let i = c.loop-i.i in
-    chk-add (fine-call d.samples d.fine d.fine_is (i + 1) (omega arith) (d.padded.fit.at (i + 1 + 2) (omega arith))) (half-call a.p _ c.requires.p_bound c.scales_at-k.ensures) tt
+    chk-add (fine-call d.samples d.fine d.fine_is (i + 1) (omega arith) (d.padded.fit.at (i + 1 + 2) (omega arith))) (half-call a.p.value _ c.args.p.most c.scales_at-k.ensures) tt
 
 pub begun-g-requires-in-loop-i-clause-y_bound : goal.begun-g-requires-in-loop-i-clause-y_bound
 begun-g-requires-in-loop-i-clause-y_bound c =
     let a = c.args in
     let d = a.frame.now in
     let i = c.loop-i.i in
-    omega (arith, is-size (y-call a.pair.c0 a.pair.c1 d.samples d.fine a.p _ d.fine_is c.requires.p_bound c.scales_at-k.ensures (i + 1) (omega arith) (d.padded.fit.at (i + 1 + 2) (omega arith))))
+    omega (arith, is-size (y-call a.pair.c0 a.pair.c1 d.samples d.fine a.p.value _ d.fine_is c.args.p.most c.scales_at-k.ensures (i + 1) (omega arith) (d.padded.fit.at (i + 1 + 2) (omega arith))))
 
 pub begun-g-requires-in-loop-i-clause-e_bound : goal.begun-g-requires-in-loop-i-clause-e_bound
-begun-g-requires-in-loop-i-clause-e_bound c = omega (arith, is-size (eight-call c.args.p _ c.requires.p_bound c.scales_at-k.ensures))
+begun-g-requires-in-loop-i-clause-e_bound c = omega (arith, is-size (eight-call c.args.p.value _ c.args.p.most c.scales_at-k.ensures))
 
 pub begun-g-requires-in-loop-i-clause-older_bound : goal.begun-g-requires-in-loop-i-clause-older_bound
 begun-g-requires-in-loop-i-clause-older_bound c =
@@ -221,23 +221,23 @@ loop-i-preserved c =
     let f0 : SFits w16 a.pair.c0 = search rules in
     let sa = scaled c.from-a.result (search rules) f0 in
     let fx = d.padded.fit.at (i + 2) (omega arith) in
-    let me = one-step a.p _ c.scales_at-k.ensures in
-    let made = made-is a.pair.c0 a.pair.c1 d.samples a.p i c.requires.roomy c.requires.p_bound fx _ _ inv.0 _ _ _ _ _ inv.2 inv.3 sa inv.1 me c.trace-t.result (omega arith) c.trace-t.ensures in
+    let me = one-step a.p.value _ c.scales_at-k.ensures in
+    let made = made-is a.pair.c0 a.pair.c1 d.samples a.p.value i c.requires c.args.p.most fx _ _ inv.0 _ _ _ _ _ inv.2 inv.3 sa inv.1 me c.trace-t.result (omega arith) c.trace-t.ensures in
     let fs : SFits w64 c.trace-t.result.s = search rules in
     let fw : SFits w32 c.trace-t.result.w = search rules in
     let within = within-16 c.trace-t.result.s (rw (to_z-of_z fs) at (sym c.is_beyond.ensures ∙ c.if-is_beyond.false)) in
     let sf = subst (λ (v : Traced). SFits w16 v.s) made within in
-    let ran = ran-more a.pair.c0 a.pair.c1 d.samples a.p i c.loop-i.room.w c.loop-i.room.s (omega arith) inv.0 sf (here-size a.pair.c0 a.pair.c1 d.samples a.p i c.requires.roomy c.requires.p_bound fx _ _ inv.0 (omega arith)) in
+    let ran = ran-more a.pair.c0 a.pair.c1 d.samples a.p.value i c.loop-i.room.w c.loop-i.room.s (omega arith) inv.0 sf (here-size a.pair.c0 a.pair.c1 d.samples a.p.value i c.requires c.args.p.most fx _ _ inv.0 (omega arith)) in
     let ws = to_z-of_z fw ∙ ap (λ (t : Traced). t.w) made in
     let ss = to_z-of_z fs ∙ ap (λ (t : Traced). t.s) made in
     let f1 : SFits w16 a.pair.c1 = search rules in
     let b = scaled c.from-b.result (search rules) f1 in
-    let y = (y-call a.pair.c0 a.pair.c1 d.samples d.fine a.p _ d.fine_is c.requires.p_bound c.scales_at-k.ensures (i + 1) (omega arith) (d.padded.fit.at (i + 1 + 2) (omega arith))).is in (
+    let y = (y-call a.pair.c0 a.pair.c1 d.samples d.fine a.p.value _ d.fine_is c.args.p.most c.scales_at-k.ensures (i + 1) (omega arith) (d.padded.fit.at (i + 1 + 2) (omega arith))).is in (
       rw (ws, ss, to_z-of_z sf) ran,
-      ss ∙ sym (newest-more a.pair.c0 a.pair.c1 d.samples a.p i),
+      ss ∙ sym (newest-more a.pair.c0 a.pair.c1 d.samples a.p.value i),
       y,
       to_z-of_z {w = w64} (record { sfits = c.begun-g-in-loop-i.type_inv }) ∙ c.begun-g-in-loop-i.ensures
-          ∙ ap₂ ◌+ℤ◌ y (ap₂ ◌-ℤ◌ (eight-call a.p _ c.requires.p_bound c.scales_at-k.ensures).is (ap₂ ◌*ℤ◌ b (inv.1 ∙ sym (older-more a.pair.c0 a.pair.c1 d.samples a.p i)))),
+          ∙ ap₂ ◌+ℤ◌ y (ap₂ ◌-ℤ◌ (eight-call a.p.value _ c.args.p.most c.scales_at-k.ensures).is (ap₂ ◌*ℤ◌ b (inv.1 ∙ sym (older-more a.pair.c0 a.pair.c1 d.samples a.p.value i)))),
     )
 
 pub returns : goal.returns
@@ -246,4 +246,4 @@ returns c =
     let fs = a.frame.now.samples in
     let l = c.loop-i in
     let e : l.i ≡ 14 = omega arith in
-    ran-done a.pair.c0 a.pair.c1 fs a.p l.room.w l.room.s (subst (λ (n : ℕ). Ran a.pair.c0 a.pair.c1 fs a.p n l.room.w l.room.s) e l.invariant.0)
+    ran-done a.pair.c0 a.pair.c1 fs a.p.value l.room.w l.room.s (subst (λ (n : ℕ). Ran a.pair.c0 a.pair.c1 fs a.p.value n l.room.w l.room.s) e l.invariant.0)

@@ -1,11 +1,11 @@
 -- `trace` meets its contract: each value of the code with its number and its size.
-use Rattle.std.proofs.Common.{◌≡◌, ℕ, ◌+◌, ◌*◌, ◌≤◌, rules, ap, ap₂, ◌∙◌, arith, w32, w64}
+use Rattle.std.proofs.Common.{◌≡◌, ◌*◌, ◌≤◌, ap, ap₂, ◌∙◌, arith, w32, w64}
 use Rattle.std.proofs.Math.Facts.{to_z-of_z}
 use lib.IntN.{ℤ, nat_abs, ◌-ℤ◌, ◌*ℤ◌}
 use lib.Signed.{shr_z}
 use mir.Val.{SFits, to_z, of_z}
 use Rattle.whole.proofs.SignedLocals.{is_call, is-shr, sfits-abs}
-use Rattle.frame.specs.inner.Quick.{rest_of, traced_by}
+use Rattle.frame.specs.inner.Quick.{traced_by}
 use Rattle.frame.proofs.LawsFloor.{fits-call}
 use Rattle.frame.proofs.LawsQuick.{shr_le}
 use Rattle.frame.proofs.quick.trace.Goals as goal

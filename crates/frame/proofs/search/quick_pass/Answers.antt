@@ -24,12 +24,12 @@ told c0 c1 fs ws ss p (Some r) h ro d e k u = (
 roomy : (c0 c1 : ℤ) → is_roomy c0 c1 ≡ true → Roomy c0 c1
 roomy c0 c1 e = roomy-is c0 c1 e
 
-pub run_quick-requires-clause-roomy : goal.run_quick-requires-clause-roomy
-run_quick-requires-clause-roomy c = roomy _ _ (search rules)
+pub run_quick-requires : goal.run_quick-requires
+run_quick-requires c = roomy _ _ (search rules)
 
 pub returns : goal.returns
 returns c =
     let a = c.args in
     let d = a.frame.now in
     let r = c.run_quick.new.room in
-    told a.pair.c0 a.pair.c1 d.samples r.w r.s a.p c.show.result c.requires (roomy _ _ (search rules)) d.padded r.spare c.in_ok-run_quick.ensures c.show.ensures
+    told a.pair.c0 a.pair.c1 d.samples r.w r.s a.p.value c.show.result a.p.most (roomy _ _ (search rules)) d.padded r.spare c.in_ok-run_quick.ensures c.show.ensures

@@ -7,9 +7,8 @@ use Rattle.frame.proofs.search.try_coefficients.Given as goal
 abbrev pub invariant-loop-seen : goal.invariant-loop-seen
 invariant-loop-seen l =
     let fs = l.frame.samples in
-    (l.p ≤ 12)
-    × (l.passes ≤ l.p)
-    × (search_within (13 - l.passes) l.pair.c0 l.pair.c1 (history_of fs) (samples_of fs) l.p l.passes ≡ try_coefficients l.pair.c0 l.pair.c1 (history_of fs) (samples_of fs))
+    (l.passes ≤ l.p.value)
+    × (search_within (13 - l.passes) l.pair.c0 l.pair.c1 (history_of fs) (samples_of fs) l.p.value l.passes ≡ try_coefficients l.pair.c0 l.pair.c1 (history_of fs) (samples_of fs))
 
 abbrev pub decreases-loop-seen : goal.decreases-loop-seen
-decreases-loop-seen l = 12 - l.p
+decreases-loop-seen l = 12 - l.p.value

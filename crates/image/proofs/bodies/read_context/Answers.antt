@@ -1,12 +1,12 @@
-use Rattle.std.proofs.Common.{◌∙◌}
-use Rattle.image.specs.Reading.{header_in, newest_in, older_in}
-use Rattle.image.proofs.LawsBody.{context-made}
+use Rattle.std.proofs.Common.{◌≡◌, ◌+◌, arith}
+use Rattle.layout.specs.Sizes.{entry_place}
+use Rattle.image.specs.Reading.{header_in, newest_in, older_in, context_in}
 use Rattle.image.proofs.bodies.read_context.Goals as goal
 
 pub returns : goal.returns
-unfolding header_in newest_in older_in
+unfolding header_in newest_in older_in context_in
 returns c =
-    let a = c.args in
-    let e = c.entry_place-at.ensures in
-    context-made a.image.now a.k _ c.signed_at-newest.result c.signed_at-older.result (record { sfits = c.signed_at-newest.type_inv }) (record { sfits = c.signed_at-older.type_inv })
-    (c.word_at-header.ensures ∙ rw e) (c.signed_at-newest.ensures ∙ rw e) (c.signed_at-older.ensures ∙ rw e)
+    let at = entry_place c.args.k in
+    let newest : at + 8 + 2 ≡ at + 10 = omega arith in
+    let older : at + 8 + 4 ≡ at + 12 = omega arith in
+    rw (c.context_at.ensures, c.entry_place.ensures, newest, older)

@@ -1,12 +1,16 @@
 use borrow.Author.Tests.{eq-eqb, ne_eqb}
-use Rattle.std.proofs.Common.{sym, ◌∙◌, arith}
+use Rattle.std.proofs.Common.{◌≡◌, sym, ◌∙◌, arith}
+use Rattle.layout.specs.Sizes.{no_loop}
 use Rattle.image.specs.Reading.{loops_in, blocks_in, loop_in}
 use Rattle.image.proofs.LawsLoop.{blocks-small, loop-entry}
 use Rattle.image.proofs.loops.read_loop.Goals as goal
 
 pub returns-then-get16-ne1 : goal.returns-then-get16-ne1
 unfolding loop_in loops_in
-returns-then-get16-ne1 c = c.no_loop.ensures ∙ rw (← c.get16.ensures, ne_eqb _ _ c.if-get16-ne1.true)
+returns-then-get16-ne1 c =
+    let d = c.default.ensures in
+    let none : c.default.result ≡ no_loop = λ i. record { start = d.0 i; end = d.1.0 i; present = d.1.1 i } in
+    rw (none, ← c.get16.ensures, ne_eqb _ _ c.if-get16-ne1.true)
 
 pub entry_place-at-requires : goal.entry_place-at-requires
 unfolding blocks_in

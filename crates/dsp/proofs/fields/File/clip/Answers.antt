@@ -7,7 +7,7 @@ pub returns : goal.returns
 unfolding clip_of
 returns c =
     rw (
-      ap (λ (x : FrameContext). x.last_samples) c.context_at.ensures,
+      ap (λ (x : FrameContext). x.last_samples) c.first.ensures,
       c.coefficients.ensures,
       c.looped.ensures,
       c.total.ensures,

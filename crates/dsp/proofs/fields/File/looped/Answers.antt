@@ -1,12 +1,16 @@
-use Rattle.std.proofs.Common.{sym, ◌∙◌, arith}
+use Rattle.std.proofs.Common.{◌≡◌, sym, ◌∙◌, arith}
 use borrow.Author.Tests.{eq-eqb, ne_eqb}
 use Rattle.block.specs.Address.{address_to_sample}
+use Rattle.layout.specs.Sizes.{no_loop}
 use Rattle.dsp.specs.File.{loop_of}
 use Rattle.dsp.proofs.fields.File.looped.Goals as goal
 
 pub returns-then-flag-ne1 : goal.returns-then-flag-ne1
 unfolding loop_of
-returns-then-flag-ne1 c = c.no_loop.ensures ∙ rw (← c.flag.ensures, ne_eqb _ _ c.if-flag-ne1.true)
+returns-then-flag-ne1 c =
+    let d = c.default.ensures in
+    let none : c.default.result ≡ no_loop = λ i. record { start = d.0 i; end = d.1.0 i; present = d.1.1 i } in
+    rw (none, ← c.flag.ensures, ne_eqb _ _ c.if-flag-ne1.true)
 
 pub overflow_cast-result : goal.overflow_cast-result
 unfolding address_to_sample

@@ -1,6 +1,6 @@
 -- `weigh` meets its contract: the sum fits in 32 bits, since the pair is within its limit.
-use Rattle.std.proofs.Common.{◌≡◌, rules, pos, ap₂, w16, w32}
-use lib.IntN.{ℤ, nat_abs, ◌+ℤ◌, ◌*ℤ◌}
+use Rattle.std.proofs.Common.{◌≡◌, rules, ap₂, w16, w32}
+use lib.IntN.{ℤ, ◌+ℤ◌, ◌*ℤ◌}
 use mir.Val.{SFits, to_z, of_z}
 use Rattle.whole.proofs.SignedLocals.{Is, is_call, is_mul, abs-sfits}
 use Rattle.frame.specs.Estimate.{weigh}

@@ -1,12 +1,12 @@
 -- `rest` meets its contract: below 0 nothing is taken, below sixteen steps whole steps, else fifteen.
-use Rattle.std.proofs.Common.{◌≡◌, ℕ, ◌+◌, ◌-◌, ◌*◌, ◌%◌, ◌≤◌, ◌<◌, false, rules, sym, ap, ap₂, ◌∙◌, arith, w64}
+use Rattle.std.proofs.Common.{◌≡◌, ℕ, ◌+◌, ◌-◌, ◌%◌, ◌≤◌, ◌<◌, false, rules, sym, ap, ap₂, ◌∙◌, arith, w64}
 use Rattle.std.proofs.Math.Facts.{to_z-of_z}
 use native.Mathlib.Nat.{mod-lt}
 use lib.Bits.{bit_and, and_mask}
-use lib.IntN.{ℤ, pos, nat_abs, ◌-ℤ◌}
+use lib.IntN.{ℤ, pos, nat_abs}
 use lib.Signed.{lt_z}
-use mir.Val.{SFits, to_z, of_z}
-use Rattle.whole.proofs.SignedLocals.{Is, is_eq, is-sized, is-nat, is-cast-u, not-below-zero}
+use mir.Val.{SFits, of_z}
+use Rattle.whole.proofs.SignedLocals.{is-nat, not-below-zero}
 use Rattle.frame.specs.inner.Quick.{rest_of, fine_scale}
 use Rattle.frame.proofs.LawsQuick.{rest-low, rest-mid, rest-high, sub-fits, fine-scale-is, fine-scale-le, fine-scale-pos}
 use Rattle.frame.proofs.quick.Scales.rest.Goals as goal
@@ -16,10 +16,9 @@ step_is : (mask : ℤ) (p : ℕ) → mask ≡ pos (fine_scale p - 1) → nat_abs
 step_is mask p e = ap (λ (z : ℤ). nat_abs z + 1) e ∙ omega (arith, fine-scale-pos p)
 
 -- what the mask leaves of a w that is not negative
-low-is : (w mask : ℤ) (p : ℕ) → p ≤ 12 → mask ≡ pos (fine_scale p - 1) → SFits w64 w → SFits w64 mask → lt_z w (pos 0) ≡ false
-    → bit_and (nat_abs (to_z w64 (of_z w64 w))) (nat_abs (to_z w64 (of_z w64 mask))) ≡ nat_abs w % fine_scale p
-low-is w mask p h e f g q =
-    ap₂ bit_and (ap nat_abs (to_z-of_z f)) (ap nat_abs (to_z-of_z g ∙ e) ∙ ap (λ (n : ℕ). n - 1) (sym (fine-scale-is p)))
+low-is : (w mask : ℤ) (p : ℕ) → p ≤ 12 → mask ≡ pos (fine_scale p - 1) → lt_z w (pos 0) ≡ false → bit_and (of_z w64 w) (of_z w64 mask) ≡ nat_abs w % fine_scale p
+low-is w mask p h e q =
+    ap₂ bit_and (ap (of_z w64) (not-below-zero w q)) (ap (of_z w64) e ∙ ap (λ (n : ℕ). n - 1) (sym (fine-scale-is p)))
     ∙ and_mask (nat_abs w) (p + 43) ∙ ap (λ (n : ℕ). nat_abs w % n) (fine-scale-is p)
 
 pub returns-then-w-lt0 : goal.returns-then-w-lt0
@@ -34,10 +33,9 @@ returns-then-w-self c =
     let w = c.args.w in
     let s = fine_scale r.p in
     let fa : SFits w64 c.args.self.all = search rules in
-    let fm : SFits w64 c.args.self.mask = search rules in
     let f = rw (to_z-of_z c.ranges.w, to_z-of_z fa, r.all-is) at c.if-w-self.true in
     let e = rw (to_z-of_z c.ranges.w) at c.if-w-lt0.false in
-    let l = low-is w c.args.self.mask r.p r.most r.mask_is c.ranges.w fm e in
+    let l = low-is w c.args.self.mask r.p r.most r.mask_is e in
     let b : nat_abs w % s < s = mod-lt (nat_abs w) (fine-scale-pos r.p) in
     (is-nat w64 _ 36028797018963968 (omega (arith, l, b, fine-scale-le r.p r.most)) tt).is ∙ ap pos l ∙ sym (rest-mid w s (fine-scale-pos r.p) e f) ∙ ap (rest_of w) (sym (step_is _ r.p r.mask_is))
 

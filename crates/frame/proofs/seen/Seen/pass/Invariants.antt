@@ -1,7 +1,0 @@
--- The first i nibbles, then zeros.
-use Rattle.std.proofs.Common.{◌≡◌, ◌-◌, ◌++◌, take, replicate}
-use lib.IntN.{pos}
-use Rattle.frame.proofs.seen.Seen.pass.Given as goal
-
-abbrev pub invariant-loop-i : goal.invariant-loop-i
-invariant-loop-i l = l.nibbles ≡ take l.i l.self.nibbles ++ replicate (14 - l.i) (pos 0)
