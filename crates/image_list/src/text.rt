@@ -1,7 +1,6 @@
 // The line of an answer: the refusal's number and the block that it names, zeros where there is none, and then the call's values.
 use block::{FrameContext, Playback};
 use image::{Head, Opening, Part, Refusal};
-use layout::Loop;
 use replay::{Digits, told};
 use std::io::{self, Write};
 use whole::History;
@@ -48,18 +47,7 @@ pub(crate) fn write_opening(
         head,
         looped,
         context,
-    } = opened.unwrap_or(Opening {
-        head: Head {
-            total: 0,
-            rate: 0,
-            block: 0,
-            gain: 0,
-            coefficients: [0; 16],
-            blocks: 0,
-        },
-        looped: Loop::default(),
-        context: FrameContext::default(),
-    });
+    } = opened.unwrap_or_default();
     write_head(writer, head)?;
     if looped.present {
         write!(writer, " {:08x} {:08x}", looped.start, looped.end)?;
@@ -101,10 +89,7 @@ pub(crate) fn write_part(
     out: &[i16],
 ) -> io::Result<()> {
     write_told(writer, &part)?;
-    let Part { samples, blocks } = part.unwrap_or(Part {
-        samples: 0,
-        blocks: 0,
-    });
+    let Part { samples, blocks } = part.unwrap_or_default();
     write!(writer, " {samples:08x} {blocks:08x} {}", Digits(out))
 }
 
@@ -115,11 +100,11 @@ pub(crate) fn write_turns(
     out: &[i16],
 ) -> io::Result<()> {
     write_told(writer, &count)?;
-    write!(writer, " {:08x} {}", count.unwrap_or(0), Digits(out))
+    write!(writer, " {:08x} {}", count.unwrap_or_default(), Digits(out))
 }
 
 // Writes whether two images are, or sound, the same.
 pub(crate) fn write_same(writer: &mut impl Write, same: Result<bool, Refusal>) -> io::Result<()> {
     write_told(writer, &same)?;
-    write!(writer, " {:08x}", u32::from(same.unwrap_or(false)))
+    write!(writer, " {:08x}", u32::from(same.unwrap_or_default()))
 }
