@@ -56,7 +56,7 @@ def point_1():
     yield from found(r"^ *(?:pub(?:\(crate\))? )?fn (?:code|bad_block)\(\w+: .*")
     for fn, name, start, signature, _, body in ALL:
         kinds = [p for p, t in parameters(signature) if t == "u8" and (p == "letter" or (p == "i" and "ranges" in name))]
-        if kinds or re.search(r"let task\b", body) or re.search(r"^(?:pub )?fn pivot", signature):
+        if fn != "from" and (kinds or re.search(r"let task\b", body) or re.search(r"fn pivot.*-> u8", signature)):
             yield f"{place(name, start)} fn {fn}: a number for a kind"
 
 
