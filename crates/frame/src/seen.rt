@@ -23,6 +23,7 @@ pub(crate) struct Seen {
 
 impl Seen {
     // The candidate that this pass finishes, its samples in `room`.
+    // Stays: beside the one of a Pass, which has its samples within it and its nibbles as they are kept.
     pub(crate) fn finished(self, room: &Room, exponent: Exponent, passes: u32) -> Coded
         requires { (k : ℕ) → k < 14 → InNibble (get_or self.nibbles k (pos 0)) }
         ensures { result ≡ finished (pass_of self room.now.s) exponent.value passes }
@@ -46,6 +47,7 @@ impl Seen {
 }
 
 // The number that is clamped to a nibble, or the nearer end of 16 bits.
+// Stays: the clamp is of 32 bits, as its argument; `whole::clamp_i16` takes 64, which was not tried for speed.
 fn narrowed_steps(w: i32, p: Exponent) -> i16
     requires { nat_abs w ≤ 2017460224 }
     ensures { result ≡ clamp16 (steps_of w p.value) }
@@ -81,6 +83,7 @@ pub(crate) fn show(frame: &Frame, room: &Room, p: Exponent) -> Option<Seen>
     let mut near: u32 = 0;
     let mut high: u32 = 0;
     let mut low: u32 = 0;
+    // Stays: by place, since three arrays and more go by one; a chain of zips would be no plainer.
     for i in 0..16 {
         let w = room.w[i];
         let n = narrowed_steps(w, p);
