@@ -53,7 +53,7 @@ loop-pair-preserved c =
     let second = member cs _ p new k 1 inv.1 s.1.0 (omega (arith, n)) in
     let more : length (c.loop-pair.yielded ++ (c.in-Some.pair ∷ [])) ≡ k + 1 = length-append c.loop-pair.yielded (c.in-Some.pair ∷ []) in
     let rest : new ≡ drop (2 * (k + 1)) cs =
-      sym (drop-append_seam p new) ∙ ap (λ (l : List ℤ). drop (length p) l) (sym s.1.0 ∙ inv.1) ∙ drop-drop (length p) (2 * k) cs ∙ ap (λ (m : ℕ). drop m cs) (omega (arith, n)) in
+    sym (drop-append_seam p new) ∙ ap (λ (l : List ℤ). drop (length p) l) (sym s.1.0 ∙ inv.1) ∙ drop-drop (length p) (2 * k) cs ∙ ap (λ (m : ℕ). drop m cs) (omega (arith, n)) in
     let left : length new + 2 * (k + 1) ≡ 16 = omega (arith, inv.2, ap length s.1.0, length-append p new, n) in
     let none : lowest_among cs (k + 1) ≡ false = elim c.else-pair.branch [
       | else-pair-via-then-pair+else-pair-2 w ↦ lowest-more cs k inv.3 (second-above cs k (first ∙ lowest-bits w.if-pair.true (search rules)) (λ e. w.if-pair-2.false (ap (of_z w16) (sym second ∙ e))))
