@@ -99,10 +99,7 @@ impl<'a> Opened<'a> {
         let left = self.total() as usize - first;
         let count = out.len().min(left);
         if count == 0 {
-            return Part {
-                samples: 0,
-                blocks: 0,
-            };
+            return Part::default();
         }
         let context = self.context_at_sample(first);
         let blocks = self.play_run(first, count, context, out);

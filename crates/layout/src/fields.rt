@@ -29,6 +29,7 @@ pub fn put32(buf: &mut [u8], at: usize, v: u32)
 }
 
 // The number that two bytes are. It is internal: crate image calls it.
+// Stays: it gives what it reads in 32 bits, since its callers compare it with numbers of 32 bits.
 pub fn get16(buf: &[u8], at: usize) -> u32
     requires { at + 2 ≤ length buf.now }
     ensures { result ≡ at16 buf.now at }
