@@ -122,8 +122,8 @@ pub fn numbers<T: Number, const N: usize>(line: &[u8], at: usize) -> [T; N]
     ensures { result ≡ numbers_at T.number_at T.DIGITS line.now at N }
 {
     let mut numbers = [T::default(); N];
-    for i in 0..N {
-        numbers[i] = T::read(line, at + T::DIGITS * i);
+    for (i, number) in numbers.iter_mut().enumerate() {
+        *number = T::read(line, at + T::DIGITS * i);
     }
     numbers
 }
