@@ -17,12 +17,11 @@ pub(crate) struct Ends {
 }
 
 // How far a sample is from its prediction, in 32 bits.
-// Stays: the clamp is of 32 bits, as its argument; `whole::clamp_i16` takes 64, which was not tried for speed.
 fn difference(pair: Pair, previous: i16, before: i16, sample: i16) -> i16
     ensures { result ≡ difference pair.c0 pair.c1 previous before sample }
 {
     let predicted = whole::quotient_2048(pair.weigh(previous, before));
-    (i32::from(sample) - predicted).clamp(-32768, 32767) as i16
+    whole::clamp_i16(i64::from(i32::from(sample) - predicted))
 }
 
 // The difference of the frame's sample i.

@@ -47,12 +47,11 @@ impl Seen {
 }
 
 // The number that is clamped to a nibble, or the nearer end of 16 bits.
-// Stays: the clamp is of 32 bits, as its argument; `whole::clamp_i16` takes 64, which was not tried for speed.
 fn narrowed_steps(w: i32, p: Exponent) -> i16
     requires { nat_abs w ≤ 2017460224 }
     ensures { result ≡ clamp16 (steps_of w p.value) }
 {
-    ((w - (16384i32 << p.value)) >> (p.value + 11)).clamp(-32768, 32767) as i16
+    whole::clamp_i16(i64::from((w - (16384i32 << p.value)) >> (p.value + 11)))
 }
 
 // n, or -1 - n below 0.
