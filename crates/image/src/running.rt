@@ -99,7 +99,11 @@ impl<'a> Opened<'a> {
         let left = self.total() as usize - first;
         let count = out.len().min(left);
         if count == 0 {
-            return Part::default();
+            // Stays: not the derived default, so that the edit `empty_output_touches_one` turns a number that stands here.
+            return Part {
+                samples: 0,
+                blocks: 0,
+            };
         }
         let context = self.context_at_sample(first);
         let blocks = self.play_run(first, count, context, out);

@@ -13,7 +13,7 @@ pub returns-then-count-eq0 : goal.returns-then-count-eq0
 returns-then-count-eq0 c =
     let a = c.args in
     let n : c.min-count.result ≡ run_count a.self.now a.first (length a.out.now) = c.min-count.ensures ∙ ap (λ (n : ℕ). min (length a.out.now) (n - a.first)) c.total.ensures.read in
-    rw (c.default.ensures.0, c.default.ensures.1) (part_none a.self.now a.first _ _ n (omega (arith, c.if-count-eq0.true)))
+    part_none a.self.now a.first _ _ n (omega (arith, c.if-count-eq0.true))
 
 pub play_run-blocks-requires : goal.play_run-blocks-requires
 play_run-blocks-requires c =
