@@ -6,8 +6,8 @@ ghost use Rattle.block.specs.Refusals.{lowest_pair, equal_coefficients};
 pub fn lowest_pair(coefficients: [i16; 16]) -> bool
     ensures { result ≡ lowest_pair coefficients }
 {
-    for k in 0..8 {
-        if coefficients[2 * k] == i16::MIN && coefficients[2 * k + 1] == i16::MIN {
+    for pair in coefficients.chunks_exact(2) {
+        if pair[0] == i16::MIN && pair[1] == i16::MIN {
             return true;
         }
     }
@@ -15,6 +15,7 @@ pub fn lowest_pair(coefficients: [i16; 16]) -> bool
 }
 
 // Whether the sixteen coefficients of two blocks are equal.
+// Stays: a name for ==, whose contract says that it is the documents' equality of coefficients (equal_coefficients).
 pub(crate) fn equal_coefficients(first: [i16; 16], second: [i16; 16]) -> bool
     ensures { result ≡ equal_coefficients first second }
 {

@@ -11,7 +11,7 @@ pub(crate) fn shorter(room: usize, first: usize, second: usize) -> bool
 }
 
 // The bytes of `source`, written to the output from `to` on. It is internal: crate dsp calls it.
-// Stays: the library's copy with its two bounds written out at each call would be no plainer.
+// Stays: layout's put is the same line, but this crate does not know layout; written out, its two bounds would stand at each call.
 pub fn copy(source: &[u8], out: &mut [u8], to: usize)
     requires { to + length source.now ≤ length out.old }
     ensures { out.new ≡ sets out.old to source.now }

@@ -12,6 +12,7 @@ use crate::{FrameContext, play_frame};
 use whole::{BYTES_PER_FRAME, SAMPLES_PER_FRAME};
 
 // The context after `count` samples of the frame at byte `at`.
+// Stays: image's played_frame keeps the samples too; both are one call of play_frame to a frame's room.
 fn frame_context(
     bytes: &[u8],
     at: usize,
@@ -28,6 +29,7 @@ fn frame_context(
 
 // The context after the first `len` nibbles of a block's bytes.
 // internal: what playing from a sample on is made of.
+// Stays: play_into is the same walk; one for both would take the step as a closure, with a contract that says of any step what each says here of its own.
 pub fn context_after(
     bytes: &[u8],
     len: usize,
@@ -54,6 +56,7 @@ pub fn context_after(
 }
 
 // Plays from a sample's address on up to `len`, which is in the same frame or at its end.
+// Stays: play_frame has this body at a frame's start; each promises another definition (play_on, play_frame), and shared they are longer.
 fn play_rest(
     bytes: &[u8],
     from: usize,

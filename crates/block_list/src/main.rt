@@ -8,8 +8,8 @@
 ghost use Rattle.std.specs.Prelude.{◌+◌, ◌≤◌};
 
 use block::{FrameContext, Playback};
-use replay::{Digits, Number, numbers, read_line, told};
-use std::io::{self, BufReader, BufWriter, Write};
+use replay::{Digits, HistoryDigits, Number, Replay, numbers, replay_lines, told};
+use std::io::{self, Write};
 use whole::History;
 
 // What a line asks for.
@@ -47,10 +47,7 @@ fn play(writer: &mut impl Write, line: &[u8; 357]) -> io::Result<()> {
     let bytes: [u8; 48] = numbers(line, 164);
     let given = FrameContext {
         predictor_and_scale: u16::read(line, 24),
-        last_samples: History {
-            newest: i16::read(line, 28),
-            older: i16::read(line, 32),
-        },
+        last_samples: History::read(line, 28),
     };
     let mut samples = [0x5a5a_i16; 96];
     let out = &mut samples[..size(line, 6, 96)];
@@ -67,13 +64,13 @@ fn play(writer: &mut impl Write, line: &[u8; 357]) -> io::Result<()> {
         context: given,
     });
     write_answer(writer, code, samples)?;
-    let History { newest, older } = context.last_samples;
+    write!(writer, "{:04x}", context.predictor_and_scale)?;
     write!(
         writer,
-        "{:04x}{newest:04x}{older:04x} ",
-        context.predictor_and_scale
-    )?;
-    write!(writer, "{}", Digits(out))
+        "{} {}",
+        HistoryDigits(context.last_samples),
+        Digits(out)
+    )
 }
 
 // Joins two blocks and writes what it leaves.
@@ -103,25 +100,22 @@ fn addresses(writer: &mut impl Write, line: &[u8; 357]) -> io::Result<()> {
     write!(writer, "{:09x}", block::sample_to_address(x))
 }
 
-// Replays one line.
-fn replay(writer: &mut impl Write, line: &[u8; 357]) -> io::Result<()> {
-    match Task::from(u8::read(line, 0)) {
-        Task::Play => play(writer, line)?,
-        Task::Join => join(writer, line)?,
-        Task::Addresses => addresses(writer, line)?,
+// The list of calls.
+#[derive(Drop)]
+struct Calls;
+
+impl Replay<357> for Calls {
+    fn replay(&mut self, writer: &mut impl Write, line: &[u8; 357]) -> io::Result<()> {
+        match Task::from(u8::read(line, 0)) {
+            Task::Play => play(writer, line)?,
+            Task::Join => join(writer, line)?,
+            Task::Addresses => addresses(writer, line)?,
+        }
+        writeln!(writer)
     }
-    writeln!(writer)
 }
 
 // Replays every line of the input.
 fn main(rt: HostRuntime) -> io::Result<()> {
-    let mut reader = BufReader::new(rt.alloc(), rt.reader())?;
-    let mut writer = BufWriter::new(rt.alloc(), io::writer(&rt))?;
-    for _ in 0..1_000_000u32 {
-        let Some(line) = read_line(&mut reader)? else {
-            break;
-        };
-        replay(&mut writer, &line)?;
-    }
-    writer.flush()
+    replay_lines(&rt, &mut Calls, 1_000_000)
 }

@@ -6,9 +6,9 @@ ghost use Rattle.clip.specs.Encoding.{outcome, encoded_frames, encoder_shape, co
 use crate::starting::Start;
 use crate::{Encoder, Refusal};
 use frame::coefficients_ok;
-use layout::Shape;
 use layout::limits::{loop_ok, numbers_ok};
 use layout::sizes::{frame_count, image_size, loop_count, shape_of};
+use layout::{LEAST_BLOCK, MOST_BLOCK, Shape};
 use whole::{MOST_SAMPLES, SAMPLES_PER_FRAME};
 
 impl Encoder {
@@ -108,7 +108,7 @@ pub(crate) fn start_answer(g: Start, room: usize) -> Result<(), Refusal>
     if g.rate == 0 {
         return Err(Refusal::RateZero);
     }
-    if !(8..=65_536).contains(&g.block) {
+    if !(LEAST_BLOCK..=MOST_BLOCK).contains(&g.block) {
         return Err(Refusal::BadBlockSize);
     }
     if !coefficients_ok(g.coefficients) {

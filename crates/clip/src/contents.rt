@@ -11,7 +11,6 @@ use block::FrameContext;
 use layout::fields::{put16, put32, zeros};
 use layout::sizes::{block_count, block_length, bodies_place, body_bytes, entry_place};
 use layout::{ENTRY_BYTES, Loop, MARK, Shape};
-use whole::History;
 
 // The mark, at the image's start. It is internal: crate dsp calls it.
 pub fn put_mark(image: &mut [u8])
@@ -22,13 +21,13 @@ pub fn put_mark(image: &mut [u8])
 }
 
 // A block's context: its first header byte, and the history before it. It is internal: crate dsp calls it.
-pub fn put_context(image: &mut [u8], at: usize, header: u16, history: History)
+pub fn put_context(image: &mut [u8], at: usize, context: FrameContext)
     requires { at + 6 ≤ length image.old }
-    ensures { image.new ≡ sets image.old at (context_bytes header history) }
+    ensures { image.new ≡ sets image.old at (context_bytes context.predictor_and_scale context.last_samples) }
 {
-    put16(image, at, header);
-    put16(image, at + 2, history.newest.cast_unsigned());
-    put16(image, at + 4, history.older.cast_unsigned());
+    put16(image, at, context.predictor_and_scale);
+    put16(image, at + 2, context.last_samples.newest.cast_unsigned());
+    put16(image, at + 4, context.last_samples.older.cast_unsigned());
 }
 
 // The coefficients, two bytes each. It is internal: crate dsp calls it.
@@ -36,8 +35,8 @@ pub fn put_coefficients(image: &mut [u8], at: usize, coefficients: [i16; 16])
     requires { at + 32 ≤ length image.old }
     ensures { image.new ≡ sets image.old at (coefficient_bytes coefficients) }
 {
-    for i in 0..16 {
-        put16(image, at + 2 * i, coefficients[i].cast_unsigned());
+    for (i, coefficient) in coefficients.iter().enumerate() {
+        put16(image, at + 2 * i, coefficient.cast_unsigned());
     }
 }
 
@@ -48,16 +47,12 @@ pub fn put_entry(image: &mut [u8], at: usize, first: u32, second: u32, context: 
 {
     put32(image, at, first);
     put32(image, at + 4, second);
-    put_context(
-        image,
-        at + 8,
-        context.predictor_and_scale,
-        context.last_samples,
-    );
+    put_context(image, at + 8, context);
     zeros(image, at + 14, 2);
 }
 
 // The contents: an entry with no context for each block.
+// Stays: dsp's put_contents writes entries too, but each context comes of the one before; as a closure it would say in its contract what put_contents says.
 fn put_table(image: &mut [u8], shape: Shape)
     requires { Limits shape × (bodies_place shape ≤ length image.old) }
     ensures { image.new ≡ sets image.old 56 (table_bytes (λ j. no_context) shape 0 (block_count shape)) }
@@ -77,22 +72,22 @@ fn put_table(image: &mut [u8], shape: Shape)
 }
 
 // N, rate and B.
-fn put_numbers(image: &mut [u8], total: u32, rate: u32, block: u32)
+fn put_numbers(image: &mut [u8], g: Start)
     requires { 16 ≤ length image.old }
-    ensures { image.new ≡ sets image.old 4 (be32 total ++ (be32 rate ++ be32 block)) }
+    ensures { image.new ≡ sets image.old 4 (be32 g.total ++ (be32 g.rate ++ be32 g.block)) }
 {
-    put32(image, 4, total);
-    put32(image, 8, rate);
-    put32(image, 12, block);
+    put32(image, 4, g.total);
+    put32(image, 8, g.rate);
+    put32(image, 12, g.block);
 }
 
 // Gain, the count of loops and K.
-fn put_rest(image: &mut [u8], gain: u16, loops: u16, blocks: u32)
+fn put_rest(image: &mut [u8], g: Start, blocks: u32)
     requires { 56 ≤ length image.old }
-    ensures { image.new ≡ sets image.old 48 (be16 gain ++ (be16 loops ++ be32 blocks)) }
+    ensures { image.new ≡ sets image.old 48 (be16 g.gain ++ (be16 (loop_count g.looped) ++ be32 blocks)) }
 {
-    put16(image, 48, gain);
-    put16(image, 50, loops);
+    put16(image, 48, g.gain);
+    put16(image, 50, u16::from(g.looped.present));
     put32(image, 52, blocks);
 }
 
@@ -102,9 +97,9 @@ pub fn put_head(image: &mut [u8], g: Start, blocks: u32)
     ensures { image.new ≡ sets image.old 0 (head_bytes no_mark g) }
 {
     zeros(image, 0, 4);
-    put_numbers(image, g.total, g.rate, g.block);
+    put_numbers(image, g);
     put_coefficients(image, 16, g.coefficients);
-    put_rest(image, g.gain, u16::from(g.looped.present), blocks);
+    put_rest(image, g, blocks);
 }
 
 // All the bytes of a clip's start.
@@ -124,6 +119,7 @@ pub(crate) fn put_fresh(image: &mut [u8], g: Start)
 }
 
 // The entry that a loop adds. It is internal: crate dsp calls it.
+// Stays: the loop and the context at its start are two, as C has them (doilycairn_encoder, doilycairn_opening).
 pub fn put_loop(image: &mut [u8], at: usize, looped: Loop, context: FrameContext)
     requires { at + 16 * loop_count looped ≤ length image.old }
     ensures { image.new ≡ sets image.old at (loop_bytes looped context) }

@@ -21,12 +21,11 @@ fn store(image: &mut [u8], shape: Shape, q: usize, bytes: &[u8], history: Histor
     image[at..at + bytes.len()].copy_from_slice(bytes);
     let per = shape.block / BYTES_PER_FRAME;
     if q % per == 0 {
-        put_context(
-            image,
-            entry_place(q / per) + 8,
-            u16::from(bytes[0]),
-            history,
-        );
+        let context = FrameContext {
+            predictor_and_scale: u16::from(bytes[0]),
+            last_samples: history,
+        };
+        put_context(image, entry_place(q / per) + 8, context);
     }
 }
 

@@ -36,6 +36,7 @@ pub enum Refusal {
 }
 
 // The encoding state: what the clip was started with, the samples fed so far, the history, the unfinished frame, the passes made, the loop, and the context at its start once that is known. The default is of no clip: all zeros, which every call refuses.
+// Stays: closed as a flag, and the frame filled as fed says, since C has this struct (doilycairn_encoder).
 #[repr(C)]
 #[derive(Clone, Copy, Default, PartialEq, Eq)]
 pub struct Encoder {

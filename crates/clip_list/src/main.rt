@@ -13,9 +13,9 @@ mod record;
 mod text;
 
 use clip::Encoder;
-use record::{context_of, encoder_of, loop_of, no_encoder, start_of};
-use replay::{Number, Piece, buffers, numbers, read_line, told};
-use std::io::{self, BufReader, BufWriter, Write};
+use record::{context_of, encoder_of, loop_of, start_of};
+use replay::{Number, Piece, Replay, buffers, numbers, replay_lines, told};
+use std::io::{self, Write};
 use text::write_line;
 
 // A call on the clip.
@@ -72,7 +72,7 @@ impl State {
         let (done, kept) = match call {
             Call::Start => (
                 clip::start(start_of(line, given.looped), image),
-                no_encoder(),
+                Encoder::default(),
             ),
             Call::Feed => (clip::feed(given, self.piece.as_slice(), image), given),
             Call::Close => (clip::close(given, image), given),
@@ -82,8 +82,9 @@ impl State {
         self.piece = Piece::new();
         write_line(writer, code, &self.encoder, image, u8::read(line, 5) != 0)
     }
+}
 
-    // Replays a line.
+impl Replay<182> for State {
     fn replay(&mut self, writer: &mut impl Write, line: &[u8; 182]) -> io::Result<()> {
         match Step::from(line[0]) {
             Step::Fill => buffers::fill(&mut self.image),
@@ -105,18 +106,10 @@ impl State {
 
 // Replays every line of the list.
 fn main(rt: HostRuntime) -> io::Result<()> {
-    let mut reader = BufReader::new(rt.alloc(), rt.reader())?;
-    let mut writer = BufWriter::new(rt.alloc(), io::writer(&rt))?;
     let mut state = State {
-        encoder: no_encoder(),
+        encoder: Encoder::default(),
         piece: Piece::new(),
         image: [0; 4096],
     };
-    for _ in 0..4_000_000_000u32 {
-        let Some(line) = read_line(&mut reader)? else {
-            break;
-        };
-        state.replay(&mut writer, &line)?;
-    }
-    writer.flush()
+    replay_lines(&rt, &mut state, 4_000_000_000)
 }

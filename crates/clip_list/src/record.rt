@@ -1,22 +1,10 @@
 // What a line has.
-ghost use Rattle.std.specs.Prelude.{◌+◌, ◌≤◌};
-
 use block::FrameContext;
 use clip::Encoder;
 use clip::starting::Start;
 use layout::Loop;
 use replay::{Number, numbers};
 use whole::History;
-
-// The two samples at a place, the newest first.
-fn history_at(line: &[u8; 182], at: usize) -> History
-    requires { at + 8 ≤ 182 }
-{
-    History {
-        newest: i16::read(line, at),
-        older: i16::read(line, at + 4),
-    }
-}
 
 // The loop of a line.
 pub(crate) fn loop_of(line: &[u8; 182]) -> Loop {
@@ -31,7 +19,7 @@ pub(crate) fn loop_of(line: &[u8; 182]) -> Loop {
 pub(crate) fn context_of(line: &[u8; 182]) -> FrameContext {
     FrameContext {
         predictor_and_scale: u16::read(line, 25),
-        last_samples: history_at(line, 29),
+        last_samples: History::read(line, 29),
     }
 }
 
@@ -43,7 +31,7 @@ pub(crate) fn start_of(line: &[u8; 182], looped: Loop) -> Start {
         block: u32::read(line, 25),
         gain: u16::read(line, 33),
         coefficients: numbers(line, 37),
-        history: history_at(line, 101),
+        history: History::read(line, 101),
         looped: if u8::read(line, 7) != 0 {
             looped
         } else {
@@ -61,16 +49,10 @@ pub(crate) fn encoder_of(line: &[u8; 182]) -> Encoder {
         gain: u16::read(line, 33),
         coefficients: numbers(line, 37),
         fed: u32::read(line, 109),
-        history: history_at(line, 101),
+        history: History::read(line, 101),
         frame: numbers(line, 125),
         passes: u32::read(line, 117),
         closed: u8::read(line, 7) != 0,
-        looped: Loop::default(),
-        context: FrameContext::default(),
+        ..Encoder::default()
     }
-}
-
-// The state of no clip: zeros.
-pub(crate) fn no_encoder() -> Encoder {
-    encoder_of(&[b'0'; 182])
 }

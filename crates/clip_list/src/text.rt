@@ -2,16 +2,9 @@
 use block::FrameContext;
 use clip::Encoder;
 use layout::Loop;
-use replay::Digits;
 use replay::buffers::digest;
+use replay::{Digits, HistoryDigits};
 use std::io::{self, Write};
-use whole::History;
-
-// Writes two samples, and a space.
-fn write_history(writer: &mut impl Write, history: History) -> io::Result<()> {
-    let History { newest, older } = history;
-    write!(writer, "{newest:04x}{older:04x} ")
-}
 
 // Writes the loop and the context at its start, and a space.
 fn write_loop(writer: &mut impl Write, looped: Loop, context: FrameContext) -> io::Result<()> {
@@ -22,14 +15,14 @@ fn write_loop(writer: &mut impl Write, looped: Loop, context: FrameContext) -> i
         looped.start, looped.end
     )?;
     write!(writer, "{:04x} ", context.predictor_and_scale)?;
-    write_history(writer, context.last_samples)
+    write!(writer, "{} ", HistoryDigits(context.last_samples))
 }
 
 // Writes the state, with its loop and context where one of their numbers is not zero, and a space.
 fn write_encoder(writer: &mut impl Write, e: &Encoder) -> io::Result<()> {
     write!(writer, "{:08x} {:08x} {:08x} ", e.total, e.rate, e.block)?;
     write!(writer, "{:04x} {} ", e.gain, Digits(&e.coefficients))?;
-    write_history(writer, e.history)?;
+    write!(writer, "{} ", HistoryDigits(e.history))?;
     write!(writer, "{:08x} {:08x} ", e.fed, e.passes)?;
     write!(writer, "{} {:02x} ", Digits(&e.frame), u8::from(e.closed))?;
     if e.looped != Loop::default() || e.context != FrameContext::default() {

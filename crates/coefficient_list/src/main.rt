@@ -6,12 +6,13 @@
 #![tactic(auto)]
 
 use coefficients::{CoefficientCalculator, Refusal};
-use replay::{Digits, Piece, digit, numbers, read_line};
-use std::io::{self, BufReader, BufWriter, Write};
+use replay::{Digits, Piece, Replay, digit, numbers, replay_lines};
+use std::io::{self, Write};
 use std::num::f64_to_bits_with_nan;
 use whole::Reason;
 
 // A number that no record has.
+// Stays: a mark in the store and no Option, since finish answers the coefficients and not whether it wrote one record more.
 const NO_RECORD: f64 = 1.0e300;
 
 // What a line asks for.
@@ -48,9 +49,9 @@ fn write_refusal(writer: &mut impl Write, why: Refusal) -> io::Result<()> {
 
 // Writes the first records of the store.
 fn write_records(writer: &mut impl Write, store: &[f64; 128], n: usize) -> io::Result<()> {
-    for k in 0..n.min(64) {
-        let first = f64_to_bits_with_nan(store[2 * k]);
-        let second = f64_to_bits_with_nan(store[2 * k + 1]);
+    for record in store.chunks_exact(2).take(n) {
+        let first = f64_to_bits_with_nan(record[0]);
+        let second = f64_to_bits_with_nan(record[1]);
         write!(writer, " {first:016x}{second:016x}")?;
     }
     Ok(())
@@ -103,8 +104,9 @@ impl State {
             Err(why) => write_refusal(writer, why),
         }
     }
+}
 
-    // Replays one line.
+impl Replay<60> for State {
     fn replay(&mut self, writer: &mut impl Write, line: &[u8; 60]) -> io::Result<()> {
         match Step::from(line[0]) {
             Step::Start => self.start(),
@@ -121,18 +123,10 @@ impl State {
 
 // Replays every line of the list.
 fn main(rt: HostRuntime) -> io::Result<()> {
-    let mut reader = BufReader::new(rt.alloc(), rt.reader())?;
-    let mut writer = BufWriter::new(rt.alloc(), io::writer(&rt))?;
     let mut state = State {
         calculator: CoefficientCalculator::new(),
         store: [0.0; 128],
         piece: Piece::new(),
     };
-    for _ in 0..4_000_000_000u32 {
-        let Some(line) = read_line(&mut reader)? else {
-            break;
-        };
-        state.replay(&mut writer, &line)?;
-    }
-    writer.flush()
+    replay_lines(&rt, &mut state, 4_000_000_000)
 }

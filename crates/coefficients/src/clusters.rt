@@ -15,13 +15,14 @@ pub(crate) struct Cluster {
 }
 
 // The terms of some vectors, at the front.
+// Stays: a slice of up to eight, here and below, since `grow` works on the first two, four and eight of one array.
 fn all_terms(vs: &[Vec3]) -> [VectorTerms; 8]
     requires { length vs.now ≤ 8 }
     ensures { take (length vs.now) result ≡ map SharedTerms.vector_terms vs.now }
 {
     let mut terms = [VectorTerms::default(); 8];
-    for i in 0..vs.len() {
-        terms[i] = vector_terms(vs[i]);
+    for (i, v) in vs.iter().enumerate() {
+        terms[i] = vector_terms(*v);
     }
     terms
 }
@@ -99,9 +100,9 @@ fn renew(vs: &mut [Vec3], clusters: &[Cluster; 8])
     requires { length vs.old ≤ 8 }
     ensures { vs.new ≡ Clusters.renewed vs.old clusters.now (length vs.old) }
 {
-    for i in 0..vs.len() {
+    for (i, v) in vs.iter_mut().enumerate() {
         let cluster = clusters[i];
-        vs[i] = with_one(merge_finish_record(mean(cluster.sum, cluster.count)));
+        *v = with_one(merge_finish_record(mean(cluster.sum, cluster.count)));
     }
 }
 
@@ -133,6 +134,7 @@ fn double(vs: &mut [Vec3])
     ensures { vs.new ≡ Clusters.doubled vs.old (length vs.old / 2) (length vs.old / 2) }
 {
     let half = vs.len() / 2;
+    // Stays: each turn reads one place and writes another by one number; the halves split and zipped would be no plainer.
     for i in 0..half {
         vs[half + i] = beside(vs[i]);
     }

@@ -142,7 +142,7 @@ impl Contrasts for Lead {
 }
 
 // The lower of two numbers.
-// Stays: `float::min` tells NaNs and the signs of zeros apart as well, at each contrast, and none of that matters here.
+// Stays: the lower by < alone, which is the definition `lower` that the law of plain contrasts stands on; `float::min` has more cases.
 #[tactic(auto, unfolding(crate::specs::inner::PlainContrasts::lower))]
 fn lower(a: f64, b: f64) -> f64
     ensures { result ≡ PlainContrasts.lower a b }
@@ -157,8 +157,8 @@ fn gone_through<C: Contrasts>(ts: &[VectorTerms], r: Record, val: f64) -> C
 {
     let s = C::side(r, val);
     let mut kept = C::none();
-    for i in 0..ts.len() {
-        kept = kept.and(C::contrast(ts[i], s), i);
+    for (i, t) in ts.iter().enumerate() {
+        kept = kept.and(C::contrast(*t, s), i);
     }
     kept
 }
@@ -192,6 +192,7 @@ pub(crate) fn all_small(ts: &[VectorTerms]) -> bool
 }
 
 // The first vector of strictly least contrast below 1.0e30, or vector 0: by plain contrasts where these are within bounds and the least is clear of the next.
+// Stays: `small` is a flag and no Option of small terms, since exact contrasts are taken of the same terms where it is false.
 pub(crate) fn nearest(ts: &[VectorTerms], small: bool, r: Record, val: f64) -> usize
     requires eight { length ts.now ≤ 8 }
     requires all_small { small ≡ true → AllSmall ts.now (length ts.now) }

@@ -25,6 +25,7 @@ fn pairs(vs: &[Vec3; 8]) -> [i16; 16]
     ensures { result ≡ Finish.pairs vs.now 8 }
 {
     let mut cs = [0i16; 16];
+    // Stays: each turn writes two places by one number; chunks zipped with the vectors would be no plainer.
     for k in 0..8 {
         cs[2 * k] = coefficient(vs[k].x1);
         cs[2 * k + 1] = coefficient(vs[k].x2);

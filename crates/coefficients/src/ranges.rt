@@ -9,6 +9,7 @@ ghost use Rattle.coefficients.specs.inner.LentNumber.{LendsNumber};
 use crate::merging::Vec3;
 
 // What quadratic_merge leaves: the vector's second and third numbers.
+// Stays: two numbers as a Record has, but not yet a record's: `finish_record` makes the one of the other.
 #[derive(Clone, Copy)]
 pub(crate) struct Merged {
     pub v1: f64,

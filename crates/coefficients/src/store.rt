@@ -7,6 +7,7 @@ use crate::merging::{Record, Vec3, merge_finish_record, record_terms};
 use std::marker::Model;
 
 // The first records of a store, in order: two numbers each. A clause sees their list.
+// Stays: a count beside the numbers, since C lends a store for more records than there are (`records` in specs/Store.antt).
 #[derive(Drop)]
 pub(crate) struct Records<'a> {
     numbers: &'a [f64],

@@ -1,8 +1,8 @@
 -- A call's return, packed from a lower call's answer, is what the definition makes of that answer. Assumes nothing.
 use mathlib.Core.List.{List}
-use mathlib.Core.Path.{◌≡◌, ap}
+use mathlib.Core.Path.{◌≡◌, ap, ◌∙◌}
 use Prim.Native.Nat.{ℕ, ◌+◌, ◌/◌}
-use Rattle.std.specs.Prelude.{Result, Ok, Err, pos, false}
+use Rattle.std.specs.Prelude.{Result, Ok, Err, ℤ, pos, false}
 use Rattle.block.specs.declared.FrameContext.{FrameContext}
 use Rattle.block.specs.Context.{new_context}
 use Rattle.whole.specs.Outcome.{Outcome, accepted, refused_at, without_values, or_kept, outcome_code, outcome_entry, Effect, effect}
@@ -19,7 +19,8 @@ use Rattle.doilycairn.specs.declared.reading.Opening.{Opening}
 use Rattle.image.specs.Bodies.{block_answer, body_in, block_body}
 use Rattle.image.specs.Reading.{offset_in, length_in, context_in}
 use Rattle.doilycairn.specs.declared.reading.Body.{Body}
-use Rattle.doilycairn.specs.Reading.{open_seen, body_at, handed, body_in_c}
+use Rattle.doilycairn.specs.declared.reading.Part.{Part}
+use Rattle.doilycairn.specs.Reading.{open_seen, body_at, handed, body_in_c, part_answer, part_seen}
 use Rattle.doilycairn.specs.Writing.{encoding_answer, clip_seen}
 
 -- ---- a clip
@@ -30,6 +31,9 @@ clip-seen (Ok e) kept l p = ap clip_seen p
 clip-seen (Err r) kept l p = ap clip_seen p
 
 -- ---- an image
+
+pub part-seen : (o : Outcome (ℕ × ℕ)) (out : List ℤ) {e : Effect (Outcome (ℕ × ℕ)) (List ℤ)} {r : Part} → r ≡ part_answer o → effect o out ≡ e → effect r out ≡ part_seen e
+part-seen o out p q = ap (λ (r : Part). effect r out) p ∙ ap part_seen q
 
 -- the entry's numbers, and two nibbles a byte
 pub body-told : (l : List ℕ) (k offset bytes nibbles : ℕ) (c : FrameContext) → offset ≡ offset_in l k → nibbles ≡ length_in l k → bytes ≡ (nibbles + 1) / 2 → c ≡ context_in l k

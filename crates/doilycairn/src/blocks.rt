@@ -11,6 +11,7 @@ use block::FrameContext;
 use whole::Reason;
 
 // What playing returns. `entry` is 0 where no image is played.
+// Stays: a code beside values, here and below, since C takes no Result (include/doilycairn.h, "Answers").
 #[repr(C)]
 #[derive(Drop)]
 pub struct Playback {

@@ -11,6 +11,7 @@ use layout::sizes::body_bytes;
 use whole::MOST_SAMPLES;
 
 // What export and import return: how many bytes. `entry` is the block whose entry is bad, with codes 20, 21 and 22, or that another history stands before, with 35; else 0.
+// Stays: a code beside a value, since C takes no Result (include/doilycairn.h, "Answers").
 #[repr(C)]
 #[derive(Drop)]
 pub struct Written {
@@ -63,5 +64,6 @@ pub extern "C" fn doilycairn_dsp_size(total: u32) -> u64
     if !(1..=MOST_SAMPLES).contains(&total) {
         return 0;
     }
+    // Stays: 96 as a number, since HEADER_BYTES is crate dsp's own, whose file_bytes is asked of an image.
     96 + body_bytes(total as usize) as u64
 }

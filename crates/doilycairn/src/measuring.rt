@@ -8,6 +8,7 @@ use crate::answers::code_of;
 use coefficients::CoefficientCalculator;
 
 // What measuring a piece returns.
+// Stays: a code beside values, here and below, since C takes no Result (include/doilycairn.h, "Answers").
 #[repr(C)]
 #[derive(Drop)]
 pub struct Processed {

@@ -20,6 +20,7 @@ use layout::Loop;
 use whole::Reason;
 
 // What opening returns. `entry` is here and below the block whose entry is bad, with codes 20, 21 and 22; else 0.
+// Stays: a code beside values, here and below, since C takes no Result (include/doilycairn.h, "Answers").
 #[repr(C)]
 #[derive(Drop)]
 pub struct Opening {
@@ -104,11 +105,10 @@ pub extern "C" fn doilycairn_open(image: &[u8]) -> Opening
 {
     let answer = image::open(image);
     let opening = answer.unwrap_or_default();
-    let head = opening.head;
     Opening {
         code: code_of(&answer),
         entry: entry_of(&answer),
-        head,
+        head: opening.head,
         looped: opening.looped,
         context: opening.context,
     }
@@ -183,6 +183,7 @@ pub extern "C" fn doilycairn_same(first: &[u8], second: &[u8]) -> Comparison
 
 // Compares the sound of two images.
 #[unsafe(no_mangle)]
+// Stays: beside doilycairn_same, since C calls each by its name.
 pub extern "C" fn doilycairn_sounds_same(first: &[u8], second: &[u8]) -> Comparison
     ensures { result ≡ compared_answer (sounds_same first.now second.now) }
 {

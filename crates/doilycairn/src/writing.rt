@@ -14,6 +14,7 @@ use layout::Loop;
 use whole::History;
 
 // What encoding one frame returns.
+// Stays: a code beside values, here and below, since C takes no Result (include/doilycairn.h, "Answers").
 #[repr(C)]
 #[derive(Drop)]
 pub struct Frame {
@@ -51,17 +52,20 @@ pub extern "C" fn doilycairn_encode_frame(
     ensures { result ≡ frame_seen (encode_one_frame history samples.now coefficients.now) }
 {
     let answer = frame::encode_one_frame(history, *samples, *coefficients);
-    let frame = answer.unwrap_or(OneFrame {
+    let OneFrame {
+        bytes,
+        passes,
+        history,
+    } = answer.unwrap_or(OneFrame {
         bytes: [0; 8],
         passes: 0,
         history,
     });
-    let bytes = frame.bytes;
     Frame {
         code: code_of(&answer),
         bytes,
-        passes: frame.passes,
-        history: frame.history,
+        passes,
+        history,
     }
 }
 
@@ -99,6 +103,7 @@ pub extern "C" fn doilycairn_start(
 
 // Starts a clip with a loop.
 #[unsafe(no_mangle)]
+// Stays: beside doilycairn_start, since C calls each by its name.
 pub extern "C" fn doilycairn_start_loop(
     total: u32,
     rate: u32,

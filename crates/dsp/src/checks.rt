@@ -17,6 +17,7 @@ use block::part::context_after;
 use image::bodies::{find_body, read_context, read_entry};
 use image::heading::read_coefficients;
 use layout::fields::{get16, get32};
+use layout::{LEAST_BLOCK, MOST_BLOCK};
 use whole::{BYTES_PER_FRAME, MOST_SAMPLES, SAMPLES_PER_FRAME};
 
 // ---- import
@@ -31,7 +32,7 @@ fn needed(total: u32) -> usize
     }
     let n = total as usize;
     let before = n.div_ceil(SAMPLES_PER_FRAME) - 1;
-    BYTES_PER_FRAME * before + 1 + (n - SAMPLES_PER_FRAME * before + 1) / 2
+    BYTES_PER_FRAME * before + 1 + (n - SAMPLES_PER_FRAME * before).div_ceil(2)
 }
 
 // Whether the file has its header and the body bytes that its count needs.
@@ -124,7 +125,7 @@ pub(crate) fn accept(bytes: &[u8], size: u32) -> Result<File, Refusal>
     if file.rate() == 0 {
         return Err(Refusal::RateZero);
     }
-    if !(8..=65_536).contains(&size) {
+    if !(LEAST_BLOCK..=MOST_BLOCK).contains(&size) {
         return Err(Refusal::BadBlockSize);
     }
     if !file.fields_ok() {

@@ -33,6 +33,7 @@ fn put_addresses(header: &mut [u8; HEADER_BYTES], looped: Loop)
 }
 
 // Flag, zero, addresses and the number 2: bytes 12 to 27.
+// Stays: the flag beside the loop, since header_bytes has the image's own number of loops there.
 fn put_looped(header: &mut [u8; HEADER_BYTES], flag: u16, looped: Loop)
     requires { Looping looped }
     ensures { header.new ≡ sets header.old 12 (be16 flag ++ (be16 0 ++ (address_bytes looped ++ be32 2))) }
@@ -41,20 +42,6 @@ fn put_looped(header: &mut [u8; HEADER_BYTES], flag: u16, looped: Loop)
     put16(header, 14, 0);
     put_addresses(header, looped);
     put32(header, 24, 2);
-}
-
-// A header byte and the history samples, two bytes each.
-// Stays: a place and no part of the header, since the places are the numbers that the document gives its fields.
-fn put_context_fields(header: &mut [u8; HEADER_BYTES], at: usize, context: FrameContext)
-    requires { at ≤ 90 }
-    ensures { header.new ≡ sets header.old at (context_fields context) }
-{
-    put_context(
-        header,
-        at,
-        context.predictor_and_scale,
-        context.last_samples,
-    );
 }
 
 // Gain, both contexts and zeros: bytes 60 to 95.
@@ -67,8 +54,8 @@ fn put_contexts(
     ensures { header.new ≡ sets header.old 60 (be16 gain ++ (context_fields first ++ (context_fields looped ++ replicate 22 0))) }
 {
     put16(header, 60, gain);
-    put_context_fields(header, 62, first);
-    put_context_fields(header, 68, looped);
+    put_context(header, 62, first);
+    put_context(header, 68, looped);
     zeros(header, 74, 22);
 }
 

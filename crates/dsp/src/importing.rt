@@ -26,6 +26,7 @@ fn put_marked(image: &mut [u8], given: Start, blocks: u32)
 
 impl<'a> File<'a> {
     // The contents: each block's entry, its context worked out by playing the blocks before it.
+    // Stays: clip's put_table writes the same entries with no context; its contexts as a closure would say in its contract what this says.
     fn put_contents(&self, shape: Shape, image: &mut [u8])
         requires { Tabled self.now shape (length image.old) }
         ensures { image.new ≡ sets image.old 56 (table_bytes (context_before self.now shape.block) shape 0 (block_count shape)) }

@@ -36,8 +36,8 @@ pub enum Refusal {
 impl From<image::Refusal> for Refusal {
     ghost from_gives = { λ why refusal. refusal ≡ OfImage why };
 
-    fn from(why: image::Refusal) -> Refusal {
-        Refusal::OfImage(why)
+    fn from(refused: image::Refusal) -> Refusal {
+        Refusal::OfImage(refused)
     }
 }
 

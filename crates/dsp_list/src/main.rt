@@ -8,8 +8,8 @@
 #![tactic(auto)]
 
 use dsp::Refusal;
-use replay::{Digits, Number, buffers, read_line, told};
-use std::io::{self, BufReader, BufWriter, Write};
+use replay::{Digits, Number, Replay, buffers, replay_lines, told};
+use std::io::{self, Write};
 use std::mem;
 
 // A call on the source and the output.
@@ -57,7 +57,7 @@ fn write_answer(
     shown: bool,
 ) -> io::Result<()> {
     let (code, block) = told(&done);
-    let count = done.unwrap_or(0);
+    let count = done.unwrap_or_default();
     let digest = buffers::digest(out);
     write!(writer, "{code:02x} {block:08x} {count:08x} {digest:010x}")?;
     if shown {
@@ -73,8 +73,8 @@ struct Buffers {
     out: [u8; 1024],
 }
 
-impl Buffers {
-    // Replays a line; a call is made on the first bytes of the buffers.
+impl Replay<32> for Buffers {
+    // A call is made on the first bytes of the buffers.
     fn replay(&mut self, writer: &mut impl Write, line: &[u8; 32]) -> io::Result<()> {
         match Step::from(line[0]) {
             Step::Put => buffers::put::<12>(line, &mut self.source),
@@ -94,17 +94,9 @@ impl Buffers {
 
 // Replays every line of the list.
 fn main(rt: HostRuntime) -> io::Result<()> {
-    let mut reader = BufReader::new(rt.alloc(), rt.reader())?;
-    let mut writer = BufWriter::new(rt.alloc(), io::writer(&rt))?;
     let mut buffers = Buffers {
         source: [0; 1024],
         out: [0; 1024],
     };
-    for _ in 0..4_000_000_000u32 {
-        let Some(line) = read_line(&mut reader)? else {
-            break;
-        };
-        buffers.replay(&mut writer, &line)?;
-    }
-    writer.flush()
+    replay_lines(&rt, &mut buffers, 4_000_000_000)
 }

@@ -18,5 +18,6 @@ pub mod Sizes
 mod SpecialValues
 mod Sticky
 mod StickyRounding
+mod TwoWordSums
 mod Shifts
 pub mod Value

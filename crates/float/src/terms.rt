@@ -5,6 +5,8 @@ ghost use Rattle.float.specs.inner.Sticky.{Sticky};
 ghost use Rattle.float.specs.inner.Terms.{Merged};
 
 // The number ±size * 2^exponent, in a unit that its user names.
+// Stays: `exponent < 8000` is asked in three places and is no ghost field: a literal of a struct with one takes no `..`, so `raised` and
+// `plus` would name each field, and `raised` would ask it as well.
 #[derive(Clone, Copy)]
 pub(crate) struct Term {
     pub negative: bool,

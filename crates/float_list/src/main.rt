@@ -3,8 +3,8 @@
 // output is the answer's pattern, one and the same for every NaN.
 #![tactic(auto)]
 
-use replay::{Number, read_line};
-use std::io::{self, BufReader, BufWriter, Write};
+use replay::{Number, Replay, replay_lines};
+use std::io::{self, Write};
 use std::num::{f64_from_bits_with_nan, f64_to_bits_with_nan};
 
 // A function of the list.
@@ -41,24 +41,21 @@ impl Function {
     }
 }
 
-// Replays one line.
-fn replay(writer: &mut impl Write, line: &[u8; 53]) -> io::Result<()> {
-    let a = f64_from_bits_with_nan(u64::read(line, 2));
-    let b = f64_from_bits_with_nan(u64::read(line, 19));
-    let c = f64_from_bits_with_nan(u64::read(line, 36));
-    let answer = Function::from(line[0]).answer(a, b, c);
-    writeln!(writer, "{:016x}", f64_to_bits_with_nan(answer))
+// The list of answers.
+#[derive(Drop)]
+struct Answers;
+
+impl Replay<53> for Answers {
+    fn replay(&mut self, writer: &mut impl Write, line: &[u8; 53]) -> io::Result<()> {
+        let a = f64_from_bits_with_nan(u64::read(line, 2));
+        let b = f64_from_bits_with_nan(u64::read(line, 19));
+        let c = f64_from_bits_with_nan(u64::read(line, 36));
+        let answer = Function::from(line[0]).answer(a, b, c);
+        writeln!(writer, "{:016x}", f64_to_bits_with_nan(answer))
+    }
 }
 
 // Replays every line of the input.
 fn main(rt: HostRuntime) -> io::Result<()> {
-    let mut reader = BufReader::new(rt.alloc(), rt.reader())?;
-    let mut writer = BufWriter::new(rt.alloc(), io::writer(&rt))?;
-    for _ in 0..1_000_000u32 {
-        let Some(line) = read_line(&mut reader)? else {
-            break;
-        };
-        replay(&mut writer, &line)?;
-    }
-    writer.flush()
+    replay_lines(&rt, &mut Answers, 1_000_000)
 }

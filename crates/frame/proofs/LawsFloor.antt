@@ -7,7 +7,7 @@ use native.Mathlib.Decide.{dec_le}
 use native.Mathlib.Omega.{arith}
 use lib.Dec.{T, ltb}
 use lib.IntN.{ℤ, pos, negsuc, nat_abs, ◌-ℤ◌}
-use lib.Signed.{lt_z, shr_z, mag, non_neg}
+use lib.Signed.{lt_z, shr_z, mag}
 use borrow.Author.Tests.{ltb-true, ltb-false}
 use mir.Syntax.{Width, w16, w32}
 use mir.Val.{SFits, hbits, to_z, of_z}
@@ -15,7 +15,6 @@ use Rattle.whole.proofs.SignedLocals.{Is, is-in, is-cast, sfits-abs}
 use Rattle.whole.proofs.Differences.{Diff, diff-of, diff-pos, diff-add, diff-sub, diff-times, diff-move, diff-same, diff-eq}
 use Rattle.whole.proofs.Differences.{abs_diff, over, under, left, floor-law}
 use Rattle.frame.specs.Quantise.{clamp4}
-use Rattle.frame.proofs.LawsOrder.{none_below}
 use Rattle.frame.proofs.LawsQuantise.{excess-low, excess-high, excess-none}
 
 -- ---- division rounded down
@@ -84,16 +83,6 @@ wide f = is-cast (is-in f) tt
 pub fits-call : {w : Width} {r z : ℤ} {n : ℕ} → r ≡ z → nat_abs z ≤ n → T (ltb n (2 ^ hbits w)) → SFits w r
 fits-call {w} e h t = subst (λ (v : ℤ). SFits w v) (sym e) (sfits-abs h t)
 
--- the magnitude of a negative number is −1 less it
-pub mag-below : (v : ℤ) → lt_z v (pos 0) ≡ true → negsuc 0 -ℤ v ≡ pos (mag v)
-mag-below (pos n) e = absurd (none_below n (ltb-true n 0 e))
-mag-below (negsuc n) e = diff-eq (diff-sub (diff-of (negsuc 0)) (diff-of (negsuc n))) (diff-pos n) (omega arith)
-
--- and of another it is the number itself
-pub mag-above : (v : ℤ) → lt_z v (pos 0) ≡ false → v ≡ pos (mag v)
-mag-above (pos n) e = refl
-mag-above (negsuc n) e = absurd (subst T e tt)
-
 -- a number of 16 bits has a magnitude below 32768
 pub mag-16 : (z : ℤ) → SFits w16 z → mag z ≤ 32767
 mag-16 z f = let l = f.sfits in omega arith
@@ -108,7 +97,3 @@ apart-16 x y f g =
     limits : (z : ℤ) → SFits w16 z → (over z ≤ under z + 32767) × (under z ≤ over z + 32768)
     limits (pos m) f = let h = f.sfits in (omega arith, omega arith)
     limits (negsuc m) f = let h = f.sfits in (omega arith, omega arith)
-
-pub non-negative : (z : ℤ) → T (non_neg z) → z ≡ pos (nat_abs z)
-non-negative (pos n) t = refl
-non-negative (negsuc n) t = absurd t

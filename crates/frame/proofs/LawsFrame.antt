@@ -1,15 +1,18 @@
 -- Laws of the encoded frame.
-use mathlib.Core.Path.{◌≡◌, refl, sym, subst}
+use mathlib.Core.Path.{◌≡◌, refl, sym, ap, ◌∙◌, subst}
 use mathlib.Core.Bool.{Bool, true, false, cond, ◌&&◌}
-use mathlib.Core.List.{List}
-use Prim.Native.Nat.{ℕ, zero, suc, ◌+◌, ◌-◌, ◌≤◌, ◌<◌}
+use mathlib.Core.List.{List, ◌++◌}
+use Prim.Native.Nat.{ℕ, zero, suc, ◌+◌, ◌-◌, ◌*◌, ◌≤◌, ◌<◌}
 use native.Mathlib.Numerals.{add-one}
 use native.Mathlib.Nat.{lt_of_not-le}
 use native.Mathlib.Decide.{dec_le}
 use native.Mathlib.Omega.{arith}
 use borrow.Author.Tests.{leb-true, le-leb}
 use lib.IntN.{ℤ, pos, nat_abs}
-use lib.ListN.{get_or}
+use lib.ListN.{get_or, length, drop}
+use Rattle.std.proofs.Common.{length-append, length-drop}
+use Rattle.std.proofs.Math.Seq.{drop-append_seam}
+use Rattle.std.proofs.lemmas.List.{get_or-drop, get_or_append_left, drop-drop}
 use Rattle.whole.specs.declared.History.{History}
 use Rattle.frame.specs.Pass.{pair_limit, Bounded}
 use Rattle.frame.specs.Choice.{c0_at, c1_at, AllBounded}
@@ -72,6 +75,21 @@ pairs-at cs (suc k) i l e = go (dec_le k i) (pairs-at cs k i)
     go : Dec (k ≤ i) → (i < k → pairs_ok cs k ≡ true → pair_ok (c0_at cs i) (c1_at cs i) ≡ true) → pair_ok (c0_at cs i) (c1_at cs i) ≡ true
     go (yes m) r = let x : k ≡ i = omega arith in subst (λ (j : ℕ). pair_ok (c0_at cs j) (c1_at cs j) ≡ true) x t.1
     go (no m) r = r (lt_of_not-le m) t.0
+
+-- a chunk of two is the next pair
+pub next_pair : (cs p r : List ℤ) (k : ℕ) → drop (2 * k) cs ≡ p ++ r → length p ≡ 2 → length cs ≡ 16
+    → (k < 8) × (get_or p 0 (pos 0) ≡ c0_at cs k) × (get_or p 1 (pos 0) ≡ c1_at cs k) × (r ≡ drop (2 * (k + 1)) cs)
+next_pair cs p r k e l n =
+    let a = ap length e in
+    let at : (i : ℕ) → i < 2 → get_or p i (pos 0) ≡ get_or cs (2 * k + i) (pos 0) =
+    λ i h. sym (get_or_append_left p r (pos 0) i (omega (arith, l))) ∙ ap (λ (xs : List ℤ). get_or xs i (pos 0)) (sym e) ∙ get_or-drop (2 * k) cs i (pos 0) in
+    let z : 2 * k + 0 ≡ 2 * k = omega arith in
+    let s : 2 * k + 2 ≡ 2 * (k + 1) = omega arith in (
+      omega (arith, a, length-drop (2 * k) cs, length-append p r),
+      at 0 (omega arith) ∙ ap (λ (j : ℕ). get_or cs j (pos 0)) z,
+      at 1 (omega arith),
+      sym (drop-append_seam p r) ∙ ap (λ (j : ℕ). drop j (p ++ r)) l ∙ ap (drop 2) (sym e) ∙ drop-drop 2 (2 * k) cs ∙ ap (λ (j : ℕ). drop j cs) s,
+    )
 
 -- one pair beyond the limit is enough for a refusal
 pub limit-broken : (cs : List ℤ) (i : ℕ) → i < 8 → pair_ok (c0_at cs i) (c1_at cs i) ≡ false → false ≡ coefficients_ok cs

@@ -1,5 +1,5 @@
 -- Laws of nibbles in bytes.
-use mathlib.Core.Path.{◌≡◌, refl, ap, ◌∙◌, subst}
+use mathlib.Core.Path.{◌≡◌, refl, ap, ◌∙◌}
 use mathlib.Core.Bool.{Bool, true, false, cond}
 use mathlib.Core.List.{List, [], ◌∷◌, ◌++◌}
 use Prim.Native.Nat.{ℕ, zero, suc, ◌+◌, ◌-◌, ◌*◌, ◌/◌, ◌%◌, ◌≤◌, ◌<◌}
@@ -7,12 +7,11 @@ use native.Mathlib.Numerals.{add-one}
 use native.Mathlib.Nat.{lt_of_not-le}
 use native.Mathlib.Decide.{dec_le}
 use native.Mathlib.Omega.{arith}
-use lib.Dec.{T, ltb, eqb}
-use lib.IntN.{ℤ, pos, negsuc, nat_abs, ◌+ℤ◌}
+use lib.Dec.{ltb, eqb}
+use lib.IntN.{ℤ, pos, negsuc, nat_abs}
 use lib.ListN.{get_or, take, set, length, length-append, get_or-append}
 use lib.Seq.{take-suc-set, get_or_at}
-use lib.Signed.{lt_z}
-use borrow.Author.Tests.{ltb-true, lt-ltb, le-ltb, eqb-true, eqb-false}
+use borrow.Author.Tests.{lt-ltb, le-ltb, eqb-true, eqb-false}
 use Rattle.whole.proofs.Differences.{diff-of, diff-pos, diff-sub, diff-eq}
 use Rattle.frame.specs.Frame.{low_four, byte_of, pack_frame, nibble_at}
 use Rattle.frame.specs.inner.Nibbles.{InNibble, up, down}
@@ -27,16 +26,6 @@ pub low-lt : {z : ℤ} → InNibble z → low_four z < 16
 unfolding low_four
 low-lt (up h) = omega arith
 low-lt (down h) = omega arith
-
-pub low-neg : {z : ℤ} → InNibble z → lt_z z (pos 0) ≡ true → z +ℤ pos 16 ≡ pos (low_four z)
-unfolding low_four
-low-neg (up {n} h) e = absurd (none_below n (ltb-true n 0 e))
-low-neg (down {n} h) e = rw (le-ltb 16 (suc n) (omega arith)) (ap pos (omega arith))
-
-pub low-pos : {z : ℤ} → InNibble z → lt_z z (pos 0) ≡ false → z ≡ pos (low_four z)
-unfolding low_four
-low-pos (up h) e = refl
-low-pos (down h) e = absurd (subst T e tt)
 
 pub pack-more : (h : ℕ) (ns : List ℤ) (k : ℕ) (out : List ℕ) (b : ℕ) → k + 1 < length out → take (k + 1) out ≡ pack_frame h ns k → b ≡ byte_of ns k
     → take ((k + 1) + 1) (set out (k + 1) b) ≡ pack_frame h ns (k + 1)

@@ -7,7 +7,7 @@ use native.Mathlib.Numerals.{add-one}
 use native.Mathlib.Nat.{le_refl, le_trans, le_of_eq, mul-le-mul, lt_of_not-le}
 use native.Mathlib.Decide.{dec_le}
 use native.Mathlib.Omega.{arith}
-use lib.IntN.{ℤ, pos, negsuc, nat_abs, ◌+ℤ◌, ◌-ℤ◌, ◌*ℤ◌}
+use lib.IntN.{ℤ, pos, negsuc, nat_abs, ◌+ℤ◌, ◌*ℤ◌}
 use lib.Signed.{lt_z}
 use borrow.Author.Tests.{ltb-false}
 use lib.ListN.{get_or, take, set, length, length-append, get_or-append}
@@ -29,7 +29,6 @@ use Rattle.frame.specs.inner.Nibbles.{InNibble, up, down}
 use Rattle.frame.specs.Fits.{Fit, FitHistory}
 use Rattle.frame.proofs.LawsOrder.{none_below}
 use Rattle.frame.proofs.LawsEstimate.{weigh-size}
-use Rattle.frame.proofs.LawsFloor.{apart-16}
 use Rattle.frame.proofs.LawsQuantise.{quantise-size, quantise-12, clamp4-size, clamp4-excess}
 
 -- ---- sizes
@@ -50,14 +49,6 @@ step-overflow c0 c1 s0 s1 x p l f g h =
     let u = quantise (residual c0 c1 s0 s1 x) p in
     let r = residual-size c0 c1 s0 s1 x l f g h in
     omega (arith, abs-sub u (clamp4 u), clamp4-size u, quantise-size (residual c0 c1 s0 s1 x) p (omega arith))
-
--- the square of a difference has 32 bits
-pub square-lt : (x y : ℤ) → SFits w16 x → SFits w16 y → squared_difference x y < 4294967296
-unfolding squared_difference
-square-lt x y f g =
-    let l = apart-16 x y f g in
-    let m : nat_abs (x -ℤ y) * nat_abs (x -ℤ y) ≤ 65535 * 65535 = mul-le-mul l l in
-    omega arith
 
 -- ---- playing gives what encoding reconstructed
 

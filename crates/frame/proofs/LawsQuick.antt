@@ -10,7 +10,7 @@ use native.Mathlib.Omega.{arith}
 use lib.Dec.{T, ltb, ltb→lt}
 use lib.Pow.{pow_mono, pow_pos, pow-add}
 use lib.IntN.{ℤ, pos, negsuc, neg_ℤ, nat_abs, ◌+ℤ◌, ◌-ℤ◌, ◌*ℤ◌}
-use lib.ListN.{length, get_or, set, length-set, replicate, get_or-replicate}
+use lib.ListN.{length, get_or, set, length-set}
 use lib.Seq.{get_or-set_same, get_or-set_other}
 use lib.Signed.{lt_z, shr_z}
 use borrow.Author.Tests.{leb-true}
@@ -396,13 +396,3 @@ roomy-is c0 c1 e = record { sum = leb-true (nat_abs c0 + nat_abs c1) 57344 e }
 
 pub roomy-bounded : {c0 c1 : ℤ} → Roomy c0 c1 → Bounded c0 c1
 roomy-bounded h = record { sum = omega (arith, h.sum) }
-
--- the arrays that a search begins with
-pub spare-fresh : Spare (replicate 16 (pos 1024)) (replicate 16 (pos 0))
-spare-fresh = record {
-  w-length = refl;
-  s-length = refl;
-  w-size = λ i h. subst (λ (z : ℤ). nat_abs z ≤ 2017460224) (sym (get_or-replicate 16 i (pos 1024) (pos 0) h)) (omega arith);
-  w-after = λ i l h. get_or-replicate 16 i (pos 1024) (pos 0) h;
-  s-after = λ i l h. get_or-replicate 16 i (pos 0) (pos 0) h;
-}

@@ -21,10 +21,12 @@ fn difference(pair: Pair, previous: i16, before: i16, sample: i16) -> i16
     ensures { result ≡ difference pair.c0 pair.c1 previous before sample }
 {
     let predicted = whole::quotient_2048(pair.weigh(previous, before));
-    (i32::from(sample) - predicted).clamp(-32768, 32767) as i16
+    whole::clamp_i16(i64::from(i32::from(sample) - predicted))
 }
 
 // The difference of the frame's sample i.
+// Stays: pair and frame are two arguments, here and in other modules: their facts are in the types, and a struct of both would make
+// each clause longer.
 fn difference_at(pair: Pair, frame: &Frame, i: usize) -> i16
     requires { i < 14 }
     ensures { result ≡ difference_at pair.c0 pair.c1 frame.now.samples i }
@@ -43,6 +45,7 @@ fn ends_of(pair: Pair, frame: &Frame) -> Ends
 {
     let mut high: i16 = 0;
     let mut low: i16 = 0;
+    // Stays: two places a turn, so that the compiler makes vectors of it (docs/PROVING.md, "Fast forms").
     for i in 0..8 {
         let d = difference_at(pair, frame, i);
         let e = difference_at(pair, frame, i + 6);
@@ -66,6 +69,7 @@ fn exponent(m: u32) -> Exponent
 fn is_first(pair: Pair, frame: &Frame, n: u16) -> bool
     ensures { result ≡ up_first pair.c0 pair.c1 frame.now.samples n 14 0 }
 {
+    // Stays: the place is an argument of `difference_at`, so a chain would go over the numbers too.
     for i in 0..14 {
         let d = difference_at(pair, frame, i);
         if d.unsigned_abs() == n {

@@ -65,6 +65,7 @@ pub struct OneFrame {
 }
 
 // Whether the magnitudes of c0 and c1 add up to 61440 at most.
+// Stays: a line over `magnitudes`, as `is_roomy` is; the edits sum_above_by_one and limit_below_by_one turn its limit here.
 fn pair_ok(c0: i16, c1: i16) -> bool
     ensures { result ≡ pair_ok c0 c1 }
 {
@@ -75,8 +76,8 @@ fn pair_ok(c0: i16, c1: i16) -> bool
 pub fn coefficients_ok(coefficients: [i16; 16]) -> bool
     ensures { result ≡ coefficients_ok coefficients }
 {
-    for i in 0..8 {
-        if !pair_ok(coefficients[2 * i], coefficients[2 * i + 1]) {
+    for pair in coefficients.chunks_exact(2) {
+        if !pair_ok(pair[0], pair[1]) {
             return false;
         }
     }
@@ -103,6 +104,7 @@ pub fn encode_frame(history: History, samples: [i16; 14], coefficients: [i16; 16
 }
 
 // The history after the first m reconstructed samples of a frame. It is internal: crate clip calls it.
+// Stays: m beside the samples, since docs/DECISIONS.md names the function and its m = 0.
 pub fn history_after(history: History, samples: [i16; 14], m: usize) -> History
     requires { m ≤ 14 }
     ensures { result ≡ history_after history samples m }

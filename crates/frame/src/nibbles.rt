@@ -4,6 +4,8 @@ ghost use Rattle.frame.specs.Frame.{low_four, pack_frame};
 ghost use Rattle.frame.specs.inner.Nibbles.{InNibble};
 
 // The four bits of a nibble.
+// Stays: InNibble is asked, here and where nibbles are packed and finished, and is no type's, since a nibble is an i8 in Pass and an
+// i16 in Seen.
 fn low_four(n: i8) -> u8
     requires { InNibble n }
     ensures bits { result ≡ low_four n }
@@ -19,6 +21,7 @@ pub(crate) fn pack_frame(header: u8, nibbles: [i8; 14]) -> [u8; 8]
 {
     let mut out = [0u8; 8];
     out[0] = header;
+    // Stays: each turn reads two places by one number; chunks zipped with the bytes would be no plainer.
     for k in 0..7 {
         let hi = low_four(nibbles[2 * k]);
         let lo = low_four(nibbles[2 * k + 1]);

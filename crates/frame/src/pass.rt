@@ -19,6 +19,7 @@ pub(crate) struct Step {
 }
 
 // A whole pass: the largest overflow and the sum of squared differences.
+// Stays: two arrays, here and in Coded, as `pack_frame` takes the nibbles alone and the history comes of the samples.
 #[derive(Clone, Copy)]
 pub(crate) struct Pass {
     pub nibbles: [i8; 14],
@@ -80,6 +81,7 @@ pub(crate) fn run_pass(pair: Pair, frame: &Frame, p: Exponent) -> Pass
     let mut distance: u64 = 0;
     let mut s0 = frame.samples[1];
     let mut s1 = frame.samples[0];
+    // Stays: by place, since three arrays and more go by one; a chain of zips would be no plainer.
     for i in 0..14 {
         let x = frame.samples[i + 2];
         let step = code_sample(pair, s0, s1, x, p);

@@ -6,6 +6,7 @@ ghost use Rattle.frame.specs.inner.Quick.{Fine};
 use whole::History;
 
 // The older and the newest sample before a frame, its fourteen samples, two zeros; and the last sixteen, each times 2048 * (2^32 - 1).
+// Stays: `fine` beside the samples that it is made of, so that the passes of all eight pairs share it.
 #[derive(Drop)]
 pub(crate) struct Frame {
     pub samples: [i16; 18],
@@ -42,6 +43,7 @@ fn fine_of(frame: &[i16; 18]) -> [i64; 16]
     ensures { Fine frame.now result }
 {
     let mut out = [0i64; 16];
+    // Stays: by place, since with `array::from_fn` the search did not find what the closure's call gives, and the proof did not close.
     for i in 0..16 {
         out[i] = 8796093020160 * i64::from(frame[i + 2]);
     }

@@ -14,7 +14,7 @@ fn with_sign(z: i64, n: u64) -> i64
 }
 
 // m / 2^k to the nearest whole number, a tie to the even one.
-// Stays: crate float's of this name divides by any number, this one shifts; neither is plainer by the other.
+// Stays: crate float's of this name is its own and takes all 64 bits by branches; m is short here, so a sum and a shift say it.
 fn nearest_even(m: u64, k: u32) -> u64
     requires m_bound { m ≤ 2147483648 }
     requires le_k { (1 ≤ k) × (k ≤ 8) }

@@ -82,6 +82,7 @@ fn begun(y: i64, e: i64, c1: i64, older: i64) -> i64
 
 // Whether s has more than 16 bits.
 // Stays: the wrong program `sample_32768_kept` moves this bound, which `i16::try_from` would have in itself.
+#[tactic(auto, unfolding(crate::specs::inner::Quick::is_beyond))]
 fn is_beyond(s: i64) -> bool
     ensures { result ≡ is_beyond s }
 {
@@ -89,6 +90,7 @@ fn is_beyond(s: i64) -> bool
 }
 
 // A pass at exponent p into `room`; none where a sample has more than 16 bits.
+// Stays: `run_pass` holds of every pass; this one, by plain sums, is for speed (docs/PROVING.md, "Speed").
 pub(crate) fn run_quick(pair: Pair, frame: &Frame, p: Exponent, room: &mut Room) -> Option<()>
     requires { Roomy pair.c0 pair.c1 }
     ensures { IfSome result (λ _. Traces pair.c0 pair.c1 (history_of frame.now.samples) (samples_of frame.now.samples) p.value room.new.w room.new.s) }
@@ -99,6 +101,7 @@ pub(crate) fn run_quick(pair: Pair, frame: &Frame, p: Exponent, room: &mut Room)
     let mut newest = i64::from(frame.samples[1]);
     let mut y = frame.fine[0] + k.half;
     let mut g = begun(y, k.eight, b, i64::from(frame.samples[0]));
+    // Stays: by place, since three arrays and more go by one; a chain of zips would be no plainer.
     for i in 0..14 {
         let t = trace(y, g, newest, a, k);
         let sample = t.s;

@@ -39,6 +39,7 @@ fn raise(first: Exponent, overflow: u64) -> Exponent
 }
 
 // Whether a pass ends the search.
+#[tactic(auto, using(std::proofs::lemmas::Bool::Decides::nat_tests), unfolding(crate::specs::Search::is_last))]
 fn is_last(p: Exponent, overflow: u64) -> bool
     ensures { result ≡ is_last p.value overflow }
 {

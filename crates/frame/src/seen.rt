@@ -23,6 +23,7 @@ pub(crate) struct Seen {
 
 impl Seen {
     // The candidate that this pass finishes, its samples in `room`.
+    // Stays: beside the one of a Pass, which has its samples within it and its nibbles as they are kept.
     pub(crate) fn finished(self, room: &Room, exponent: Exponent, passes: u32) -> Coded
         requires { (k : ℕ) → k < 14 → InNibble (get_or self.nibbles k (pos 0)) }
         ensures { result ≡ finished (pass_of self room.now.s) exponent.value passes }
@@ -50,7 +51,7 @@ fn narrowed_steps(w: i32, p: Exponent) -> i16
     requires { nat_abs w ≤ 2017460224 }
     ensures { result ≡ clamp16 (steps_of w p.value) }
 {
-    ((w - (16384i32 << p.value)) >> (p.value + 11)).clamp(-32768, 32767) as i16
+    whole::clamp_i16(i64::from((w - (16384i32 << p.value)) >> (p.value + 11)))
 }
 
 // n, or -1 - n below 0.
@@ -81,6 +82,7 @@ pub(crate) fn show(frame: &Frame, room: &Room, p: Exponent) -> Option<Seen>
     let mut near: u32 = 0;
     let mut high: u32 = 0;
     let mut low: u32 = 0;
+    // Stays: by place, since three arrays and more go by one; a chain of zips would be no plainer.
     for i in 0..16 {
         let w = room.w[i];
         let n = narrowed_steps(w, p);

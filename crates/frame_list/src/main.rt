@@ -6,8 +6,8 @@
 ghost use Rattle.std.specs.Prelude.{◌≤◌};
 ghost use Rattle.frame.specs.Choice.{AllBounded};
 
-use replay::{Digits, Number, numbers, read_line};
-use std::io::{self, BufReader, BufWriter, Write};
+use replay::{Digits, Number, Replay, numbers, replay_lines};
+use std::io::{self, Write};
 use whole::{History, Reason};
 
 // The history after m real samples: the one-frame call's where the frame is full.
@@ -19,37 +19,34 @@ fn history_after(history: History, samples: [i16; 14], coefficients: [i16; 16], 
     frame::history_after(history, encoded.samples, m)
 }
 
-// Replays one line.
-fn replay(writer: &mut impl Write, line: &[u8; 135]) -> io::Result<()> {
-    let real = usize::from(u8::read(line, 0)).min(14);
-    let history = History {
-        newest: i16::read(line, 3),
-        older: i16::read(line, 8),
-    };
-    let samples = numbers(line, 13);
-    let coefficients = numbers(line, 70);
-    let one = match frame::encode_one_frame(history, samples, coefficients) {
-        Ok(one) => one,
-        Err(why) => return writeln!(writer, "refused {}", why.code()),
-    };
-    let after = if real < 14 {
-        history_after(history, samples, coefficients, real)
-    } else {
-        one.history
-    };
-    write!(writer, "{} {:02x}", Digits(&one.bytes), one.passes)?;
-    writeln!(writer, " {:04x} {:04x}", after.newest, after.older)
+// The list of frames.
+#[derive(Drop)]
+struct Frames;
+
+impl Replay<135> for Frames {
+    fn replay(&mut self, writer: &mut impl Write, line: &[u8; 135]) -> io::Result<()> {
+        let real = usize::from(u8::read(line, 0)).min(14);
+        let history = History {
+            newest: i16::read(line, 3),
+            older: i16::read(line, 8),
+        };
+        let samples = numbers(line, 13);
+        let coefficients = numbers(line, 70);
+        let one = match frame::encode_one_frame(history, samples, coefficients) {
+            Ok(one) => one,
+            Err(why) => return writeln!(writer, "refused {}", why.code()),
+        };
+        let after = if real < 14 {
+            history_after(history, samples, coefficients, real)
+        } else {
+            one.history
+        };
+        write!(writer, "{} {:02x}", Digits(&one.bytes), one.passes)?;
+        writeln!(writer, " {:04x} {:04x}", after.newest, after.older)
+    }
 }
 
-// Replays line after line.
+// Replays every line of the input.
 fn main(rt: HostRuntime) -> io::Result<()> {
-    let mut reader = BufReader::new(rt.alloc(), rt.reader())?;
-    let mut writer = BufWriter::new(rt.alloc(), io::writer(&rt))?;
-    for _ in 0..1_000_000u32 {
-        let Some(line) = read_line(&mut reader)? else {
-            break;
-        };
-        replay(&mut writer, &line)?;
-    }
-    writer.flush()
+    replay_lines(&rt, &mut Frames, 1_000_000)
 }

@@ -12,6 +12,7 @@ use block::FrameContext;
 fn heads_agree(first: Head, second: Head) -> bool
     ensures { result ≡ same_head first second }
 {
+    // Stays: not == of two heads, since same_head leaves K out.
     first.total == second.total
         && first.rate == second.rate
         && first.gain == second.gain
@@ -24,6 +25,7 @@ fn heads_agree(first: Head, second: Head) -> bool
 fn contexts_agree(first: FrameContext, second: FrameContext) -> bool
     ensures { result ≡ same_context first second }
 {
+    // Stays: not ==, since the top bit of a header does not count (edit top_bit_compared).
     let headers = first.predictor_and_scale % 128 == second.predictor_and_scale % 128;
     headers && first.last_samples == second.last_samples
 }

@@ -33,7 +33,6 @@ pub(crate) fn room_answer(coefficients: [i16; 16], samples: u64, room: usize) ->
     if lowest_pair(coefficients) {
         return Err(Refusal::LowestPair);
     }
-    // Stays: `as`, since Rust has no From of usize for u64.
     let short = (room as u64) < samples;
     if short {
         return Err(Refusal::OutputTooShort);

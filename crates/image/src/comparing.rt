@@ -32,6 +32,7 @@ fn frame_samples(total: usize, i: usize) -> usize
 }
 
 // `count` samples of the frame at a byte.
+// Stays: block's frame_context keeps the context alone; both are one call of play_frame to a frame's room.
 fn played_frame(
     image: &[u8],
     at: usize,
@@ -48,6 +49,7 @@ fn played_frame(
 }
 
 // Whether the first `count` samples are equal.
+// Stays: a count beside two frames, since the last frame of a clip has fewer samples; the law of equal_up_to is found here once.
 fn equal_part(xs: [i16; 14], ys: [i16; 14], count: usize) -> bool
     requires { count ≤ 14 }
     ensures { result ≡ equal_up_to xs ys count }

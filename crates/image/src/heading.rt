@@ -1,4 +1,5 @@
 // The head of an image.
+// Stays: 56 bytes are asked of four of these and no type says it, since dsp reads a file's coefficients by this too.
 ghost use Rattle.std.specs.Prelude.{◌≡◌, ◌+◌, ◌≤◌, length};
 ghost use Rattle.layout.specs.Fields.{at16};
 ghost use Rattle.image.specs.Reading.{signed_at, coefficients_in, head_in, shape_in};
@@ -57,6 +58,7 @@ pub fn read_shape(image: &[u8]) -> Shape
 }
 
 // The number of 16 bits that two bytes are. It is internal: crate dsp calls it.
+// Stays: get16 gives 32 bits, as its other callers compare numbers of 32 bits; docs/changes/06-dsp-files.md names word_at.
 pub fn word_at(image: &[u8], at: usize) -> u16
     requires { at + 2 ≤ length image.now }
     ensures { result ≡ at16 image.now at }
@@ -73,6 +75,7 @@ pub(crate) fn signed_at(image: &[u8], at: usize) -> i16
 }
 
 // The sixteen coefficients. It is internal: crate dsp calls it.
+// Stays: by array::from_fn the proof did not close: the closure's image is known of each call only through the calls before it.
 pub fn read_coefficients(image: &[u8]) -> [i16; 16]
     requires { 56 ≤ length image.now }
     ensures { result ≡ coefficients_in image.now }

@@ -185,7 +185,7 @@ pub fn same(a: &[u8], b: &[u8]) -> Result<bool, Refusal>
 }
 
 // Whether two images sound the same: N is equal and the played samples are equal, whatever else differs.
-// Stays: a function beside `same`, of the same three lines, since C calls each by its name.
+// Stays: beside `same`, since C calls each (doilycairn_same, doilycairn_sounds_same); one that an argument told which would be no shorter.
 pub fn sounds_same(a: &[u8], b: &[u8]) -> Result<bool, Refusal>
     ensures { outcome result ≡ sounds_same a.now b.now }
 {

@@ -22,6 +22,7 @@ use layout::sizes::{bodies_place, entry_place};
 use whole::{BYTES_PER_FRAME, SAMPLES_PER_FRAME};
 
 // The loop that the entry after the blocks' says, or none. It is internal: crate dsp calls it.
+// Stays: Headed is asked here and below, since loop_fits comes before the image is known to open.
 pub fn read_loop(image: &[u8]) -> Loop
     requires { Headed image.now }
     ensures { result ≡ loop_in image.now }
@@ -72,6 +73,7 @@ pub(crate) fn loop_fits(image: &[u8]) -> bool
 
 impl<'a> Opened<'a> {
     // The loop `times` times over to the output, each turn from the stored context.
+    // Stays: the loop and the context at its start are two, as C has them (doilycairn_opening).
     fn play_turns(&self, looped: Loop, times: u32, context: FrameContext, out: &mut [i16])
         requires { Turns self.now times (length out.old) × (looped ≡ loop_in self.now) × (context ≡ loop_context_in self.now) }
         ensures { out.new ≡ sets out.old 0 (repeated times (loop_once self.now)) }

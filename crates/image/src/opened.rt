@@ -38,6 +38,7 @@ impl<'a> Model for Opened<'a> {
     ghost invariant = { λ image. Opens image.bytes.now × (image.coefficients ≡ coefficients_in image.bytes.now) };
 }
 
+// Stays: opens stands in five of these, since methods of other modules see the bytes and not the invariant; Found is asked with each k, which no type of an image holds.
 impl<'a> Opened<'a> {
     // An image that was found to open.
     pub(crate) fn of(bytes: &'a [u8]) -> Opened<'a>

@@ -99,6 +99,7 @@ impl<'a> Opened<'a> {
         let left = self.total() as usize - first;
         let count = out.len().min(left);
         if count == 0 {
+            // Stays: not the derived default, so that the edit `empty_output_touches_one` turns a number that stands here.
             return Part {
                 samples: 0,
                 blocks: 0,

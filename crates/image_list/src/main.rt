@@ -10,8 +10,8 @@
 
 mod text;
 
-use replay::{Number, buffers, read_line};
-use std::io::{self, BufReader, BufWriter, Write};
+use replay::{Number, Replay, buffers, replay_lines};
+use std::io::{self, Write};
 use text::{write_body, write_opening, write_part, write_played, write_same, write_turns};
 
 // A call on the two images.
@@ -93,8 +93,8 @@ struct Images {
     second: [u8; 1024],
 }
 
-impl Images {
-    // Replays a line; a call is made on the first bytes of the images.
+impl Replay<56> for Images {
+    // A call is made on the first bytes of the images.
     fn replay(&mut self, writer: &mut impl Write, line: &[u8; 56]) -> io::Result<()> {
         match Step::from(line[0]) {
             Step::PutBoth => {
@@ -116,17 +116,9 @@ impl Images {
 
 // Replays every line of the list.
 fn main(rt: HostRuntime) -> io::Result<()> {
-    let mut reader = BufReader::new(rt.alloc(), rt.reader())?;
-    let mut writer = BufWriter::new(rt.alloc(), io::writer(&rt))?;
     let mut images = Images {
         first: [0; 1024],
         second: [0; 1024],
     };
-    for _ in 0..4_000_000_000u32 {
-        let Some(line) = read_line(&mut reader)? else {
-            break;
-        };
-        images.replay(&mut writer, &line)?;
-    }
-    writer.flush()
+    replay_lines(&rt, &mut images, 4_000_000_000)
 }

@@ -1,9 +1,8 @@
 // The line of an answer: the refusal's number and the block that it names, zeros where there is none, and then the call's values.
 use block::{FrameContext, Playback};
 use image::{Head, Opening, Part, Refusal};
-use replay::{Digits, told};
+use replay::{Digits, HistoryDigits, told};
 use std::io::{self, Write};
-use whole::History;
 
 // Writes whether a call is accepted.
 fn write_told<T>(writer: &mut impl Write, answer: &Result<T, Refusal>) -> io::Result<()> {
@@ -13,12 +12,8 @@ fn write_told<T>(writer: &mut impl Write, answer: &Result<T, Refusal>) -> io::Re
 
 // Writes a context's header and its two samples.
 fn write_context(writer: &mut impl Write, context: FrameContext) -> io::Result<()> {
-    let History { newest, older } = context.last_samples;
-    write!(
-        writer,
-        " {:04x} {newest:04x}{older:04x}",
-        context.predictor_and_scale
-    )
+    write!(writer, " {:04x} ", context.predictor_and_scale)?;
+    write!(writer, "{}", HistoryDigits(context.last_samples))
 }
 
 // Writes a head's values, in the image's order.

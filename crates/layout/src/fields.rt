@@ -1,8 +1,6 @@
 // Big-endian fields of an image.
 ghost use Rattle.std.specs.Prelude.{◌≡◌, ◌+◌, ◌≤◌, ◌<◌, length, take, drop, replicate};
 ghost use Rattle.std.proofs.lemmas.List.Edits.{sets};
-ghost use Rattle.std.proofs.Common.{of_z, to_z};
-ghost use Rattle.std.specs.Int.{w16};
 ghost use Rattle.layout.specs.Fields.{be16, be32, at16, at32};
 
 // Bytes go to a place.
@@ -30,21 +28,8 @@ pub fn put32(buf: &mut [u8], at: usize, v: u32)
     put(buf, at, &v.to_be_bytes());
 }
 
-// internal: the bits of a signed number.
-pub fn bits16(x: i16) -> u16
-    ensures { result ≡ of_z w16 x }
-{
-    x.cast_unsigned()
-}
-
-// The signed number of 16 bits. It is internal: crate image calls it.
-pub fn signed16(v: u16) -> i16
-    ensures { result ≡ to_z w16 v }
-{
-    v.cast_signed()
-}
-
 // The number that two bytes are. It is internal: crate image calls it.
+// Stays: it gives what it reads in 32 bits, since its callers compare it with numbers of 32 bits.
 pub fn get16(buf: &[u8], at: usize) -> u32
     requires { at + 2 ≤ length buf.now }
     ensures { result ≡ at16 buf.now at }
@@ -58,14 +43,6 @@ pub fn get32(buf: &[u8], at: usize) -> u32
     ensures { result ≡ at32 buf.now at }
 {
     u32::from_be_bytes([buf[at], buf[at + 1], buf[at + 2], buf[at + 3]])
-}
-
-// internal: the first n of eight bytes.
-pub fn put_part(buf: &mut [u8], at: usize, b: [u8; 8], n: usize)
-    requires { (at + n ≤ length buf.old) × (n ≤ 8) }
-    ensures { buf.new ≡ sets buf.old at (take n b) }
-{
-    put(buf, at, &b[..n]);
 }
 
 // internal: zeros from a place on, n of them.

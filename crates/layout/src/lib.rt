@@ -13,7 +13,13 @@ pub const HEAD_BYTES: usize = 56;
 
 pub const ENTRY_BYTES: usize = 16;
 
+// The least and the most bytes of a block.
+pub const LEAST_BLOCK: u32 = 8;
+
+pub const MOST_BLOCK: u32 = 65_536;
+
 // A loop: the sample that it starts at, and the one after its last; or none.
+// Stays: a flag beside two numbers and no Option, since C has this struct (doilycairn_loop).
 #[repr(C)]
 #[derive(Clone, Copy, Default, PartialEq, Eq)]
 pub struct Loop {

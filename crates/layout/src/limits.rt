@@ -2,7 +2,7 @@
 ghost use Rattle.std.specs.Prelude.{◌≡◌};
 ghost use Rattle.layout.specs.Limits.{numbers_ok, loop_ok};
 
-use crate::Loop;
+use crate::{LEAST_BLOCK, Loop, MOST_BLOCK};
 use whole::MOST_SAMPLES;
 
 // Whether N, B, the rate and n are within their limits. It is internal: crate image calls it.
@@ -12,7 +12,7 @@ pub fn numbers_ok(n: u32, total: u32, block: u32, rate: u32) -> bool
 {
     n <= total
         && (1..=MOST_SAMPLES).contains(&total)
-        && (8..=65_536).contains(&block)
+        && (LEAST_BLOCK..=MOST_BLOCK).contains(&block)
         && block % 8 == 0
         && rate != 0
 }

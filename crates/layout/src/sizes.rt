@@ -1,4 +1,5 @@
 // The sizes of a clip and the places in its image.
+// Stays: N's limits are asked in words, here and in the crates above, since C's states and heads and the files hold N as a plain number.
 ghost use Rattle.std.specs.Prelude.{◌≤◌, ◌<◌, ◌≡◌};
 ghost use Rattle.layout.specs.Limits.{Limits};
 ghost use Rattle.layout.specs.Sizes.{shape, told_loop, loop_count, last_frame_samples, block_count, body_bytes, bodies_place, entry_place, image_size, cut_down, block_length};

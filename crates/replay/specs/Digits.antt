@@ -3,6 +3,7 @@ use Rattle.std.specs.Prelude.{cond, List, ℕ, ◌+◌, ◌*◌, ◌%◌, ltb, �
 use Rattle.std.specs.List.{range_with_len}
 use Rattle.std.specs.Int.{w16}
 use Rattle.std.proofs.Common.{to_z}
+use Rattle.whole.specs.declared.History.{History}
 
 -- the number that a character stands for; one that is no digit stands for some number below 16
 unfoldable pub digit : ℕ → ℕ
@@ -27,6 +28,10 @@ quad_word l i = double_word l i * 4294967296 + double_word l (i + 8)
 -- the sample of the four digits from place i on
 abbrev pub sample_at : List ℕ → ℕ → ℤ
 sample_at l i = to_z w16 (word l i)
+
+-- the two samples from place i on, the newest first
+abbrev pub history_at : List ℕ → ℕ → History
+history_at l i = record { newest = sample_at l i; older = sample_at l (i + 4) }
 
 -- n numbers, of d digits each, from place i on; f tells the number from a place on
 abbrev pub numbers_at : {A : Type 0} → (List ℕ → ℕ → A) → ℕ → List ℕ → ℕ → ℕ → List A

@@ -8,8 +8,8 @@ use crate::{Number, numbers};
 pub fn fill(buffer: &mut [u8])
     ensures { buffer.new ≡ filled (length buffer.old) }
 {
-    for i in 0..buffer.len() {
-        buffer[i] = (i % 251) as u8;
+    for (i, byte) in buffer.iter_mut().enumerate() {
+        *byte = (i % 251) as u8;
     }
 }
 

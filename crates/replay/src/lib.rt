@@ -5,14 +5,15 @@ pub mod buffers;
 
 ghost use Rattle.std.specs.Prelude.{◌≡◌, ◌+◌, ◌-◌, ◌*◌, ◌≤◌, ◌<◌, ℕ, ℤ, List, [], ◌++◌, length, take};
 ghost use Rattle.whole.specs.Outcome.{answered, outcome_code, outcome_entry};
-ghost use Rattle.replay.specs.Digits.{digit, byte, word, double_word, quad_word, sample_at, numbers_at};
+ghost use Rattle.replay.specs.Digits.{digit, byte, word, double_word, quad_word, sample_at, history_at, numbers_at};
 
 use std::fmt::{self, Display, Formatter, Radix};
-use std::io::{self, ErrorKind, Read};
+use std::io::{self, BufReader, BufWriter, ErrorKind, Read, Write};
 use std::marker::Model;
-use whole::Reason;
+use whole::{History, Reason};
 
 // internal: the number of a hexadecimal digit: 0 to 9 for the characters 48 to 57, 10 to 15 for the characters 97 to 102.
+// Stays: every character has a number here (specs/Digits.antt), and from_str_radix refuses those that are no digits.
 #[tactic(auto, using(std::proofs::lemmas::Bool::Decides::nat_tests), unfolding(crate::specs::Digits::digit))]
 pub fn digit(c: u8) -> u8
     ensures value { result ≡ digit c }
@@ -98,6 +99,22 @@ impl Number for i16 {
     }
 }
 
+// Two samples, the newest first.
+impl Number for History {
+    const DIGITS: usize = 8;
+
+    ghost DIGITS = { 8 };
+
+    ghost number_at = { history_at };
+
+    fn read(line: &[u8], at: usize) -> History {
+        History {
+            newest: i16::read(line, at),
+            older: i16::read(line, at + 4),
+        }
+    }
+}
+
 // internal: the numbers of the digits from a place on, one after the other.
 #[tactic(auto, using(crate::proofs::Places::place_within))]
 pub fn numbers<T: Number, const N: usize>(line: &[u8], at: usize) -> [T; N]
@@ -105,13 +122,14 @@ pub fn numbers<T: Number, const N: usize>(line: &[u8], at: usize) -> [T; N]
     ensures { result ≡ numbers_at T.number_at T.DIGITS line.now at N }
 {
     let mut numbers = [T::default(); N];
-    for i in 0..N {
-        numbers[i] = T::read(line, at + T::DIGITS * i);
+    for (i, number) in numbers.iter_mut().enumerate() {
+        *number = T::read(line, at + T::DIGITS * i);
     }
     numbers
 }
 
 // Samples that wait to be taken together, N at the most.
+// Stays: arrayvec refuses a slice that does not fit as a whole; here the rest is left out, so a type around it would be as long.
 #[derive(Drop)]
 pub struct Piece<const N: usize> {
     samples: [i16; N],
@@ -177,6 +195,31 @@ pub fn read_line<const N: usize>(reader: &mut impl Read) -> io::Result<Option<[u
     }
 }
 
+// What is done with each line, which has N bytes.
+pub trait Replay<const N: usize> {
+    // internal: replays a line.
+    fn replay(&mut self, writer: &mut impl Write, line: &[u8; N]) -> io::Result<()>;
+}
+
+// Replays line after line of the input, at the most as many as `most` says.
+pub fn replay_lines<const N: usize>(
+    rt: &HostRuntime,
+    state: &mut impl Replay<N>,
+    most: u32,
+) -> io::Result<()>
+    requires { N < 9223372036854775808 }
+{
+    let mut reader = BufReader::new(rt.alloc(), rt.reader())?;
+    let mut writer = BufWriter::new(rt.alloc(), io::writer(rt))?;
+    for _ in 0..most {
+        let Some(line) = read_line(&mut reader)? else {
+            break;
+        };
+        state.replay(&mut writer, &line)?;
+    }
+    writer.flush()
+}
+
 // Numbers as a line has them, with nothing between them.
 #[derive(Drop)]
 pub struct Digits<'a, T>(pub &'a [T]);
@@ -187,5 +230,16 @@ impl<T: Number + Radix> Display for Digits<'_, T> {
             write!(f, "{number:0width$x}", width = T::DIGITS)?;
         }
         Ok(())
+    }
+}
+
+// Two samples, the newest first, with nothing between them.
+#[derive(Drop)]
+pub struct HistoryDigits(pub History);
+
+impl Display for HistoryDigits {
+    fn fmt<W: fmt::Write>(&self, f: &mut Formatter<W>) -> fmt::Result {
+        let History { newest, older } = self.0;
+        write!(f, "{newest:04x}{older:04x}")
     }
 }

@@ -22,6 +22,7 @@ pub struct History {
 }
 
 // Why a call is refused: a number of documents 01 and 02, and the block that it names.
+// Stays: numbers, and 0 for no block, since documents 01 and 02 number the refusals and C takes both so.
 pub trait Reason {
     ghost number: { Self → ℕ };
 
@@ -31,6 +32,7 @@ pub trait Reason {
     fn code(self) -> u32
         ensures { result ≡ number self };
 
+    // Stays: each impl says that it names no block, since a default body cannot hold of a `named` that an impl chooses.
     fn bad_block(self) -> u32
         ensures { result ≡ named self };
 }

@@ -11,14 +11,14 @@ loop-i-preserved g c =
     let l = c.loop-i in
     let e : c.read.result ≡ at c.args.line.now (c.args.at + w * l.i) =
     c.read.ensures ∙ ap (λ (m : ℕ). at c.args.line.now (c.args.at + m * l.i)) c.DIGITS.ensures in
-    let n : l.i < length l.numbers = omega (arith, l.invariant.0) in (
-      length-set l.numbers l.i c.read.result ∙ l.invariant.0,
-      λ k d h. rw e (fill_by_more (λ (j : ℕ). at c.args.line.now (c.args.at + w * j)) l.numbers l.i d n (λ j q. l.invariant.1 j d q) k h),
+    let n : l.i < length l.number-items = omega (arith, l.invariant.0) in (
+      length-set l.number-items l.i c.read.result ∙ l.invariant.0,
+      λ k d h. rw e (fill_by_more (λ (j : ℕ). at c.args.line.now (c.args.at + w * j)) l.number-items l.i d n (λ j q. l.invariant.1 j d q) k h),
     )
 
 pub returns : goal.returns
 returns g c =
     let l = c.loop-i in
     let e : l.i ≡ g.row.N = omega arith in
-    fill_by_all (λ (j : ℕ). g.T.Number.number_at c.args.line.now (c.args.at + g.T.Number.DIGITS * j)) l.numbers g.row.N c.default-numbers.result l.invariant.0
+    fill_by_all (λ (j : ℕ). g.T.Number.number_at c.args.line.now (c.args.at + g.T.Number.DIGITS * j)) l.number-items g.row.N c.default-numbers.result l.invariant.0
     (λ k q. l.invariant.1 k c.default-numbers.result (omega arith))

@@ -3,4 +3,4 @@ use Rattle.replay.proofs.numbers.Given as goal
 
 abbrev pub invariant-loop-i : goal.invariant-loop-i
 invariant-loop-i g l =
-    (length l.numbers ≡ g.row.N) × ((k : ℕ) (d : g.row.T.Denot) → k < l.i → get_or l.numbers k d ≡ g.T.Number.number_at l.line (l.at + g.T.Number.DIGITS * k))
+    (length l.number-items ≡ g.row.N) × ((k : ℕ) (d : g.row.T.Denot) → k < l.i → get_or l.number-items k d ≡ g.T.Number.number_at l.line (l.at + g.T.Number.DIGITS * k))

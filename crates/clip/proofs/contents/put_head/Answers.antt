@@ -1,4 +1,4 @@
-use Rattle.std.proofs.Common.{◌≡◌, ℕ, ◌+◌, ◌++◌, length, refl, ap₂, ◌∙◌, arith, rules}
+use Rattle.std.proofs.Common.{◌≡◌, ℕ, ◌+◌, ◌++◌, length, refl, ap, ◌∙◌, arith, rules}
 use Rattle.std.proofs.lemmas.List.Edits.{sets}
 use Rattle.whole.specs.Frames.{frame_count}
 use Rattle.layout.specs.Fields.{be16, be32, no_mark}
@@ -15,9 +15,8 @@ returns c =
     let cs = g.coefficients in
     let n : length cs ≡ 16 = search rules in
     let len : 48 ≡ 16 + length (coefficient_bytes cs) = omega (arith, coefficient-length cs) in
-    let x : c.from.result ≡ loop_count g.looped = search rules in
     runs4 l c.zeros.new.buf c.put_numbers.new.image c.put_coefficients.new.image c.put_rest.new.image
-    no_mark (be32 g.total ++ (be32 g.rate ++ be32 g.block)) (coefficient_bytes cs) (be16 g.gain ++ (be16 c.from.result ++ be32 c.args.blocks)) 0 4 16 48
+    no_mark (be32 g.total ++ (be32 g.rate ++ be32 g.block)) (coefficient_bytes cs) (be16 g.gain ++ (be16 (loop_count g.looped) ++ be32 c.args.blocks)) 0 4 16 48
     c.zeros.ensures c.put_numbers.ensures c.put_coefficients.ensures c.put_rest.ensures refl refl len
-    ∙ ap₂ (λ (y b : ℕ). sets l 0 (no_mark ++ ((be32 g.total ++ (be32 g.rate ++ be32 g.block)) ++ (coefficient_bytes cs ++ (be16 g.gain ++ (be16 y ++ be32 b))))))
-    x c.requires.1
+    ∙ ap (λ (b : ℕ). sets l 0 (no_mark ++ ((be32 g.total ++ (be32 g.rate ++ be32 g.block)) ++ (coefficient_bytes cs ++ (be16 g.gain ++ (be16 (loop_count g.looped) ++ be32 b))))))
+    c.requires.1

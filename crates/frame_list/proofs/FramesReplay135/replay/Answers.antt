@@ -5,7 +5,7 @@ use Rattle.whole.specs.Outcome.{accepted, refused}
 use Rattle.frame.specs.declared.OneFrame.{OneFrame}
 use Rattle.frame.specs.Frame.{coefficients_ok, FrameEffect, frame_effect, encode_one_frame}
 use Rattle.frame.proofs.LawsFrame.{limits-bounded}
-use Rattle.frame_list.proofs.replay.Goals as goal
+use Rattle.frame_list.proofs.FramesReplay135.replay.Goals as goal
 
 passed : (a b : FrameEffect) (t : Bool) → b.outcome ≡ refused 7 → accepted tt ≡ (cond t a b).outcome → t ≡ true
 passed a b true f e = refl
