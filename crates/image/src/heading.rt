@@ -75,14 +75,13 @@ pub(crate) fn signed_at(image: &[u8], at: usize) -> i16
 }
 
 // The sixteen coefficients. It is internal: crate dsp calls it.
-// Stays: by array::from_fn the proof did not close: the closure's image is known of each call only through the calls before it.
 pub fn read_coefficients(image: &[u8]) -> [i16; 16]
     requires { 56 ≤ length image.now }
     ensures { result ≡ coefficients_in image.now }
 {
     let mut coefficients = [0i16; 16];
-    for i in 0..16 {
-        coefficients[i] = signed_at(image, 16 + 2 * i);
+    for (i, c) in coefficients.iter_mut().enumerate() {
+        *c = signed_at(image, 16 + 2 * i);
     }
     coefficients
 }
