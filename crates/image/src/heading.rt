@@ -1,5 +1,5 @@
 // The head of an image.
-// Stays: 56 bytes are asked of four of these and no type says it, since dsp reads a file's coefficients by this too.
+// Stays: 56 bytes are asked of four of these and no type says it: dsp reads a file by read_coefficients, and mark_ok and read_shape come before an image is known to open.
 ghost use Rattle.std.specs.Prelude.{◌≡◌, ◌+◌, ◌≤◌, length};
 ghost use Rattle.layout.specs.Fields.{at16};
 ghost use Rattle.image.specs.Reading.{signed_at, coefficients_in, head_in, shape_in};
@@ -16,6 +16,7 @@ fn mark_ok(image: &[u8]) -> bool
     requires { 56 ≤ length image.now }
     ensures { result ≡ mark_ok image.now }
 {
+    // Stays: a local, since the edit zero_mark_accepted turns this line.
     let mark = MARK;
     image.starts_with(&mark)
 }
