@@ -7,12 +7,14 @@ use whole::History;
 
 impl Filter {
     // The samples of whole bytes, two a byte.
+    // Stays: bytes, history and out are three arguments, here and below, since each call is lent another stretch of the bytes and of the output.
     fn play_pairs(self, bytes: &[u8], history: History, out: &mut [i16]) -> History
         requires { length out.old ≡ 2 * length bytes.now }
         ensures left { result ≡ (play_nibbles bytes.now 0 (length out.old) self.c0 self.c1 self.scale history).history }
         ensures stored { out.new ≡ (play_nibbles bytes.now 0 (length out.old) self.c0 self.c1 self.scale history).samples }
     {
         let mut history = history;
+        // Stays: the output by place, since with chunks_exact_mut(2) zipped with the bytes the proof did not close.
         for (j, byte) in bytes.iter().enumerate() {
             let first = self.advance(history, byte / 16);
             history = self.advance(first, byte % 16);

@@ -137,7 +137,7 @@ pub fn sample_to_address(sample: u32) -> u64
 
 // The step: `count` samples of the frame at byte `at`, under the context's header, written to the output from `to` on.
 // internal: what playing a block, playing from its middle, comparing and voices are made of.
-// Stays: four arguments and no struct, here and in part.rt, since docs/DECISIONS.md names play_frame, context_after and play_on.
+// Stays: four arguments and no struct, here, in play.rt and in part.rt, since docs/DECISIONS.md names play_frame, context_after and play_on, and C calls play_bytes.
 pub fn play_frame(
     bytes: &[u8],
     at: usize,

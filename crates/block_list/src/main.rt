@@ -64,6 +64,7 @@ fn play(writer: &mut impl Write, line: &[u8; 357]) -> io::Result<()> {
         context: given,
     });
     write_answer(writer, code, samples)?;
+    // Stays: header and samples in two, since the lists differ in spaces and crate replay does not know a FrameContext.
     write!(writer, "{:04x}", context.predictor_and_scale)?;
     write!(
         writer,

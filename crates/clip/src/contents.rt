@@ -21,6 +21,7 @@ pub fn put_mark(image: &mut [u8])
 }
 
 // A block's context: its first header byte, and the history before it. It is internal: crate dsp calls it.
+// Stays: the image, a place and the context, here and below: a buffer and a place are what every put takes, and a struct of them is made only to be taken apart.
 pub fn put_context(image: &mut [u8], at: usize, context: FrameContext)
     requires { at + 6 ≤ length image.old }
     ensures { image.new ≡ sets image.old at (context_bytes context.predictor_and_scale context.last_samples) }

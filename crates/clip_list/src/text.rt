@@ -14,6 +14,7 @@ fn write_loop(writer: &mut impl Write, looped: Loop, context: FrameContext) -> i
         "{:08x} {:08x} {present:02x} ",
         looped.start, looped.end
     )?;
+    // Stays: header and samples in two, since the lists differ in spaces and crate replay does not know a FrameContext.
     write!(writer, "{:04x} ", context.predictor_and_scale)?;
     write!(writer, "{} ", HistoryDigits(context.last_samples))
 }

@@ -134,7 +134,7 @@ fn double(vs: &mut [Vec3])
     ensures { vs.new ≡ Clusters.doubled vs.old (length vs.old / 2) (length vs.old / 2) }
 {
     let half = vs.len() / 2;
-    // Stays: each turn reads one place and writes another by one number; the halves split and zipped would be no plainer.
+    // Stays: by place, since with split_at_mut and zip of its halves the proof did not close.
     for i in 0..half {
         vs[half + i] = beside(vs[i]);
     }

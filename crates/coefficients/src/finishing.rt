@@ -25,7 +25,7 @@ fn pairs(vs: &[Vec3; 8]) -> [i16; 16]
     ensures { result ≡ Finish.pairs vs.now 8 }
 {
     let mut cs = [0i16; 16];
-    // Stays: each turn writes two places by one number; chunks zipped with the vectors would be no plainer.
+    // Stays: by place, since with chunks_exact_mut(2) zipped with the vectors the proof did not close.
     for k in 0..8 {
         cs[2 * k] = coefficient(vs[k].x1);
         cs[2 * k + 1] = coefficient(vs[k].x2);

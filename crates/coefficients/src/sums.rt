@@ -13,7 +13,7 @@ pub(crate) fn dot(h: &[i16; 28], a: usize, b: usize) -> i64
     ensures { Dot h.now a b result }
 {
     let mut sum: i64 = 0;
-    // Stays: each turn reads two places by one number; two slices zipped would be no plainer.
+    // Stays: by place; zipped, each slice would name both of its ends (14 - a to 28 - a, 14 - b to 28 - b).
     for k in 0..SAMPLES_PER_FRAME {
         sum += i64::from(h[SAMPLES_PER_FRAME + k - a]) * i64::from(h[SAMPLES_PER_FRAME + k - b]);
     }

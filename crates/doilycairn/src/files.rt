@@ -64,6 +64,6 @@ pub extern "C" fn doilycairn_dsp_size(total: u32) -> u64
     if !(1..=MOST_SAMPLES).contains(&total) {
         return 0;
     }
-    // Stays: 96 as a number, since HEADER_BYTES is crate dsp's own, whose file_bytes is asked of an image.
+    // Stays: 96 as a number, as file_bytes has it; HEADER_BYTES would be made public, through a private module, for this one line.
     96 + body_bytes(total as usize) as u64
 }

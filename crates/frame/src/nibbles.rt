@@ -21,7 +21,7 @@ pub(crate) fn pack_frame(header: u8, nibbles: [i8; 14]) -> [u8; 8]
 {
     let mut out = [0u8; 8];
     out[0] = header;
-    // Stays: each turn reads two places by one number; chunks zipped with the bytes would be no plainer.
+    // Stays: by place, since with chunks zipped with the bytes the proof did not close.
     for k in 0..7 {
         let hi = low_four(nibbles[2 * k]);
         let lo = low_four(nibbles[2 * k + 1]);

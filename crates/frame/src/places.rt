@@ -43,7 +43,7 @@ fn fine_of(frame: &[i16; 18]) -> [i64; 16]
     ensures { Fine frame.now result }
 {
     let mut out = [0i64; 16];
-    // Stays: by place, since with `array::from_fn` the search did not find what the closure's call gives, and the proof did not close.
+    // Stays: by place, since by array::from_fn and by iter_mut() zipped with frame[2..] the proof did not close.
     for i in 0..16 {
         out[i] = 8796093020160 * i64::from(frame[i + 2]);
     }

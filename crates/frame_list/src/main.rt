@@ -11,6 +11,7 @@ use std::io::{self, Write};
 use whole::{History, Reason};
 
 // The history after m real samples: the one-frame call's where the frame is full.
+// Stays: m beside the samples, since frame's history_after takes it so (docs/DECISIONS.md).
 fn history_after(history: History, samples: [i16; 14], coefficients: [i16; 16], m: usize) -> History
     requires all_bounded { AllBounded coefficients }
     requires m_bound { m ≤ 14 }
@@ -26,6 +27,7 @@ struct Frames;
 impl Replay<135> for Frames {
     fn replay(&mut self, writer: &mut impl Write, line: &[u8; 135]) -> io::Result<()> {
         let real = usize::from(u8::read(line, 0)).min(14);
+        // Stays: not History::read, and below not HistoryDigits, since this list has a space between the two samples.
         let history = History {
             newest: i16::read(line, 3),
             older: i16::read(line, 8),

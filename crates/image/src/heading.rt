@@ -1,5 +1,5 @@
 // The head of an image.
-// Stays: 56 bytes are asked of four of these and no type says it, since dsp reads a file's coefficients by this too.
+// Stays: 56 bytes are asked of four of these and no type says it: dsp reads a file by read_coefficients, and mark_ok and read_shape come before an image is known to open.
 ghost use Rattle.std.specs.Prelude.{◌≡◌, ◌+◌, ◌≤◌, length};
 ghost use Rattle.layout.specs.Fields.{at16};
 ghost use Rattle.image.specs.Reading.{signed_at, coefficients_in, head_in, shape_in};
@@ -16,6 +16,7 @@ fn mark_ok(image: &[u8]) -> bool
     requires { 56 ≤ length image.now }
     ensures { result ≡ mark_ok image.now }
 {
+    // Stays: a local, since the edit zero_mark_accepted turns this line.
     let mark = MARK;
     image.starts_with(&mark)
 }
@@ -75,14 +76,13 @@ pub(crate) fn signed_at(image: &[u8], at: usize) -> i16
 }
 
 // The sixteen coefficients. It is internal: crate dsp calls it.
-// Stays: by array::from_fn the proof did not close: the closure's image is known of each call only through the calls before it.
 pub fn read_coefficients(image: &[u8]) -> [i16; 16]
     requires { 56 ≤ length image.now }
     ensures { result ≡ coefficients_in image.now }
 {
     let mut coefficients = [0i16; 16];
-    for i in 0..16 {
-        coefficients[i] = signed_at(image, 16 + 2 * i);
+    for (i, c) in coefficients.iter_mut().enumerate() {
+        *c = signed_at(image, 16 + 2 * i);
     }
     coefficients
 }

@@ -16,6 +16,7 @@ use block::{FrameContext, sample_to_address};
 
 impl<'a> Opened<'a> {
     // `count` samples of block k from its sample `from` on to the output, under the context given.
+    // Stays: count beside out, here and below, since the clauses say what the rest of a longer output holds; a slice made at each call is no shorter.
     fn play_in_block(
         &self,
         k: usize,

@@ -12,6 +12,7 @@ fn write_told<T>(writer: &mut impl Write, answer: &Result<T, Refusal>) -> io::Re
 
 // Writes a context's header and its two samples.
 fn write_context(writer: &mut impl Write, context: FrameContext) -> io::Result<()> {
+    // Stays: header and samples in two, since the lists differ in spaces and crate replay does not know a FrameContext.
     write!(writer, " {:04x} ", context.predictor_and_scale)?;
     write!(writer, "{}", HistoryDigits(context.last_samples))
 }

@@ -175,6 +175,7 @@ impl<const N: usize> Piece<N> {
 }
 
 // The number of a call's refusal and the block that it names; zeros where the call is accepted.
+// Stays: doilycairn's code_of and entry_of tell the two apart, since five of C's structs have no entry; this gives both to programs, which do not know doilycairn.
 pub fn told<T, R: Reason + Copy>(answer: &Result<T, R>) -> (u32, u32)
     ensures code { result.0 ≡ outcome_code (answered R.number R.named answer.now) }
     ensures block { result.1 ≡ outcome_entry (answered R.number R.named answer.now) }

@@ -8,7 +8,7 @@ pub loop-i-init : goal.loop-i-init
 loop-i-init c = coefficients-none _ _
 
 pub loop-i-preserved : goal.loop-i-preserved
-loop-i-preserved c = coefficient-turn c.args.image.now (replicate 16 (pos 0)) c.loop-i.coefficients c.loop-i.i _ c.loop-i.invariant (to_z-of_z {w = w16} (record { sfits = c.signed_at.type_inv }) ∙ c.signed_at.ensures)
+loop-i-preserved c = coefficient-turn c.args.image.now (replicate 16 (pos 0)) c.loop-i.c-items c.loop-i.i _ c.loop-i.invariant (to_z-of_z {w = w16} (record { sfits = c.signed_at.type_inv }) ∙ c.signed_at.ensures)
 
 pub returns : goal.returns
 returns c = coefficients-all c.args.image.now _ c.loop-i.i (omega arith) c.loop-i.invariant
