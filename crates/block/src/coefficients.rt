@@ -14,9 +14,9 @@ pub fn lowest_pair(coefficients: [i16; 16]) -> bool
     false
 }
 
-// Whether the sixteen coefficients of two blocks are equal.
+// Whether the sixteen coefficients of two blocks are equal. It is internal.
 // Stays: a name for ==, whose contract says that it is the documents' equality of coefficients (equal_coefficients).
-pub(crate) fn equal_coefficients(first: [i16; 16], second: [i16; 16]) -> bool
+pub fn equal_coefficients(first: [i16; 16], second: [i16; 16]) -> bool
     ensures { result ≡ equal_coefficients first second }
 {
     first == second

@@ -14,7 +14,7 @@ mod text;
 
 use clip::Encoder;
 use record::{context_of, encoder_of, loop_of, start_of};
-use replay::{Number, Piece, Replay, buffers, numbers, replay_lines, told};
+use replay::{Number, Piece, Replay, buffers, replay_lines, told};
 use std::io::{self, Write};
 use text::write_line;
 
@@ -60,8 +60,7 @@ impl State {
     // Adds the samples of a line to the piece.
     fn add(&mut self, line: &[u8; 182]) {
         let count = usize::from(u8::read(line, 7)).min(43);
-        let samples: [i16; 43] = numbers(line, 9);
-        self.piece.add(&samples[..count]);
+        self.piece.add_read(line, 9, count);
     }
 
     // Makes a call on the first bytes of the buffer and writes what it answers and leaves; the next piece is empty.
@@ -79,7 +78,7 @@ impl State {
         };
         let (code, _) = told(&done);
         self.encoder = done.unwrap_or(kept);
-        self.piece = Piece::new();
+        self.piece.clear();
         write_line(writer, code, &self.encoder, image, u8::read(line, 5) != 0)
     }
 }

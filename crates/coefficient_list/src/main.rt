@@ -6,7 +6,7 @@
 #![tactic(auto)]
 
 use coefficients::{CoefficientCalculator, Refusal};
-use replay::{Digits, Piece, Replay, digit, numbers, replay_lines};
+use replay::{Digits, Piece, Replay, digit, replay_lines};
 use std::io::{self, Write};
 use std::num::f64_to_bits_with_nan;
 use whole::Reason;
@@ -61,14 +61,13 @@ impl State {
     // A new clip.
     fn start(&mut self) {
         self.calculator = CoefficientCalculator::new();
-        self.piece = Piece::new();
+        self.piece.clear();
     }
 
     // Adds the samples of a line to the piece.
     fn add(&mut self, line: &[u8; 60]) {
         let count = usize::from(digit(line[1]) * 10 + digit(line[2])).min(14);
-        let samples: [i16; 14] = numbers(line, 3);
-        self.piece.add(&samples[..count]);
+        self.piece.add_read(line, 3, count);
     }
 
     // Measures the piece, after which the next one is empty.
@@ -80,7 +79,7 @@ impl State {
             Ok(next) => self.calculator = next,
             Err(why) => write_refusal(writer, why)?,
         }
-        self.piece = Piece::new();
+        self.piece.clear();
         Ok(())
     }
 

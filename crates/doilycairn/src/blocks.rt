@@ -59,10 +59,8 @@ pub extern "C" fn doilycairn_play_bytes(
 ) -> Playback
     ensures { effect result out.new ≡ play_seen (play_bytes bytes.now nibbles coefficients.now context out.old) }
 {
-    played_answer(
-        block::play_bytes(bytes, nibbles, *coefficients, context, out),
-        context,
-    )
+    let played = block::play_bytes(bytes, nibbles, *coefficients, context, out);
+    played_answer(played, context)
 }
 
 // Joins two blocks.

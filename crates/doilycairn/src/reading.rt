@@ -103,11 +103,11 @@ fn body_at(image: &[u8], k: usize) -> Body
 pub extern "C" fn doilycairn_open(image: &[u8]) -> Opening
     ensures { result ≡ open_seen (open_image image.now) }
 {
-    let answer = image::open(image);
-    let opening = answer.unwrap_or_default();
+    let opened = image::open(image);
+    let opening = opened.unwrap_or_default();
     Opening {
-        code: code_of(&answer),
-        entry: entry_of(&answer),
+        code: code_of(&opened),
+        entry: entry_of(&opened),
         head: opening.head,
         looped: opening.looped,
         context: opening.context,

@@ -51,18 +51,18 @@ pub extern "C" fn doilycairn_encode_frame(
 ) -> Frame
     ensures { result ≡ frame_seen (encode_one_frame history samples.now coefficients.now) }
 {
-    let answer = frame::encode_one_frame(history, *samples, *coefficients);
+    let encoded = frame::encode_one_frame(history, *samples, *coefficients);
     let OneFrame {
         bytes,
         passes,
         history,
-    } = answer.unwrap_or(OneFrame {
+    } = encoded.unwrap_or(OneFrame {
         bytes: [0; 8],
         passes: 0,
         history,
     });
     Frame {
-        code: code_of(&answer),
+        code: code_of(&encoded),
         bytes,
         passes,
         history,

@@ -4,8 +4,8 @@ use mathlib.Core.List.{List}
 use mathlib.Core.Path.{◌≡◌, refl}
 use Prim.Native.Nat.{ℕ, zero, suc, ◌+◌, ◌*◌, ◌/◌, ◌%◌, ◌≤◌, ◌<◌}
 use native.Mathlib.Omega.{arith}
-use borrow.Author.Tests.{leb-true, ltb-true, eqb-true, eqb-false, le-leb, lt-ltb, eq-eqb, ne_eqb}
-use lib.Dec.{eqb, leb}
+use borrow.Author.Tests.{leb-true, ltb-true, ltb-false, eqb-true, eqb-false, le-leb, lt-ltb, eq-eqb, ne_eqb}
+use lib.Dec.{eqb, leb, ltb}
 use lib.ListN.{length, get_or, replicate}
 use Rattle.whole.specs.Frames.{most}
 use Rattle.whole.specs.Outcome.{accepted}
@@ -18,8 +18,9 @@ use Rattle.layout.specs.Sizes.{body_bytes, cut_down}
 use Rattle.layout.proofs.LimitLaws.{both_true, loop-few}
 use Rattle.clip.specs.Image.{start_shape}
 use Rattle.image.specs.Opening.{holds}
+use Rattle.image.proofs.TestsInTurn.{and-then}
 use Rattle.dsp.specs.File.{nibble_count, total_of, nibbles_of, rate_of, flag_of, start_address_of, last_address_of, loop_of, coefficients_of, bodies_of}
-use Rattle.dsp.specs.Import.{needed, long_enough, of_sample, loop_fields_ok, no_loop_fields, fields_ok, file_answer, clip_of}
+use Rattle.dsp.specs.Import.{needed, long_enough, of_sample, loop_fields_ok, no_loop_fields, fields_ok, file_answer, clip_of, imported_bytes, import_answer}
 
 -- a loop's fields, of samples of the clip
 pub record LoopFields (f : List ℕ) : Type 0 where
@@ -206,3 +207,11 @@ module _ (f : List ℕ) (size : ℕ) (F : FileFits f size) where
         fields-again,
         F.pairs,
       )
+
+-- a file that import accepts, and a buffer with room for its image
+pub import-accepted : (f : List ℕ) (size room : ℕ) → import_answer f size room ≡ accepted tt → FileFits f size × (imported_bytes f size ≤ room)
+unfolding import_answer
+import-accepted f size room p =
+    let a = and-then (file_answer f size) _ p in
+    let b = failed (ltb room (imported_bytes f size)) 8 (accepted tt) a.1 in
+    (file-fits f size a.0, ltb-false room (imported_bytes f size) b.0)

@@ -10,7 +10,6 @@
 use dsp::Refusal;
 use replay::{Digits, Number, Replay, buffers, replay_lines, told};
 use std::io::{self, Write};
-use std::mem;
 
 // A call on the source and the output.
 enum Call {
@@ -66,22 +65,36 @@ fn write_answer(
     writeln!(writer)
 }
 
-// The source and the output.
+// The source and the output, or the output and the source.
+// Stays: a flag, since mem::swap moves both buffers, and a line that exchanges them takes four times as long.
 #[derive(Drop)]
 struct Buffers {
-    source: [u8; 1024],
-    out: [u8; 1024],
+    first: [u8; 1024],
+    second: [u8; 1024],
+    swapped: bool,
+}
+
+impl Buffers {
+    // The source and the output.
+    fn lent(&mut self) -> (&mut [u8; 1024], &mut [u8; 1024]) {
+        if self.swapped {
+            (&mut self.second, &mut self.first)
+        } else {
+            (&mut self.first, &mut self.second)
+        }
+    }
 }
 
 impl Replay<32> for Buffers {
     // A call is made on the first bytes of the buffers.
     fn replay(&mut self, writer: &mut impl Write, line: &[u8; 32]) -> io::Result<()> {
         match Step::from(line[0]) {
-            Step::Put => buffers::put::<12>(line, &mut self.source),
-            Step::Swap => mem::swap(&mut self.source, &mut self.out),
+            Step::Put => buffers::put::<12>(line, self.lent().0),
+            Step::Swap => self.swapped = !self.swapped,
             Step::Make(call) => {
-                let source = &self.source[..usize::from(u16::read(line, 1)).min(1024)];
-                let all = &mut self.out[..];
+                let (source, out) = self.lent();
+                let source = &source[..usize::from(u16::read(line, 1)).min(1024)];
+                let all = &mut out[..];
                 buffers::fill(all);
                 let out = &mut all[..usize::from(u16::read(line, 5)).min(1024)];
                 let done = call.make(source, u32::read(line, 9), out);
@@ -95,8 +108,9 @@ impl Replay<32> for Buffers {
 // Replays every line of the list.
 fn main(rt: HostRuntime) -> io::Result<()> {
     let mut buffers = Buffers {
-        source: [0; 1024],
-        out: [0; 1024],
+        first: [0; 1024],
+        second: [0; 1024],
+        swapped: false,
     };
     replay_lines(&rt, &mut buffers, 4_000_000_000)
 }

@@ -67,8 +67,8 @@ pub fn word_at(image: &[u8], at: usize) -> u16
     get16(image, at) as u16
 }
 
-// The signed number that two bytes are.
-pub(crate) fn signed_at(image: &[u8], at: usize) -> i16
+// The signed number that two bytes are. It is internal.
+pub fn signed_at(image: &[u8], at: usize) -> i16
     requires { at + 2 ≤ length image.now }
     ensures { result ≡ signed_at image.now at }
 {

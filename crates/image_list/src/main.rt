@@ -14,14 +14,37 @@ use replay::{Number, Replay, buffers, replay_lines};
 use std::io::{self, Write};
 use text::{write_body, write_opening, write_part, write_played, write_same, write_turns};
 
+// What is played of the first image.
+enum Played {
+    Block,
+    All,
+    From,
+    Loop,
+}
+
+impl Played {
+    // Plays it and writes what that answers and leaves.
+    fn play(
+        self,
+        writer: &mut impl Write,
+        image: &[u8],
+        number: u32,
+        out: &mut [i16],
+    ) -> io::Result<()> {
+        match self {
+            Played::Block => write_played(writer, image::play(image, number, out), out),
+            Played::All => write_played(writer, image::play_all(image, out), out),
+            Played::From => write_part(writer, image::play_from(image, number, out), out),
+            Played::Loop => write_turns(writer, image::play_loop(image, number, out), out),
+        }
+    }
+}
+
 // A call on the two images.
 enum Call {
     Open,
     Body,
-    Play,
-    PlayAll,
-    PlayFrom,
-    PlayLoop,
+    Play(Played),
     Same,
     SameTurned,
     Sounds,
@@ -44,10 +67,10 @@ impl From<u8> for Step {
             b'g' => Step::PutSecond,
             b'o' => Step::Make(Call::Open),
             b'k' => Step::Make(Call::Body),
-            b'p' => Step::Make(Call::Play),
-            b'a' => Step::Make(Call::PlayAll),
-            b'm' => Step::Make(Call::PlayFrom),
-            b't' => Step::Make(Call::PlayLoop),
+            b'p' => Step::Make(Call::Play(Played::Block)),
+            b'a' => Step::Make(Call::Play(Played::All)),
+            b'm' => Step::Make(Call::Play(Played::From)),
+            b't' => Step::Make(Call::Play(Played::Loop)),
             b's' => Step::Make(Call::Same),
             b'r' => Step::Make(Call::SameTurned),
             b'h' => Step::Make(Call::Sounds),
@@ -66,18 +89,17 @@ impl Call {
         second: &[u8],
     ) -> io::Result<()> {
         let number = u32::read(line, 9);
-        let mut samples = [0x5a5a_i16; 512];
-        let out = &mut samples[..usize::from(u16::read(line, 17)).min(512)];
         match self {
             Call::Open => write_opening(writer, image::open(first)),
             Call::Body => {
                 let answer = image::block_answer(first, number);
                 write_body(writer, answer, image::block_body(first, number))
             }
-            Call::Play => write_played(writer, image::play(first, number, out), out),
-            Call::PlayAll => write_played(writer, image::play_all(first, out), out),
-            Call::PlayFrom => write_part(writer, image::play_from(first, number, out), out),
-            Call::PlayLoop => write_turns(writer, image::play_loop(first, number, out), out),
+            Call::Play(how) => {
+                let mut samples = [0x5a5a_i16; 512];
+                let out = &mut samples[..usize::from(u16::read(line, 17)).min(512)];
+                how.play(writer, first, number, out)
+            }
             Call::Same => write_same(writer, image::same(first, second)),
             Call::SameTurned => write_same(writer, image::same(second, first)),
             Call::Sounds => write_same(writer, image::sounds_same(first, second)),

@@ -2,7 +2,7 @@
 ghost use Rattle.std.specs.Prelude.{◌≡◌, ◌+◌, ◌*◌, ◌≤◌, length};
 ghost use Rattle.replay.specs.Buffers.{filled, digest, put};
 
-use crate::{Number, numbers};
+use crate::{Number, read_numbers};
 
 // Makes byte i of a buffer i modulo 251.
 pub fn fill(buffer: &mut [u8])
@@ -18,10 +18,9 @@ pub fn put<const MOST: usize>(line: &[u8], buffer: &mut [u8])
     requires { (7 + 2 * MOST ≤ length line.now) × (MOST ≤ length buffer.old) }
     ensures { buffer.new ≡ put MOST line.now buffer.old }
 {
-    let bytes: [u8; MOST] = numbers(line, 7);
     let count = usize::from(u8::read(line, 5)).min(MOST);
     let start = usize::from(u16::read(line, 1)).min(buffer.len() - MOST);
-    buffer[start..start + count].copy_from_slice(&bytes[..count]);
+    read_numbers(line, 7, &mut buffer[start..start + count]);
 }
 
 // Bytes as the digits of a number, modulo a prime.

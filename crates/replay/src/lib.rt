@@ -7,7 +7,7 @@ ghost use Rattle.std.specs.Prelude.{◌≡◌, ◌+◌, ◌-◌, ◌*◌, ◌≤
 ghost use Rattle.whole.specs.Outcome.{answered, outcome_code, outcome_entry};
 ghost use Rattle.replay.specs.Digits.{digit, byte, word, double_word, quad_word, sample_at, history_at, numbers_at};
 
-use std::fmt::{self, Display, Formatter, Radix};
+use std::fmt::{self, Display, Formatter, HasDigits, Radix};
 use std::io::{self, BufReader, BufWriter, ErrorKind, Read, Write};
 use std::marker::Model;
 use whole::{History, Reason};
@@ -115,16 +115,24 @@ impl Number for History {
     }
 }
 
-// internal: the numbers of the digits from a place on, one after the other.
+// internal: reads as many numbers as there is room for, one after the other, from a place on.
 #[tactic(auto, using(crate::proofs::Places::place_within))]
+pub fn read_numbers<T: Number>(line: &[u8], at: usize, numbers: &mut [T])
+    requires { at + T.DIGITS * length numbers.old ≤ length line.now }
+    ensures { numbers.new ≡ numbers_at T.number_at T.DIGITS line.now at (length numbers.old) }
+{
+    for (i, number) in numbers.iter_mut().enumerate() {
+        *number = T::read(line, at + T::DIGITS * i);
+    }
+}
+
+// internal: the numbers of the digits from a place on, one after the other.
 pub fn numbers<T: Number, const N: usize>(line: &[u8], at: usize) -> [T; N]
     requires { at + T.DIGITS * N ≤ length line.now }
     ensures { result ≡ numbers_at T.number_at T.DIGITS line.now at N }
 {
     let mut numbers = [T::default(); N];
-    for (i, number) in numbers.iter_mut().enumerate() {
-        *number = T::read(line, at + T::DIGITS * i);
-    }
+    read_numbers(line, at, &mut numbers);
     numbers
 }
 
@@ -162,6 +170,25 @@ impl<const N: usize> Piece<N> {
         &self.samples[..self.count]
     }
 
+    // Leaves no samples.
+    pub fn clear(&mut self)
+        ensures { self.new ≡ [] }
+    {
+        self.count = 0;
+    }
+
+    // internal: adds `count` samples that a line has from a place on; those for which there is no room are left out.
+    pub fn add_read(&mut self, line: &[u8], at: usize, count: usize)
+        requires { at + 4 * count ≤ length line.now }
+        ensures { self.new ≡ take N (self.old ++ numbers_at sample_at 4 line.now at count) }
+    {
+        let added = (N - self.count).min(count);
+        let end = self.count + added;
+        let all = &mut self.samples[..];
+        read_numbers(line, at, &mut all[self.count..end]);
+        self.count += added;
+    }
+
     // Adds samples; those for which there is no room are left out.
     pub fn add(&mut self, samples: &[i16])
         ensures { self.new ≡ take N (self.old ++ samples.now) }
@@ -186,14 +213,19 @@ pub fn told<T, R: Reason + Copy>(answer: &Result<T, R>) -> (u32, u32)
     }
 }
 
+// Reads a line into the place of another, and tells whether the input has all of it.
+fn next_line<const N: usize>(reader: &mut impl Read, line: &mut [u8; N]) -> io::Result<bool> {
+    match reader.read_exact(line) {
+        Ok(()) => Ok(true),
+        Err(error) if error.kind() == ErrorKind::UnexpectedEof => Ok(false),
+        Err(error) => Err(error),
+    }
+}
+
 // internal: reads a line, where the input has all of it.
 pub fn read_line<const N: usize>(reader: &mut impl Read) -> io::Result<Option<[u8; N]>> {
     let mut line = [0; N];
-    match reader.read_exact(&mut line) {
-        Ok(()) => Ok(Some(line)),
-        Err(error) if error.kind() == ErrorKind::UnexpectedEof => Ok(None),
-        Err(error) => Err(error),
-    }
+    Ok(next_line(reader, &mut line)?.then_some(line))
 }
 
 // What is done with each line, which has N bytes.
@@ -202,7 +234,7 @@ pub trait Replay<const N: usize> {
     fn replay(&mut self, writer: &mut impl Write, line: &[u8; N]) -> io::Result<()>;
 }
 
-// Replays line after line of the input, at the most as many as `most` says.
+// internal: replays line after line of the input, at the most as many as `most` says.
 pub fn replay_lines<const N: usize>(
     rt: &HostRuntime,
     state: &mut impl Replay<N>,
@@ -212,13 +244,45 @@ pub fn replay_lines<const N: usize>(
 {
     let mut reader = BufReader::new(rt.alloc(), rt.reader())?;
     let mut writer = BufWriter::new(rt.alloc(), io::writer(rt))?;
+    // One line for all, since a new one for each is filled with zeros and copied.
+    let mut line = [0; N];
     for _ in 0..most {
-        let Some(line) = read_line(&mut reader)? else {
+        if !next_line(&mut reader, &mut line)? {
             break;
-        };
+        }
         state.replay(&mut writer, &line)?;
     }
     writer.flush()
+}
+
+// How many characters go to the output together: one call of the formatter for each number takes ten times as long.
+const TEXT: usize = 128;
+
+// internal: the character of a digit.
+// Stays: char::from_digit gives an Option of a char, which a text of bytes would have to be made of once more.
+pub fn glyph(d: u8) -> u8
+    requires { d < 16 }
+    ensures figure { (d < 10) → result ≡ d + 48 }
+    ensures letter { (10 ≤ d) → result ≡ d + 87 }
+{
+    if d < 10 { 48 + d } else { 87 + d }
+}
+
+// Puts the lowest digits of a number, as many as there is room for, the highest first.
+fn put_digits(text: &mut [u8], number: u64) {
+    let mut rest = number;
+    for place in text.iter_mut().rev() {
+        *place = glyph((rest % 16) as u8);
+        rest /= 16;
+    }
+}
+
+// Writes characters.
+fn write_text<W: fmt::Write>(f: &mut Formatter<W>, text: &[u8]) -> fmt::Result {
+    match str::from_utf8(text) {
+        Ok(text) => f.write_str(text),
+        Err(_) => Err(fmt::Error),
+    }
 }
 
 // Numbers as a line has them, with nothing between them.
@@ -227,10 +291,24 @@ pub struct Digits<'a, T>(pub &'a [T]);
 
 impl<T: Number + Radix> Display for Digits<'_, T> {
     fn fmt<W: fmt::Write>(&self, f: &mut Formatter<W>) -> fmt::Result {
+        let mut text = [0u8; TEXT];
+        let mut used: usize = 0;
         for number in self.0 {
-            write!(f, "{number:0width$x}", width = T::DIGITS)?;
+            if TEXT - used < T::DIGITS {
+                write_text(f, &text[..used])?;
+                used = 0;
+            }
+            let (_, pattern) = number.bits();
+            let all = &mut text[used..];
+            match all.get_mut(..T::DIGITS) {
+                Some(place) => {
+                    put_digits(place, pattern);
+                    used += T::DIGITS;
+                }
+                None => write!(f, "{number:0width$x}", width = T::DIGITS)?,
+            }
         }
-        Ok(())
+        write_text(f, &text[..used])
     }
 }
 
@@ -241,6 +319,6 @@ pub struct HistoryDigits(pub History);
 impl Display for HistoryDigits {
     fn fmt<W: fmt::Write>(&self, f: &mut Formatter<W>) -> fmt::Result {
         let History { newest, older } = self.0;
-        write!(f, "{newest:04x}{older:04x}")
+        Digits(&[newest, older]).fmt(f)
     }
 }

@@ -1,6 +1,0 @@
-use Rattle.std.proofs.Common.{◌≡◌, ℕ, ◌+◌, ◌*◌, ◌<◌, length, get_or}
-use Rattle.replay.proofs.numbers.Given as goal
-
-abbrev pub invariant-loop-i : goal.invariant-loop-i
-invariant-loop-i g l =
-    (length l.number-items ≡ g.row.N) × ((k : ℕ) (d : g.row.T.Denot) → k < l.i → get_or l.number-items k d ≡ g.T.Number.number_at l.line (l.at + g.T.Number.DIGITS * k))
