@@ -48,9 +48,7 @@ pub(crate) fn finish(e: Encoder, image: &mut [u8]) -> Encoder
     let mut last = e;
     last.encode_last(image);
     last.put_end(image);
-    Encoder {
-        frame: [0; 14],
-        closed: true,
-        ..last
-    }
+    last.frame = [0; 14];
+    last.closed = true;
+    last
 }

@@ -1,15 +1,15 @@
 -- The lengths of a clip's blocks; "the sum of the block lengths" is the nibble count.
 use mathlib.Core.Path.{◌≡◌, sym, ap, ◌∙◌}
 use Prim.Native.Nat.{ℕ, zero, suc, ◌+◌, ◌-◌, ◌*◌, ◌/◌, ◌≤◌, ◌<◌}
-use native.Mathlib.Nat.{suc-mul, le-div_iff_mul-le}
+use native.Mathlib.Nat.{suc-mul}
 use native.Mathlib.Omega.{arith}
-use borrow.Author.Tests.{lt-ltb, le-ltb}
+use borrow.Author.Tests.{le-ltb}
 use Rattle.whole.specs.Frames.{frame_count}
 use Rattle.block.specs.Address.{sample_to_address}
 use Rattle.layout.specs.declared.Shape.{Shape}
 use Rattle.layout.specs.Limits.{Limits}
 use Rattle.layout.specs.Sizes.{last_frame_samples, block_count, body_bytes, block_length}
-use Rattle.layout.proofs.SizeLaws.{block-first, blocks-all}
+use Rattle.layout.proofs.SizeLaws.{block-first, block-whole, blocks_some, blocks-all}
 use Rattle.dsp.specs.File.{nibble_count}
 use Rattle.dsp.specs.Returns.{lengths_up_to}
 
@@ -29,11 +29,7 @@ module _ (s : Shape) (L : Limits s) where
 
   -- a block before another is whole, and the next one begins where it ends
   pub whole_length : (j : ℕ) → suc j < block_count s → 16 * (j * per) + block_length s j ≡ 16 * (suc j * per)
-  unfolding block_length
-  whole_length j h =
-      let f = block-first s (suc j) L h in
-      let d = suc-mul j per in
-      rw (lt-ltb (j * per + per) (frame_count s.total) (omega (arith, f, d))) (omega (arith, d))
+  whole_length j h = let d = suc-mul j per in rw (block-whole s j L h) (omega (arith, d))
 
   -- the last block ends after the last sample
   pub last-length : (j : ℕ) → suc j ≡ block_count s → 16 * (j * per) + block_length s j ≡ nibble_count s.total
@@ -48,12 +44,7 @@ module _ (s : Shape) (L : Limits s) where
 
   -- there is a block
   pub blocks-some : 0 < block_count s
-  unfolding block_count frame_count
-  blocks-some =
-      let w = L.wide in
-      let n = L.some in
-      let z : 0 < s.block = omega (arith, w) in
-      (le-div_iff_mul-le {x = 1} {y = 8 * frame_count s.total + s.block - 1} z).1 (omega (arith, n, w))
+  blocks-some = blocks_some s L
 
   -- the lengths of whole blocks
   wholes : (k : ℕ) → k < block_count s → lengths_up_to s k ≡ 16 * (k * per)

@@ -1,7 +1,7 @@
 -- The blocks of an image, written to an output one after the other.
 use mathlib.Core.List.{List, ◌++◌, append-nil}
 use mathlib.Core.Path.{◌≡◌, refl, sym, ap, ◌∙◌, subst}
-use Prim.Native.Nat.{ℕ, zero, suc, ◌+◌, ◌-◌, ◌*◌, ◌/◌, ◌≤◌, ◌<◌}
+use Prim.Native.Nat.{ℕ, zero, suc, ◌+◌, ◌-◌, ◌≤◌, ◌<◌}
 use native.Mathlib.Numerals.{add-one}
 use native.Mathlib.Omega.{arith}
 use lib.IntN.{ℤ}
@@ -12,13 +12,11 @@ use Rattle.block.specs.Address.{address_to_sample}
 use Rattle.block.specs.Context.{new_context}
 use Rattle.block.specs.Frame.{Playing, playing}
 use Rattle.block.specs.Play.{play_into}
-use Rattle.layout.specs.Sizes.{block_count}
-use Rattle.whole.specs.Frames.{frame_count}
-use Rattle.layout.proofs.SizeLaws.{frames-some, blocks-all}
+use Rattle.layout.proofs.SizeLaws.{blocks_some}
 use Rattle.whole.specs.Outcome.{Outcome, accepted, Effect, effect}
 use Rattle.whole.proofs.Stores.{spread, part-sets, part-all, part_end}
 use Rattle.image.specs.Opening.{open_answer}
-use Rattle.image.specs.Reading.{shape_in, total_in, block_in, blocks_in, coefficients_in, length_in, context_in}
+use Rattle.image.specs.Reading.{shape_in, total_in, blocks_in, coefficients_in, length_in, context_in}
 use Rattle.image.specs.inner.Asked.{Opens, Found, Playable, AllPlayable}
 use Rattle.image.specs.Bodies.{body_in}
 use Rattle.image.specs.Playing.{room_answer}
@@ -58,11 +56,7 @@ module _ (l : List ℕ) (o : Opens l) where
   block-there k h = record { opens = o; block = subst (λ (x : ℕ). k < x) o.head.blocks h }
 
   pub blocks-some : 1 ≤ blocks_in l
-  blocks-some = go (block_count (shape_in l)) o.head.blocks (blocks-all (shape_in l) o.head.limits)
-    where
-      go : (k : ℕ) → blocks_in l ≡ k → frame_count (total_in l) ≤ k * (block_in l / 8) → 1 ≤ blocks_in l
-      go zero e h = let s = frames-some (total_in l) o.head.limits.some in omega (arith, s.0, h)
-      go (suc k) e h = omega arith
+  blocks-some = let s = blocks_some (shape_in l) o.head.limits in omega (arith, s, o.head.blocks)
 
   -- a block ends within N samples
   pub block_room : (k : ℕ) → k < blocks_in l → length (samples_from l 0 k) + address_to_sample (length_in l k) ≤ total_in l

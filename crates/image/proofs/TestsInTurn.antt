@@ -16,3 +16,8 @@ first-refused a b p = ap (λ (o : Outcome Unit). and_then o b) p
 -- after an accepted one the next are asked
 pub next-asked : (a b : Outcome Unit) → a ≡ accepted tt → and_then a b ≡ b
 next-asked a b p = ap (λ (o : Outcome Unit). and_then o b) p
+
+-- after the last one nothing is asked
+pub then-nothing : (a : Outcome Unit) → and_then a (accepted tt) ≡ a
+then-nothing (accepted u) = refl
+then-nothing (refused_at n j) = refl

@@ -1,18 +1,15 @@
 -- An image without a loop opens, or does not, as it did before there were loops.
-use mathlib.Core.Path.{◌≡◌, refl, ap₂, ◌∙◌}
+use mathlib.Core.Path.{◌≡◌, ap₂, ◌∙◌}
 use mathlib.Core.Bool.{Bool, not, cond}
 use mathlib.Core.List.{List}
 use Prim.Native.Nat.{ℕ}
-use Rattle.whole.specs.Outcome.{Outcome, accepted, refused_at, refused}
+use Rattle.whole.specs.Outcome.{Outcome, accepted, refused}
 use Rattle.layout.specs.Sizes.{shape, block_count}
 use Rattle.image.specs.Reading.{total_in, block_in, loops_in}
 use Rattle.image.specs.Opening.{and_then, numbers_fit, head_ok, entries_answer, open_answer}
 use Rattle.image.specs.Unlooped.{head_before, open_before}
 use Rattle.image.proofs.LawsLoop.{fits-zero}
-
-then-nothing : (o : Outcome Unit) → and_then o (accepted tt) ≡ o
-then-nothing (accepted tt) = refl
-then-nothing (refused_at n j) = refl
+use Rattle.image.proofs.TestsInTurn.{then-nothing}
 
 head-is : (l : List ℕ) → loops_in l ≡ 0 → head_ok l ≡ head_before l
 unfolding head_ok numbers_fit head_before

@@ -3,9 +3,10 @@ use mathlib.Core.Path.{◌≡◌, sym, ap, ◌∙◌}
 use Prim.Native.Nat.{ℕ, suc, ◌+◌, ◌-◌, ◌*◌, ◌/◌, ◌%◌, ◌≤◌, ◌<◌, min}
 use native.Mathlib.Nat.{mul-le-mul, le_refl, div-lt_iff_lt-mul, le-div_iff_mul-le, suc-mul, mul_assoc, mul_comm, div-add-mod'}
 use native.Mathlib.Omega.{arith}
+use borrow.Author.Tests.{lt-ltb}
 use Rattle.std.proofs.lemmas.Grind.{div_ceil_times}
 use Rattle.layout.specs.declared.Shape.{Shape}
-use Rattle.layout.specs.Sizes.{block_count}
+use Rattle.layout.specs.Sizes.{block_count, block_length}
 use Rattle.whole.specs.Frames.{most, frame_count}
 use Rattle.layout.specs.Limits.{Limits}
 
@@ -44,6 +45,27 @@ block-first s k L h =
     let w : s.block ≡ s.block / 8 * 8 = omega (arith, L.eights) in
     let p : k * s.block ≡ k * (s.block / 8) * 8 = ap (λ (x : ℕ). k * x) w ∙ sym (mul_assoc k (s.block / 8) 8) in
     omega (arith, p, start-within s k L h)
+
+-- there is a block
+pub blocks_some : (s : Shape) → Limits s → 0 < block_count s
+unfolding block_count frame_count
+blocks_some s L =
+    let w = L.wide in
+    let n = L.some in
+    let z : 0 < s.block = omega (arith, w) in
+    (le-div_iff_mul-le {x = 1} {y = 8 * frame_count s.total + s.block - 1} z).1 (omega (arith, n, w))
+
+-- every block but the last is whole
+pub block-whole : (s : Shape) (j : ℕ) → Limits s → suc j < block_count s → block_length s j ≡ 16 * (s.block / 8)
+unfolding block_length
+block-whole s j L h =
+    let f = block-first s (suc j) L h in
+    let d = suc-mul j (s.block / 8) in
+    rw (lt-ltb (j * (s.block / 8) + s.block / 8) (frame_count s.total) (omega (arith, f, d)))
+
+-- and as long as the first
+pub first-length : (s : Shape) (j : ℕ) → Limits s → suc j < block_count s → block_length s 0 ≡ block_length s j
+first-length s j L h = block-whole s 0 L (omega arith) ∙ sym (block-whole s j L h)
 
 -- the last frame, and what is in it
 pub frames-some : (n : ℕ) → 1 ≤ n → (1 ≤ frame_count n) × (14 * (frame_count n - 1) ≤ n) × (n - 14 * (frame_count n - 1) ≤ 14)

@@ -35,28 +35,28 @@ returns-then-get32-offset c =
     let a = c.args in
     offset-wrong a.image.now a.shape a.j _ _ c.entry_place-at.ensures c.requires.1 (λ e. c.if-get32-offset.true (c.get32.ensures ∙ e))
 
-pub returns-then-get32-block_length : goal.returns-then-get32-block_length
-returns-then-get32-block_length c =
+pub returns-then-get32-nibbles : goal.returns-then-get32-nibbles
+returns-then-get32-nibbles c =
     let a = c.args in
     length-wrong a.image.now a.shape a.j _ _ c.entry_place-at.ensures c.requires.1 (sym c.get32.ensures ∙ c.if-get32-offset.false)
-    c.block_length.ensures.same (λ e. c.if-get32-block_length.true (c.get32-2.ensures ∙ e))
+    c.requires.4 (λ e. c.if-get32-nibbles.true (c.get32-2.ensures ∙ e))
 
 pub returns-then-get16-ne0 : goal.returns-then-get16-ne0
 returns-then-get16-ne0 c =
     let a = c.args in
     zeros-wrong a.image.now a.shape a.j _ _ c.entry_place-at.ensures c.requires.1 (sym c.get32.ensures ∙ c.if-get32-offset.false)
-    c.block_length.ensures.same (sym c.get32-2.ensures ∙ c.if-get32-block_length.false) (λ e. c.if-get16-ne0.true (c.get16.ensures ∙ e))
+    c.requires.4 (sym c.get32-2.ensures ∙ c.if-get32-nibbles.false) (λ e. c.if-get16-ne0.true (c.get16.ensures ∙ e))
 
 pub returns-then-told-header : goal.returns-then-told-header
 returns-then-told-header c =
     let a = c.args in
     header-wrong a.image.now a.shape a.j _ _ c.entry_place-at.ensures c.requires.1 (sym c.get32.ensures ∙ c.if-get32-offset.false)
-    c.block_length.ensures.same (sym c.get32-2.ensures ∙ c.if-get32-block_length.false) (sym c.get16.ensures ∙ c.if-get16-ne0.false)
+    c.requires.4 (sym c.get32-2.ensures ∙ c.if-get32-nibbles.false) (sym c.get16.ensures ∙ c.if-get16-ne0.false)
     (λ e. c.if-told-header.true (c.get16-told.ensures ∙ e ∙ sym c.from-header.ensures))
 
 pub returns : goal.returns
 returns c =
     let a = c.args in
     entry-fits a.image.now a.shape a.j _ _ c.entry_place-at.ensures c.requires.1 (sym c.get32.ensures ∙ c.if-get32-offset.false)
-    c.block_length.ensures.same (sym c.get32-2.ensures ∙ c.if-get32-block_length.false) (sym c.get16.ensures ∙ c.if-get16-ne0.false)
+    c.requires.4 (sym c.get32-2.ensures ∙ c.if-get32-nibbles.false) (sym c.get16.ensures ∙ c.if-get16-ne0.false)
     (sym c.get16-told.ensures ∙ c.if-told-header.false ∙ c.from-header.ensures)
